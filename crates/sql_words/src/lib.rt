@@ -1,13 +1,6 @@
-// A library with one function.
+//! The words of SQL: what a script's statement texts are, and what a text's tokens are.
 #![tactic(auto)]
 
-ghost use Rattle.std.specs.Prelude.{◌≡◌};
-ghost use Rattle.sql_words.specs.Echo.{echo_of};
+mod token;
 
-// The `ensures` clause is the contract: what `echo` returns is `echo_of` of its argument, a definition
-// in `specs/Echo.antt`, which a caller's clause can cite too.
-pub fn echo(x: usize) -> usize
-    ensures { result ≡ echo_of x }
-{
-    x
-}
+pub use token::{Back, Key, Sign, Token, TokenKind};
