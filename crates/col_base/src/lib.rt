@@ -1,13 +1,12 @@
-// A library with one function.
+//! What every crate of the store says of its calls, stated once.
+//!
+//! A fault has its cause in a count that rose; a sink or a file that tells its bytes takes a piece or a front
+//! of it; two lists are one bag; a map in code is a finite map. The laws of these words stand in `proofs/`,
+//! `pub`, and are cited from here.
 #![tactic(auto)]
 
-ghost use Rattle.std.specs.Prelude.{◌≡◌};
-ghost use Rattle.col_base.specs.Echo.{echo_of};
+mod blob;
+mod steps;
 
-// The `ensures` clause is the contract: what `echo` returns is `echo_of` of its argument, a definition
-// in `specs/Echo.antt`, which a caller's clause can cite too.
-pub fn echo(x: usize) -> usize
-    ensures { result ≡ echo_of x }
-{
-    x
-}
+pub use blob::{Blob, rest_of};
+pub use steps::Steps;

@@ -1,0 +1,4 @@
+pub mod Telling
+pub mod BagLaws
+pub mod MapLaws
+pub mod Fronts
