@@ -7,7 +7,7 @@ pub type Row = List<Value>;
 pub type WideRow = List<Wide>;
 
 /// A row with the epoch that inserted it and the epoch, if any, that deleted it.
-#[derive(Debug, Drop)]
+#[derive(Debug, Drop, PartialEq, Eq)]
 pub struct Stamped {
     pub row: Row,
     pub ins: u64,
@@ -15,14 +15,14 @@ pub struct Stamped {
 }
 
 /// A row with the epoch that inserted it, as a query sees it.
-#[derive(Debug, Drop)]
+#[derive(Debug, Drop, PartialEq, Eq)]
 pub struct Asked {
     pub row: Row,
     pub ins: u64,
 }
 
 /// A value and how many neighbours have it.
-#[derive(Debug, Drop)]
+#[derive(Debug, Drop, PartialEq, Eq)]
 pub struct Run {
     pub value: Value,
     pub count: usize,
