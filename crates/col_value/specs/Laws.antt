@@ -5,10 +5,11 @@ use Rattle.std.specs.Cmp.{IsTotalOrder}
 use Rattle.std.specs.Cmp.Lexicographic.{slice_cmp}
 use Rattle.std.specs.declared.cmp.Ordering.{Ordering}
 use Rattle.std.specs.declared.cmp.Ordering.TheVariants.{Less, Equal, Greater}
-use Rattle.std.specs.Ordering.{bool_cmp, int_cmp, nat_cmp, ordering_then}
+use Rattle.std.specs.Ordering.{bool_cmp, int_cmp, nat_cmp, eq_by_cmp, is_eq, ordering_then}
 use Rattle.std.specs.FinMap.{IsAntisymmetric, int_cmp-IsAntisymmetric, nat_cmp-IsAntisymmetric, slice_cmp-IsAntisymmetric}
 use Rattle.std.specs.Cmp.{then_total, on_total, nat_cmp_total, int_cmp_total, bool_cmp_total}
 use Rattle.std.specs.Cmp.Lexicographic.{lists_total}
+use Rattle.col_value.specs.Hashes.{value_fed, wide_fed}
 use Rattle.col_value.specs.Order.{wide_kind, wide_flag, wide_number, wide_bytes, wide_cmp, value_cmp, row_cmp, wide_row_cmp, widened}
 use Rattle.col_value.specs.declared.value.Value.{Value}
 use Rattle.col_value.specs.declared.value.Value.TheVariants as value
@@ -82,6 +83,12 @@ widened_exact (value.Text x) (value.Bool y) e = cc
 widened_exact (value.Text x) (value.Int y) e = cc
 widened_exact (value.Text x) (value.Text y) e = cc
 
+-- a test of a tie tells that two values are equal
+pub tie_told : (o : Ordering) → is_eq o ≡ true → o ≡ Equal
+tie_told Less e = cc
+tie_told Equal e = refl
+tie_told Greater e = cc
+
 pub value_exact : IsAntisymmetric value_cmp
 value_exact a b e = widened_exact a b (wide_exact (widened a) (widened b) e)
 
@@ -90,3 +97,9 @@ row_exact = slice_cmp-IsAntisymmetric value_exact
 
 pub wide_row_exact : IsAntisymmetric wide_row_cmp
 wide_row_exact = slice_cmp-IsAntisymmetric wide_exact
+
+pub value_fed_alike : (a b : Value) → eq_by_cmp value_cmp a b ≡ true → value_fed a ≡ value_fed b
+value_fed_alike a b e = ap value_fed (value_exact a b (tie_told (value_cmp a b) e))
+
+pub wide_fed_alike : (a b : Wide) → eq_by_cmp wide_cmp a b ≡ true → wide_fed a ≡ wide_fed b
+wide_fed_alike a b e = ap wide_fed (wide_exact a b (tie_told (wide_cmp a b) e))

@@ -1,5 +1,5 @@
 -- What a value of a table may be, how it widens, and the order of values and of rows.
-use Rattle.std.specs.Prelude.{ℕ, ℤ, pos, negsuc, ◌≤ℤ◌, ◌≤◌, ◌-◌, ◌^◌, Bool, false, List, [], map, length}
+use Rattle.std.specs.Prelude.{ℕ, slice_index_or, ℤ, pos, negsuc, ◌≤ℤ◌, ◌≤◌, ◌-◌, ◌^◌, Bool, false, List, [], map, length}
 use Rattle.std.specs.List.{All}
 use Rattle.std.specs.Cmp.Lexicographic.{slice_cmp}
 use Rattle.std.specs.declared.cmp.Ordering.{Ordering}
@@ -70,3 +70,7 @@ row_cmp = slice_cmp value_cmp
 
 abbrev pub wide_row_cmp : List Wide → List Wide → Ordering
 wide_row_cmp = slice_cmp wide_cmp
+
+-- the values of the row at these ordinals, in their order
+abbrev pub projected : List Value → List ℕ → List Value
+projected row columns = map (λ c. slice_index_or row c value.Null) columns

@@ -18,7 +18,7 @@ pub use boxed::Boxed;
 pub use kinds::{ColType, Encoding};
 pub use list::List;
 pub use name::Name;
-pub use row::{Asked, Row, Run, Stamped, WideRow};
+pub use row::{Asked, Row, Run, Stamped, WideRow, sort_wide_rows};
 pub use text::Text;
 pub use value::Value;
 pub use wide::Wide;

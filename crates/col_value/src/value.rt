@@ -1,12 +1,14 @@
 ghost use Rattle.std.specs.Prelude.{◌≡◌, ◌↔◌, ◌++◌, ◌∷◌, [], IsTrue, IfOk, refl};
 ghost use Rattle.std.specs.Cmp.{partial_equiv_from_equiv, eq_by_cmp_equiv, partial_order_from_total};
 ghost use Rattle.std.specs.Ordering.{eq_by_cmp, as_partial_cmp};
-ghost use Rattle.col_value.specs.Laws.{value_total};
+ghost use Rattle.col_value.specs.Hashes.{value_fed};
+ghost use Rattle.col_value.specs.Laws.{value_fed_alike, value_total};
 ghost use Rattle.col_value.specs.Order.{value_cmp, widened, wide_kind};
 
 use crate::{Text, Wide};
 use std::alloc::{AllocError, Global};
 use std::cmp::Ordering;
+use std::hash::{Hash, Hasher};
 
 /// A value of a table. No `Int` is -2^63, and no `Text` has more than 65,000 bytes.
 #[derive(Debug, Drop)]
@@ -115,5 +117,21 @@ impl Ord for Value {
 
     fn cmp(&self, other: &Self) -> Ordering {
         self.order(other)
+    }
+}
+
+impl Hash for Value {
+    ghost hash_input = { value_fed };
+
+    ghost respects_eq = { value_fed_alike };
+
+    fn hash<H: Hasher>(&self, state: &mut H) {
+        self.kind().hash(state);
+        match self {
+            Value::Null => {}
+            Value::Bool(b) => b.hash(state),
+            Value::Int(n) => n.hash(state),
+            Value::Text(t) => t.as_bytes().hash(state),
+        }
     }
 }

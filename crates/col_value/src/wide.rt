@@ -1,12 +1,14 @@
 ghost use Rattle.std.specs.Prelude.{◌≡◌, ◌↔◌, ◌++◌, ◌∷◌, [], IsTrue, IfOk, refl};
 ghost use Rattle.std.specs.Cmp.{partial_equiv_from_equiv, eq_by_cmp_equiv, partial_order_from_total};
 ghost use Rattle.std.specs.Ordering.{eq_by_cmp, as_partial_cmp};
-ghost use Rattle.col_value.specs.Laws.{wide_total};
+ghost use Rattle.col_value.specs.Hashes.{wide_fed};
+ghost use Rattle.col_value.specs.Laws.{wide_fed_alike, wide_total};
 ghost use Rattle.col_value.specs.Order.{wide_cmp, wide_kind};
 
 use crate::Text;
 use std::alloc::{AllocError, Global};
 use std::cmp::Ordering;
+use std::hash::{Hash, Hasher};
 
 /// A value of a result, whose numbers are twice as wide as those of a table.
 #[derive(Debug, Drop)]
@@ -103,5 +105,21 @@ impl Ord for Wide {
 
     fn cmp(&self, other: &Self) -> Ordering {
         self.order(other)
+    }
+}
+
+impl Hash for Wide {
+    ghost hash_input = { wide_fed };
+
+    ghost respects_eq = { wide_fed_alike };
+
+    fn hash<H: Hasher>(&self, state: &mut H) {
+        self.kind().hash(state);
+        match self {
+            Wide::Null => {}
+            Wide::Bool(b) => b.hash(state),
+            Wide::Int(n) => n.hash(state),
+            Wide::Text(t) => t.as_bytes().hash(state),
+        }
     }
 }
