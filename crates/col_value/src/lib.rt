@@ -6,15 +6,19 @@
 #![tactic(auto)]
 
 mod boxed;
+mod kinds;
 mod list;
 mod name;
 mod row;
 mod text;
 mod value;
+mod wide;
 
 pub use boxed::Boxed;
+pub use kinds::{ColType, Encoding};
 pub use list::List;
 pub use name::Name;
-pub use row::{Asked, Row, Run, Stamped, WideRow};
+pub use row::{Asked, Row, Run, Stamped, WideRow, sort_wide_rows};
 pub use text::Text;
-pub use value::{ColType, Encoding, Value, Wide};
+pub use value::Value;
+pub use wide::Wide;
