@@ -1,6 +1,10 @@
 //! The words of SQL: what a script's statement texts are, and what a text's tokens are.
 #![tactic(auto)]
 
+mod piece;
+mod reserved;
 mod token;
 
+pub use piece::Piece;
+pub use reserved::RESERVED;
 pub use token::{Back, Key, Sign, Token, TokenKind};

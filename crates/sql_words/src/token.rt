@@ -85,7 +85,7 @@ pub enum Sign {
     AtLeast,
 }
 
-/// A command to the program itself: `\\session` or `\\step`.
+/// A command to the program itself: `\session` or `\step`.
 #[derive(Clone, Copy, Debug, PartialEq, Eq)]
 pub enum Back {
     Session,

@@ -1,0 +1,49 @@
+-- Kinds of bytes, and the runs that a text is made of.
+use Rattle.std.specs.Prelude.{ℕ, ◌+◌, ◌-◌, ◌*◌, ◌==◌, ◌&&◌, ◌||◌, not, if◌then◌else◌, Bool, true, false, List, [], ◌∷◌, Option, Some, None, length, slice_index, option_map, fold, bytes_eq, take}
+use Rattle.std.specs.List.{prefix_len}
+use Rattle.std.specs.Char.{is_ascii_alphabetic, is_ascii_alphanumeric}
+
+-- tab, LF, CR and the space
+abbrev pub is_space : ℕ → Bool
+is_space b = ((b == 32) || (b == 10)) || ((b == 9) || (b == 13))
+
+-- a letter or `_`: what begins a word
+abbrev pub begins_word : ℕ → Bool
+begins_word b = is_ascii_alphabetic b || (b == 95)
+
+-- a letter, a digit or `_`: what a word goes on with
+abbrev pub is_of_word : ℕ → Bool
+is_of_word b = is_ascii_alphanumeric b || (b == 95)
+
+-- two dashes stand at the front
+abbrev pub begins_comment : List ℕ → Bool
+begins_comment text = (slice_index text 0 == 45) && (slice_index text 1 == 45)
+
+-- how many bytes stand before the first LF, or all where there is none
+abbrev pub line_size : List ℕ → ℕ
+line_size text = prefix_len (λ b. not (b == 10)) text
+
+-- behind a quote that begins a text: how many bytes stand before the quote that ends it, None where none does.
+-- Two quotes in a row are a quote of the text, and don't end it.
+abbrev pub inner_size : List ℕ → Option ℕ
+inner_size [] = None
+inner_size (b ∷ []) = if b == 39 then Some 0 else None
+inner_size (b ∷ (c ∷ rest)) = if b == 39 then (if c == 39 then option_map (λ n. n + 2) (inner_size rest) else Some 0) else option_map (λ n. n + 1) (inner_size (c ∷ rest))
+
+-- what a text says: of two quotes in a row the second is left out (`skip`: the byte is the second of two)
+abbrev pub unquoted_behind : Bool → List ℕ → List ℕ
+unquoted_behind skip [] = []
+unquoted_behind true (b ∷ rest) = unquoted_behind false rest
+unquoted_behind false (b ∷ rest) = b ∷ unquoted_behind (b == 39) rest
+
+-- what a text between its two quotes says, `''` read as one quote
+abbrev pub unquoted : List ℕ → List ℕ
+unquoted inner = unquoted_behind false inner
+
+-- the number that digits spell
+abbrev pub value_of : List ℕ → ℕ
+value_of digits = fold (λ n d. 10 * n + (d - 48)) 0 digits
+
+-- these letters stand at the front
+abbrev pub stands_at : List ℕ → List ℕ → Bool
+stands_at word text = bytes_eq (take (length word) text) word

@@ -1,0 +1,112 @@
+-- The tokens of a text.
+use Rattle.std.specs.Prelude.{ℕ, zero, suc, pred, ◌+◌, ◌^◌, ◌==◌, ◌&&◌, if◌then◌else◌, nat_lt, List, [], ◌∷◌, ◌++◌, map, length, take, drop, slice_index, Option, Some, None, option_map, option_to_list, pos, bytes_eq, find, take_while, codes}
+use Rattle.std.specs.Char.{is_ascii_digit, to_ascii_lowercase}
+use Rattle.std.specs.Str.{is_utf8}
+use Rattle.sql_words.specs.declared.token.Key.{Key}
+use Rattle.sql_words.specs.declared.token.Sign.{Sign}
+use Rattle.sql_words.specs.declared.token.Back.{Back}
+use Rattle.sql_words.specs.declared.token.Token.{Token}
+use Rattle.sql_words.specs.declared.token.TokenKind.{TokenKind}
+use Rattle.sql_words.specs.declared.piece.Piece.{Piece}
+use Rattle.sql_words.specs.declared.reserved.TheConstants.{RESERVED}
+use Rattle.sql_words.specs.Bytes.{is_space, begins_word, is_of_word, begins_comment, line_size, inner_size, value_of, stands_at}
+
+-- the keyword of a table that is spelled so
+unfoldable pub key_in : List (List ℕ × Key) → List ℕ → Option Key
+key_in table word = option_map (λ e. e.1) (find (λ e. bytes_eq e.0 word) table)
+
+-- the keyword that a word is, without regard to ASCII case; None where it is a name
+unfoldable pub key_of : List ℕ → Option Key
+key_of word = key_in (map (λ e. (e.0.now, e.1)) RESERVED) (map to_ascii_lowercase word)
+
+-- what begins no token: it goes on to the end
+abbrev pub bad_piece : List ℕ → Piece
+bad_piece text = record { kind = Some TokenKind.Bad; size = length text }
+
+-- a word, as long as possible
+abbrev pub word_piece : List ℕ → Piece
+word_piece text = let word = take_while is_of_word text in record { kind = Some (TokenKind.Word (key_of word)); size = length word }
+
+-- a number, as long as possible, at most 2^127 - 1
+abbrev pub number_piece : List ℕ → Piece
+number_piece text =
+    let digits = take_while is_ascii_digit text in
+    if nat_lt (value_of digits) (2 ^ 127) then record { kind = Some (TokenKind.Int (pos (value_of digits))); size = length digits } else bad_piece text
+
+-- the text between the first quote and the one that ends it, where its bytes are UTF-8
+abbrev pub text_of_size : List ℕ → Option ℕ → Piece
+text_of_size text None = bad_piece text
+text_of_size text (Some n) = if is_utf8 (take n (drop 1 text)) then record { kind = Some TokenKind.Text; size = n + 2 } else bad_piece text
+
+abbrev pub text_piece : List ℕ → Piece
+text_piece text = text_of_size text (inner_size (drop 1 text))
+
+-- a command, in lower case
+abbrev pub command_piece : List ℕ → Piece
+command_piece text =
+    if stands_at (codes "\\session") text then record { kind = Some (TokenKind.Back Back.Session); size = 8 }
+    else (if stands_at (codes "\\step") text then record { kind = Some (TokenKind.Back Back.Step); size = 5 } else bad_piece text)
+
+-- the sign that two bytes spell
+abbrev pub long_sign : ℕ → ℕ → Option Sign
+long_sign a b =
+    if (a == 60) && (b == 62) then Some Sign.NotEqual
+    else (if (a == 33) && (b == 61) then Some Sign.NotEqual
+    else (if (a == 60) && (b == 61) then Some Sign.AtMost
+    else (if (a == 62) && (b == 61) then Some Sign.AtLeast else None)))
+
+-- the sign that one byte spells
+abbrev pub short_sign : ℕ → Option Sign
+short_sign a =
+    if a == 40 then Some Sign.Open
+    else (if a == 41 then Some Sign.Close
+    else (if a == 44 then Some Sign.Comma
+    else (if a == 46 then Some Sign.Dot
+    else (if a == 42 then Some Sign.Star
+    else (if a == 43 then Some Sign.Plus
+    else (if a == 45 then Some Sign.Minus
+    else (if a == 61 then Some Sign.Equal
+    else (if a == 60 then Some Sign.Less
+    else (if a == 62 then Some Sign.Greater else None)))))))))
+
+-- a sign of one byte, where there is one
+abbrev pub short_sign_piece : List ℕ → Option Sign → Piece
+short_sign_piece text None = bad_piece text
+short_sign_piece text (Some sign) = record { kind = Some (TokenKind.Sign sign); size = 1 }
+
+-- the longest sign that fits
+abbrev pub sign_piece_of : List ℕ → Option Sign → Piece
+sign_piece_of text None = short_sign_piece text (short_sign (slice_index text 0))
+sign_piece_of text (Some sign) = record { kind = Some (TokenKind.Sign sign); size = 2 }
+
+abbrev pub sign_piece : List ℕ → Piece
+sign_piece text = sign_piece_of text (long_sign (slice_index text 0) (slice_index text 1))
+
+-- a space or a comment
+abbrev pub gap : ℕ → Piece
+gap size = record { kind = None; size = size }
+
+-- what stands at the front of a text that isn't empty
+unfoldable pub piece_of : List ℕ → Piece
+piece_of text =
+    let b = slice_index text 0 in
+    if is_space b then gap 1
+    else (if begins_comment text then gap (line_size text)
+    else (if begins_word b then word_piece text
+    else (if is_ascii_digit b then number_piece text
+    else (if b == 39 then text_piece text
+    else (if b == 92 then command_piece text else sign_piece text)))))
+
+-- a piece that stands at a place of a text, as a token; a space or a comment is none
+abbrev pub placed : Piece → ℕ → List Token
+placed piece at = option_to_list (option_map (λ k. record { kind = k; start = at; end = at + piece.size }) piece.kind)
+
+-- the tokens of the bytes that stand at a place of a text, behind those that a piece before them takes
+abbrev pub tokens_behind : ℕ → ℕ → List ℕ → List Token
+tokens_behind skip at [] = []
+tokens_behind zero at (b ∷ rest) = placed (piece_of (b ∷ rest)) at ++ tokens_behind (pred (piece_of (b ∷ rest)).size) (at + 1) rest
+tokens_behind (suc skip) at (b ∷ rest) = tokens_behind skip (at + 1) rest
+
+-- the tokens of a text, in order, each with its place
+abbrev pub tokens_of : List ℕ → List Token
+tokens_of text = tokens_behind 0 0 text
