@@ -5,10 +5,12 @@
 #![tactic(auto)]
 
 mod query;
+mod refusal;
 mod statement;
 mod tree;
 
 pub use query::{At, Item, Items, KeyRef, Query, SortKey, Source};
+pub use refusal::{Refusal, Which};
 pub use statement::{
     Delete, Function, Insert, NewColumn, NewPart, NewProjection, Setting, Statement, Update,
 };
