@@ -47,3 +47,7 @@ row_text row = fields_text (map wide_text row) ++ 10 ∷ []
 -- these bytes begin with that front
 abbrev pub BeginsWith : List ℕ → List ℕ → Type 0
 BeginsWith bytes front = take (length front) bytes ≡ front
+
+-- a further field, behind its bar
+abbrev pub bar_and : Wide → List ℕ
+bar_and w = 124 ∷ field_text (wide_text w)
