@@ -9,6 +9,7 @@ mod boxed;
 mod kinds;
 mod list;
 mod name;
+mod print;
 mod row;
 mod text;
 mod value;
