@@ -6,5 +6,6 @@
 #![tactic(auto)]
 
 mod forms;
+mod lists;
 mod table;
 
