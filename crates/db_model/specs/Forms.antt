@@ -14,7 +14,7 @@ use Rattle.sql_tree.specs.declared.query.Source.{Source}
 use Rattle.sql_tree.specs.declared.query.Query.{Query}
 use Rattle.sql_tree.specs.declared.tree.Tree.{Tree}
 use Rattle.sql_tree.specs.declared.tree.ColRef.{ColRef}
-use Rattle.db_model.specs.Database.{Table, Database, table_named, is_taken, super_name}
+use Rattle.db_model.specs.Database.{Table, table_named, is_taken, super_name}
 use Rattle.db_model.specs.State.{State, is_empty}
 
 -- a number that a column holds: from -2^63 + 1 to 2^63 - 1
@@ -94,14 +94,14 @@ is_served_epoch At.Latest = false
 is_served_epoch (At.Epoch n) = nat_lt n 9223372036854775808
 
 -- A new table of one column of numbers, whose name and whose name with `_super` are free, below 1,024 tables.
-abbrev pub may_create : Database → List ℕ → List NewColumn → Bool
-may_create d name columns =
+abbrev pub may_create : List Table → List ℕ → List NewColumn → Bool
+may_create tables name columns =
     is_name_size name && (is_one_integer columns
-    && (not (is_taken name d.tables) && (not (is_taken (super_name name) d.tables) && nat_lt (length d.tables) 1024)))
+    && (not (is_taken name tables) && (not (is_taken (super_name name) tables) && nat_lt (length tables) 1024)))
 
 -- A statement is in form over a state where it is of one of five forms, and what it names is there.
 abbrev pub is_in_form : State → Statement → Bool
-is_in_form state (Statement.CreateTable name columns) = may_create state.database name columns
+is_in_form state (Statement.CreateTable name columns) = may_create state.database.tables name columns
 is_in_form state (Statement.Insert i) = is_some (table_named i.table state.database.tables) && list_all is_number_row i.rows
 is_in_form state Statement.Commit = true
 is_in_form state (Statement.Select at q) = is_served_epoch at && is_some (plain_place q state.database.tables)

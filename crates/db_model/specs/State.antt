@@ -51,10 +51,14 @@ abbrev pub pending_deletes : List ℕ → List Changes → List Asked
 pending_deletes name [] = []
 pending_deletes name (c ∷ changes) = if bytes_eq c.table name then c.deletes else pending_deletes name changes
 
+-- changes of a table, with these rows more
+abbrev pub joined : Changes → List (List Value) → Changes
+joined c rows = record c { rows = c.rows ++ rows }
+
 -- rows join the pending rows of a table
 abbrev pub with_rows : List ℕ → List (List Value) → List Changes → List Changes
 with_rows name rows [] = record { table = name; exclusive = false; rows = rows; deletes = [] } ∷ []
-with_rows name rows (c ∷ changes) = if bytes_eq c.table name then (record c { rows = c.rows ++ rows }) ∷ changes else c ∷ with_rows name rows changes
+with_rows name rows (c ∷ changes) = if bytes_eq c.table name then joined c rows ∷ changes else c ∷ with_rows name rows changes
 
 abbrev pub is_empty : {X : Type 0} → List X → Bool
 is_empty [] = true

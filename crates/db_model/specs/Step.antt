@@ -1,5 +1,5 @@
 -- One statement: what it is, whether it is refused, what it prints and what it leaves.
-use Rattle.std.specs.Prelude.{ℕ, ◌≡◌, ◌==◌, ◌&&◌, ◌+◌, ◌++◌, if◌then◌else◌, nat_lt, Bool, true, false, List, [], ◌∷◌, map, length, Option, Some, None, codes}
+use Rattle.std.specs.Prelude.{ℕ, ◌≡◌, ◌==◌, ◌&&◌, ◌+◌, ◌++◌, if◌then◌else◌, nat_lt, nat_le, Bool, true, false, List, [], ◌∷◌, map, length, Option, Some, None, codes}
 use Rattle.std.specs.List.{enumerate_from}
 use Rattle.col_value.specs.declared.value.Value.{Value}
 use Rattle.col_value.specs.declared.wide.Wide.{Wide}
@@ -30,7 +30,7 @@ future_refusal (At.Epoch n) last = if nat_lt last n then Some (Refusal.EpochInFu
 
 -- the greatest epoch is closed, and there is something to commit
 abbrev pub spent_refusal : Bool → ℕ → Option Refusal
-spent_refusal changed last = if changed && (last == 9223372036854775807) then Some Refusal.EpochsSpent else None
+spent_refusal changed last = if changed && nat_le 9223372036854775807 last then Some Refusal.EpochsSpent else None
 
 -- why a statement in form is refused
 abbrev pub served_refusal : State → Statement → Option Refusal

@@ -5,7 +5,14 @@
 //! the state that it leaves.
 #![tactic(auto)]
 
+mod answering;
 mod forms;
+mod listing;
 mod lists;
+mod refusing;
+mod store;
 mod table;
+
+pub use answering::Answer;
+pub use store::PlainStore;
 

@@ -1,4 +1,4 @@
-use col_value::{List, Name, Stamped};
+use col_value::{List, Name, Row, Stamped};
 use sql_tree::NewColumn;
 
 /// A table as one list of rows, with the name of its one projection and the epoch at which it was made.
@@ -11,9 +11,9 @@ pub struct Table {
     pub born: u64,
 }
 
-/// The rows of a table that wait for COMMIT. Their epochs are set there.
+/// The rows of a table that wait for COMMIT.
 #[derive(Debug, Drop)]
 pub struct Pending {
     pub table: Name,
-    pub rows: Vec<Stamped>,
+    pub rows: Vec<Row>,
 }
