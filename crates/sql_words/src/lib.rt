@@ -1,6 +1,7 @@
 //! The words of SQL: what a script's statement texts are, and what a text's tokens are.
 #![tactic(auto)]
 
+mod bytes;
 mod piece;
 mod reserved;
 mod token;
