@@ -1,3 +1,4 @@
 pub mod Numbers
 pub mod Quotes
+pub mod Tokens
 pub mod Utf8

@@ -1,5 +1,5 @@
 -- The tokens of a text.
-use Rattle.std.specs.Prelude.{ℕ, zero, suc, pred, ◌+◌, ◌^◌, ◌==◌, ◌&&◌, if◌then◌else◌, nat_lt, List, [], ◌∷◌, ◌++◌, map, length, take, drop, slice_index, Option, Some, None, option_map, option_to_list, pos, ℤ, find, take_while, codes}
+use Rattle.std.specs.Prelude.{ℕ, zero, suc, pred, ◌+◌, ◌^◌, ◌<◌, ◌≤◌, ◌==◌, ◌&&◌, if◌then◌else◌, nat_lt, List, [], ◌∷◌, ◌++◌, map, length, take, drop, slice_index, Option, Some, None, option_map, option_to_list, pos, ℤ, find, take_while, codes}
 use Rattle.std.specs.List.{prefix_len}
 use Rattle.std.specs.Char.{is_ascii_digit}
 use Rattle.std.specs.Str.{is_utf8, str_eq_ignore_ascii_case}
@@ -117,3 +117,12 @@ tokens_behind (suc skip) at (b ∷ rest) = tokens_behind skip (at + 1) rest
 -- the tokens of a text, in order, each with its place
 abbrev pub tokens_of : List ℕ → List Token
 tokens_of text = tokens_behind 0 0 text
+
+-- the token has a byte, and ends within the first n
+abbrev pub IsWithin : ℕ → Token → Type 0
+IsWithin n token = (token.start < token.end) × (token.end ≤ n)
+
+-- tokens stand one behind the other between two places: each has a byte, and ends before the next begins
+abbrev pub AreInOrder : ℕ → ℕ → List Token → Type 0
+AreInOrder from to [] = from ≤ to
+AreInOrder from to (token ∷ more) = (from ≤ token.start) × (token.start < token.end) × AreInOrder token.end to more

@@ -2,10 +2,12 @@
 #![tactic(auto)]
 
 mod bytes;
+mod lexer;
 mod piece;
 mod reserved;
 mod token;
 
+pub use lexer::words;
 pub use piece::Piece;
 pub use reserved::RESERVED;
 pub use token::{Back, Key, Sign, Token, TokenKind};
