@@ -1,3 +1,4 @@
+pub mod Ends
 pub mod Numbers
 pub mod Quotes
 pub mod Tokens

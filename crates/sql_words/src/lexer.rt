@@ -4,11 +4,10 @@
 ghost use Rattle.std.specs.Prelude.{◌≡◌, ◌+◌, ◌<◌, ◌^◌, ◌++◌, length, All, IfOk, OnOk};
 ghost use Rattle.sql_words.specs.Words.{placed, tokens_of, IsWithin, AreInOrder};
 
-use std::alloc::{AllocError, Global};
-
 use crate::bytes::behind;
 use crate::piece::{Piece, piece_at};
 use crate::token::Token;
+use std::alloc::{AllocError, Global};
 
 /// The tokens of a text, in order, each with its kind and the bytes that it stands on.
 ///
@@ -42,7 +41,11 @@ fn push_placed(found: &mut Vec<Token>, piece: &Piece, at: usize) -> Result<(), A
     ensures { OnOk result (found.new.items ≡ found.old.items ++ placed piece.now at) }
 {
     if let Some(kind) = piece.kind {
-        found.push(Token { kind, start: at, end: at + piece.size })?;
+        found.push(Token {
+            kind,
+            start: at,
+            end: at + piece.size,
+        })?;
     }
     Ok(())
 }

@@ -7,7 +7,9 @@ ghost use Rattle.std.specs.Char.{is_ascii_digit};
 ghost use Rattle.sql_words.specs.Bytes.{begins_word, stands_at};
 ghost use Rattle.sql_words.specs.Words.{bad_piece, word_piece, number_of, number_piece, text_piece, command_piece, long_sign, short_sign, sign_piece, piece_of};
 
-use crate::bytes::{begins_comment, begins_word, behind, digits_size, inner_size, is_space, line_size, word_size};
+use crate::bytes::{
+    begins_comment, begins_word, behind, digits_size, inner_size, is_space, line_size, word_size,
+};
 use crate::reserved::key_of;
 use crate::token::{Back, Sign, TokenKind};
 
@@ -28,9 +30,15 @@ pub fn piece_at(text: &[u8]) -> Piece
 {
     let first = text[0];
     if is_space(first) {
-        Piece { kind: None, size: 1 }
+        Piece {
+            kind: None,
+            size: 1,
+        }
     } else if begins_comment(text) {
-        Piece { kind: None, size: line_size(text) }
+        Piece {
+            kind: None,
+            size: line_size(text),
+        }
     } else if begins_word(first) {
         word_piece(text)
     } else if first.is_ascii_digit() {
@@ -48,7 +56,10 @@ pub fn piece_at(text: &[u8]) -> Piece
 fn bad_piece(text: &[u8]) -> Piece
     ensures { result ≡ bad_piece text.now }
 {
-    Piece { kind: Some(TokenKind::Bad), size: text.len() }
+    Piece {
+        kind: Some(TokenKind::Bad),
+        size: text.len(),
+    }
 }
 
 fn word_piece(text: &[u8]) -> Piece
@@ -58,7 +69,10 @@ fn word_piece(text: &[u8]) -> Piece
     ensures within { result.size ≤ length text.now }
 {
     let size = word_size(text);
-    Piece { kind: Some(TokenKind::Word(key_of(&text[..size]))), size }
+    Piece {
+        kind: Some(TokenKind::Word(key_of(&text[..size]))),
+        size,
+    }
 }
 
 /// A tenth of 2^127, rounded down.
@@ -93,7 +107,10 @@ fn number_piece(text: &[u8]) -> Piece
 {
     let size = digits_size(text);
     match number_of(&text[..size]) {
-        Some(n) => Piece { kind: Some(TokenKind::Int(n)), size },
+        Some(n) => Piece {
+            kind: Some(TokenKind::Int(n)),
+            size,
+        },
         None => bad_piece(text),
     }
 }
@@ -119,7 +136,10 @@ fn text_piece(text: &[u8]) -> Piece
         None => bad_piece(text),
         Some(size) => {
             if is_utf8(&inner[..size]) {
-                Piece { kind: Some(TokenKind::Text), size: size + 2 }
+                Piece {
+                    kind: Some(TokenKind::Text),
+                    size: size + 2,
+                }
             } else {
                 bad_piece(text)
             }
@@ -142,9 +162,15 @@ fn command_piece(text: &[u8]) -> Piece
     ensures within { result.size ≤ length text.now }
 {
     if stands_at(b"\\session", text) {
-        Piece { kind: Some(TokenKind::Back(Back::Session)), size: 8 }
+        Piece {
+            kind: Some(TokenKind::Back(Back::Session)),
+            size: 8,
+        }
     } else if stands_at(b"\\step", text) {
-        Piece { kind: Some(TokenKind::Back(Back::Step)), size: 5 }
+        Piece {
+            kind: Some(TokenKind::Back(Back::Step)),
+            size: 5,
+        }
     } else {
         bad_piece(text)
     }
@@ -190,11 +216,17 @@ fn sign_piece(text: &[u8]) -> Piece
 {
     if text.len() > 1 {
         if let Some(sign) = long_sign(text[0], text[1]) {
-            return Piece { kind: Some(TokenKind::Sign(sign)), size: 2 };
+            return Piece {
+                kind: Some(TokenKind::Sign(sign)),
+                size: 2,
+            };
         }
     }
     match short_sign(text[0]) {
-        Some(sign) => Piece { kind: Some(TokenKind::Sign(sign)), size: 1 },
+        Some(sign) => Piece {
+            kind: Some(TokenKind::Sign(sign)),
+            size: 1,
+        },
         None => bad_piece(text),
     }
 }

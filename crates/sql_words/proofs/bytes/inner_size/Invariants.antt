@@ -1,4 +1,4 @@
-use Rattle.std.proofs.Common.{◌≡◌, ◌+◌, ◌-◌, ◌≤◌, drop, length}
+use Rattle.std.proofs.Common.{◌≡◌, ◌-◌, ◌≤◌, drop, length}
 use Rattle.sql_words.specs.Bytes.{closing_quote}
 use Rattle.sql_words.proofs.bytes.inner_size.Given as goal
 
