@@ -1,4 +1,5 @@
 pub mod Ends
+pub mod Joined
 pub mod Numbers
 pub mod Quotes
 pub mod Tokens

@@ -2,6 +2,7 @@
 #![tactic(auto)]
 
 mod bytes;
+mod laws;
 mod lexer;
 mod piece;
 mod reserved;
@@ -9,6 +10,7 @@ mod script;
 mod spelled;
 mod token;
 
+pub use laws::joined_texts_split_back;
 pub use lexer::words;
 pub use piece::Piece;
 pub use reserved::RESERVED;
