@@ -17,3 +17,6 @@ pub use reserved::RESERVED;
 pub use script::split;
 pub use spelled::{name_bytes, text_bytes};
 pub use token::{Back, Key, Sign, Token, TokenKind};
+
+#[cfg(test)]
+mod tests;
