@@ -1,0 +1,6 @@
+pub mod Ends
+pub mod Joined
+pub mod Numbers
+pub mod Quotes
+pub mod Tokens
+pub mod Utf8
