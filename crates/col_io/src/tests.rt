@@ -60,7 +60,7 @@ fn files_in_memory(rt: HostRuntime) -> Result<(), Fail> {
     Ok(())
 }
 
-// `script.sql` lies where the tests run, with 24 bytes.
+// A file, a folder and names that are not there, in the folder where the test runs.
 #[test]
 fn files_of_the_machine(rt: HostRuntime) -> Result<(), Fail> {
     let alloc = rt.alloc();
