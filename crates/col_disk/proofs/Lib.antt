@@ -1,1 +1,2 @@
 pub mod Moving
+mod Listing

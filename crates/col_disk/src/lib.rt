@@ -8,8 +8,11 @@
 #![tactic(auto)]
 
 mod disk;
+mod held;
+mod memory;
 mod whole;
 
 pub use col_base::Blob;
 pub use disk::{Disk, DiskFault, StoreFault};
+pub use memory::MemDisk;
 pub use whole::read_whole;
