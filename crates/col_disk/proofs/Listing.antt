@@ -23,7 +23,7 @@ pub listed : (es : List (ℕ × List ℕ)) → IsStrictlySortedBy nat_cmp (keys_
 listed es sorted has = record {
   rising = IsStrictlyIncreasing-from_sorted (keys_of es) sorted;
   there = λ q.
-    let found : is_some (get (from_entries {R = nat_cmp} es) q) ≡ is_member (eq_by_cmp nat_cmp) (keys_of es) q = ap is_some (get_lookup nat_cmp_total es q) ∙ has q in
-    let decides = is_member-Decides same_key (keys_of es) q in
-    (λ is. found ∙ decides.1 is, λ some. decides.0 (sym found ∙ some));
+      let found : is_some (get (from_entries {R = nat_cmp} es) q) ≡ is_member (eq_by_cmp nat_cmp) (keys_of es) q = ap is_some (get_lookup nat_cmp_total es q) ∙ has q in
+      let decides = is_member-Decides same_key (keys_of es) q in
+      (λ is. found ∙ decides.1 is, λ some. decides.0 (sym found ∙ some));
 }

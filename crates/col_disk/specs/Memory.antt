@@ -19,8 +19,8 @@ pub record Memory : Type 0 where
 abbrev pub memory_code : Coded Memory
 memory_code =
     code_by (Contents × (ℕ × (List ℕ × (Option ℕ × ℕ)))) (coded× (code coded_ℕ (coded_list coded_ℕ)) (coded× coded_ℕ (coded× (coded_list coded_ℕ) (coded× (coded_option coded_ℕ) coded_ℕ))))
-        (λ m. (m.contents, (m.calls, (m.failing, (m.failing_from, m.faults)))))
-        (λ p. record { contents = p.0; calls = p.1.0; failing = p.1.1.0; failing_from = p.1.1.1.0; faults = p.1.1.1.1 }) (λ _. refl)
+    (λ m. (m.contents, (m.calls, (m.failing, (m.failing_from, m.faults)))))
+    (λ p. record { contents = p.0; calls = p.1.0; failing = p.1.1.0; failing_from = p.1.1.1.0; faults = p.1.1.1.1 }) (λ _. refl)
 
 -- no name, no call, no fault
 abbrev pub blank : Memory

@@ -1,15 +1,34 @@
 ghost use Rattle.std.specs.Prelude.{◌≡◌, ◌≤◌, ℕ, Option, IfOk};
 ghost use Rattle.col_base.specs.Causes.{HasCause};
 ghost use Rattle.col_base.specs.Maps.{Contents};
+ghost use Rattle.col_disk.specs.declared.disk.DiskFault.TheVariants.{Memory};
+ghost use Rattle.col_disk.specs.declared.disk.StoreFault.TheVariants.{Memory as no_memory};
+ghost use Rattle.col_disk.specs.Faults.{store_fault};
 ghost use Rattle.col_disk.specs.Calls.{AnswersSize, AnswersPart, AnswersNames, Keeps, Writes, Removes};
 
-use std::alloc::Global;
+use std::alloc::{AllocError, AllocFailed, Global};
 
 /// Why a call of a disk gives no answer: the disk failed, or memory is short.
 #[derive(Clone, Copy, Debug, PartialEq, Eq)]
 pub enum DiskFault {
     Failed,
     Memory,
+}
+
+impl From<AllocError> for DiskFault {
+    ghost from_gives = { λ _ e. e ≡ Memory };
+
+    fn from(_: AllocError) -> DiskFault {
+        DiskFault::Memory
+    }
+}
+
+impl<T: Drop> From<AllocFailed<T>> for DiskFault {
+    ghost from_gives = { λ _ e. e ≡ Memory };
+
+    fn from(_: AllocFailed<T>) -> DiskFault {
+        DiskFault::Memory
+    }
 }
 
 /// Why a store's call over a disk gives no answer: the disk failed; the file of this name isn't what it has to be;
@@ -19,6 +38,33 @@ pub enum StoreFault {
     Disk,
     Damaged(u64),
     Memory,
+}
+
+impl From<AllocError> for StoreFault {
+    ghost from_gives = { λ _ e. e ≡ no_memory };
+
+    fn from(_: AllocError) -> StoreFault {
+        StoreFault::Memory
+    }
+}
+
+impl<T: Drop> From<AllocFailed<T>> for StoreFault {
+    ghost from_gives = { λ _ e. e ≡ no_memory };
+
+    fn from(_: AllocFailed<T>) -> StoreFault {
+        StoreFault::Memory
+    }
+}
+
+impl From<DiskFault> for StoreFault {
+    ghost from_gives = { λ fault e. e ≡ store_fault fault };
+
+    fn from(fault: DiskFault) -> StoreFault {
+        match fault {
+            DiskFault::Failed => StoreFault::Disk,
+            DiskFault::Memory => StoreFault::Memory,
+        }
+    }
 }
 
 /// Names, each with its bytes.

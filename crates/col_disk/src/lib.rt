@@ -7,12 +7,17 @@
 //! that it may have written, and those that it may have removed.
 #![tactic(auto)]
 
+mod dir;
 mod disk;
+mod folder;
 mod held;
 mod memory;
+#[cfg(test)]
+mod tests;
 mod whole;
 
 pub use col_base::Blob;
+pub use dir::DirDisk;
 pub use disk::{Disk, DiskFault, StoreFault};
 pub use memory::MemDisk;
 pub use whole::read_whole;

@@ -147,7 +147,11 @@ fn part_of(bytes: &[u8], at: u64, len: usize) -> &[u8]
         return &[];
     }
     let rest = rest_of(bytes, at as usize);
-    if len < rest.len() { rest.split_at(len).0 } else { rest }
+    if len < rest.len() {
+        rest.split_at(len).0
+    } else {
+        rest
+    }
 }
 
 fn first_half(bytes: &[u8]) -> &[u8]
@@ -171,7 +175,13 @@ impl Disk for MemDisk {
         }
     }
 
-    fn read(&mut self, alloc: Global, name: u64, at: u64, len: usize) -> Result<Option<Vec<u8>>, DiskFault> {
+    fn read(
+        &mut self,
+        alloc: Global,
+        name: u64,
+        at: u64,
+        len: usize,
+    ) -> Result<Option<Vec<u8>>, DiskFault> {
         if self.begin() {
             return Err(DiskFault::Failed);
         }

@@ -8,8 +8,8 @@ use std::alloc::Global;
 
 /// All bytes of the name, or None where it is absent.
 pub fn read_whole<D: Disk>(
-    disk: &mut D,
     alloc: Global,
+    disk: &mut D,
     name: u64,
 ) -> Result<Option<Vec<u8>>, DiskFault>
     ensures answer { IfOk result (AnswersWhole name (D.holds disk.old)) }
