@@ -200,3 +200,17 @@ changed_kept W R m n q w r changed = kept (changed q w)
     kept : (get n q ≡ get m q) ⊎ (R q × (get n q ≡ None)) → get n q ≡ get m q
     kept (inl same) = same
     kept (inr (is, gone)) = absurd (r is)
+
+-- told contents, after a call that answered Ok
+pub written_told : {D : Type 0} (disk : Ghosts D) {name : ℕ} {bytes : List ℕ} {old new : D} {done : Unit {0}} (m : Contents)
+    → disk.holds old ≡ Some m → Writes disk.holds disk.faults name bytes old new (Ok done) → disk.holds new ≡ Some (insert m name bytes)
+written_told disk {name} {bytes} m told writes = writes.contents ∙ ap (option_map (λ (c : Contents). insert c name bytes)) told
+
+pub removed_told : {D : Type 0} (disk : Ghosts D) {name : ℕ} {old new : D} {done : Unit {0}} (m : Contents)
+    → disk.holds old ≡ Some m → Removes disk.holds disk.faults name old new (Ok done) → disk.holds new ≡ Some (remove m name)
+removed_told disk {name} m told removes = removes.contents ∙ ap (option_map (λ (c : Contents). remove c name)) told
+
+-- and after one that only looked
+pub kept_told : {D : Type 0} (disk : Ghosts D) {old new : D} (m : Contents)
+    → disk.holds old ≡ Some m → Keeps disk.holds disk.faults old new → disk.holds new ≡ Some m
+kept_told disk m told keeps = keeps.contents ∙ told
