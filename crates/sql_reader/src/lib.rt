@@ -1,0 +1,2 @@
+//! The reader of statements.
+#![tactic(auto)]
