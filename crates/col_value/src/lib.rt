@@ -7,6 +7,7 @@
 
 mod boxed;
 mod kinds;
+mod laws;
 mod list;
 mod name;
 mod print;
@@ -17,6 +18,7 @@ mod wide;
 
 pub use boxed::Boxed;
 pub use kinds::{ColType, Encoding};
+pub use laws::{one_listing, orders_are_exact, orders_are_total};
 pub use list::List;
 pub use name::Name;
 pub use row::{Asked, Row, Run, Stamped, WideRow, sort_wide_rows};
