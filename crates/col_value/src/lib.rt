@@ -12,6 +12,8 @@ mod list;
 mod name;
 mod print;
 mod row;
+#[cfg(test)]
+mod tests;
 mod text;
 mod value;
 mod wide;
