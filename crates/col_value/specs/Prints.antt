@@ -1,5 +1,5 @@
 -- The printed texts of values and of rows.
-use Rattle.std.specs.Prelude.{◌≡◌, length, take, ℕ, Bool, true, false, List, [], ◌∷◌, ◌++◌, map, ◌==◌, ◌||◌, if◌then◌else◌, codes}
+use Rattle.std.specs.Prelude.{ℕ, Bool, true, false, List, [], ◌∷◌, ◌++◌, map, ◌==◌, ◌||◌, if◌then◌else◌, codes}
 use Rattle.std.specs.Fmt.{signed_decimal}
 use Rattle.std.specs.List.{flat_map, list_any, join_with_byte}
 use Rattle.col_value.specs.declared.wide.Wide.{Wide}
@@ -43,11 +43,3 @@ fields_text fields = if is_lone_blank fields then codes "\"\"" else join_with_by
 -- the line of a row, with its LF
 abbrev pub row_text : List Wide → List ℕ
 row_text row = fields_text (map wide_text row) ++ 10 ∷ []
-
--- these bytes begin with that front
-abbrev pub BeginsWith : List ℕ → List ℕ → Type 0
-BeginsWith bytes front = take (length front) bytes ≡ front
-
--- a further field, behind its bar
-abbrev pub bar_and : Wide → List ℕ
-bar_and w = 124 ∷ field_text (wide_text w)

@@ -1,6 +1,7 @@
 ghost use Rattle.std.specs.Prelude.{◌≡◌, ◌++◌, ◌∷◌, [], OnOk, OnErr, MatchOption, map};
 ghost use Rattle.std.specs.List.{flat_map, list_any, join_with_byte};
-ghost use Rattle.col_value.specs.Prints.{BeginsWith, bar_and, wide_text, field_text, is_blank, is_lone_blank, is_mark, quoted_byte, row_text};
+ghost use Rattle.col_value.specs.Parts.{BeginsWith, bar_and};
+ghost use Rattle.col_value.specs.Prints.{wide_text, field_text, is_blank, is_lone_blank, is_mark, quoted_byte, row_text};
 
 use crate::{List, Wide};
 use itoa::Buffer;
