@@ -78,6 +78,6 @@ pub good_reads : Good Spells reads (Class.OfKey Key.Create ∷ (Class.OfKey Key.
 unfolding reads
 good_reads =
     good_either (is_key Key.Create) (Class.OfKey Key.Create ∷ []) (key_tells Key.Create) refl refl good_creates_table
-      (good_either (is_key Key.Insert) (Class.OfKey Key.Insert ∷ []) (key_tells Key.Insert) refl refl good_inserts
-        (good_either (is_key Key.Commit) (Class.OfKey Key.Commit ∷ []) (key_tells Key.Commit) refl refl good_commits
-          (good_either (is_key Key.Select) (Class.OfKey Key.Select ∷ []) (key_tells Key.Select) refl refl good_selects good_selects_at)))
+    (good_either (is_key Key.Insert) (Class.OfKey Key.Insert ∷ []) (key_tells Key.Insert) refl refl good_inserts
+    (good_either (is_key Key.Commit) (Class.OfKey Key.Commit ∷ []) (key_tells Key.Commit) refl refl good_commits
+    (good_either (is_key Key.Select) (Class.OfKey Key.Select ∷ []) (key_tells Key.Select) refl refl good_selects good_selects_at)))
