@@ -1,6 +1,6 @@
 -- One record for each production: with which symbols it begins and goes on, that its reader is judged, and that it
 -- reads again. The side conditions are tests that compute.
-use Rattle.std.proofs.Common.{◌≡◌, ℕ, zero, suc, ◌+◌, ◌<◌, ◌≤◌, ◌⊎◌, inl, inr, Bool, true, false, ◌&&◌, if◌then◌else◌, List, [], ◌∷◌, ◌++◌, length, Option, Some, None, refl, sym, ◌∙◌, ap, subst, append_assoc, append-nil, arith, length-append, rules}
+use Rattle.std.proofs.Common.{◌≡◌, ◌<◌, inl, inr, Bool, true, false, ◌&&◌, if◌then◌else◌, List, [], ◌∷◌, ◌++◌, length, Option, Some, refl, sym, ◌∙◌, ap, subst, arith, length-append, rules}
 use denote.Enum.Bare.{same_true}
 use Rattle.sql_words.specs.declared.token.Key.{Key}
 use Rattle.sql_words.specs.declared.token.Sign.{Sign}
@@ -12,11 +12,11 @@ use Rattle.sql_words.specs.contracts.token.KeyPartialEq.TheImpl as keys
 use Rattle.sql_words.specs.contracts.token.SignPartialEq.TheImpl as signs
 use Rattle.sql_words.specs.contracts.token.BackPartialEq.TheImpl as backs
 use Rattle.sql_words.specs.Symbols.{Symbol}
-use Rattle.sql_tree.specs.Phrases.{One, Mark, Nothing, Then, Either, Many, Chain}
-use Rattle.sql_tree.specs.Spells.{Spelling, Word, Glyph}
-use Rattle.sql_reader.specs.Readings.{Read, one, nothing, both, head_is, choose, mark, many}
+use Rattle.sql_tree.specs.Phrases.{One, Nothing, Then, Either, Many}
+use Rattle.sql_tree.specs.Spells.{Word, Glyph}
+use Rattle.sql_reader.specs.Readings.{Read, one, nothing, both, head_is, choose, many}
 use Rattle.sql_reader.specs.Classes.{Class, class_of, is_key, is_sign, same_class, has, in_set, disjoint, subset}
-use Rattle.sql_reader.specs.Readers.{Reads, word, glyph}
+use Rattle.sql_reader.specs.Readers.{word, glyph}
 use Rattle.sql_reader.proofs.Judges.{Takes, Judged, Judge, judge_nothing, judge_one, judge_both, judge_choose, judge_mark}
 use Rattle.sql_reader.proofs.Repeats.{Shortens, judge_many}
 use Rattle.sql_reader.proofs.Agains.{Ends, Again, again_one, again_nothing, again_both, again_choose, again_mark, again_many}

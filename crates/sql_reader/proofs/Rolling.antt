@@ -1,6 +1,6 @@
 -- The turns of a loop that reads again and again.
-use Rattle.std.proofs.Common.{◌≡◌, ℕ, ◌<◌, Bool, true, false, if◌then◌else◌, List, [], ◌∷◌, ◌++◌, length, refl, sym, ◌∙◌, ap, append_assoc, append-nil}
-use Rattle.std.specs.Prelude.{Result, Err}
+use Rattle.std.proofs.Common.{◌≡◌, Bool, true, false, if◌then◌else◌, List, [], ◌∷◌, ◌++◌, refl, sym, ◌∙◌, ap, append_assoc, append-nil}
+use Rattle.std.specs.Prelude.{Err}
 use Rattle.sql_words.specs.Symbols.{Symbol}
 use Rattle.sql_reader.specs.declared.stop.Stop.{Stop}
 use Rattle.sql_reader.specs.Gives.{Gives}

@@ -1,5 +1,5 @@
 -- What a reader of tokens answers, in terms of the reading of symbols.
-use Rattle.std.specs.Prelude.{◌≡◌, ℕ, ◌≤◌, List, [], ◌∷◌, map, length, Result, Ok, Err}
+use Rattle.std.specs.Prelude.{◌≡◌, ℕ, List, map, Result, Ok, Err}
 use Rattle.sql_words.specs.declared.token.Token.{Token}
 use Rattle.sql_words.specs.Symbols.{Symbol, symbol_of}
 use Rattle.sql_reader.specs.Readings.{Read}

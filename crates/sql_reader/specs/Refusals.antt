@@ -1,5 +1,5 @@
 -- What a refusal to read tells.
-use Rattle.std.specs.Prelude.{ℕ, List}
+use Rattle.std.specs.Prelude.{List}
 use Rattle.sql_words.specs.Symbols.{Symbol}
 use Rattle.sql_tree.specs.Phrases.{IsPlace}
 use Rattle.sql_tree.specs.Spells.{Spells}

@@ -1,5 +1,5 @@
 -- A turn takes one more tuple, or the loop ends with what was taken so far.
-use Rattle.std.proofs.Common.{◌≡◌, ◌∙◌, sym, ap, length, ◌∷◌, []}
+use Rattle.std.proofs.Common.{◌∙◌, sym, ap}
 use Rattle.sql_words.specs.declared.token.Sign.{Sign}
 use Rattle.sql_reader.specs.Readings.{Read, joined, many}
 use Rattle.sql_reader.specs.Classes.{is_sign}
