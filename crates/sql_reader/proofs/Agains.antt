@@ -1,7 +1,7 @@
 -- What is spelled is read again, where nothing that could go on stands behind it.
-use Rattle.std.proofs.Common.{◌≡◌, ℕ, ◌+◌, ◌<◌, ◌≤◌, ◌⊎◌, inl, inr, Bool, true, false, if◌then◌else◌, List, [], ◌∷◌, ◌++◌, length, Option, Some, None, refl, sym, ◌∙◌, ap, subst, append_assoc, append-nil, arith, length-append}
+use Rattle.std.proofs.Common.{◌≡◌, inl, inr, Bool, true, false, if◌then◌else◌, List, [], ◌∷◌, ◌++◌, Option, sym, ◌∙◌, ap, append_assoc}
 use Rattle.sql_tree.specs.Phrases.{One, Mark, Nothing, Then, Either, Many}
-use Rattle.sql_reader.specs.Readings.{Read, after, picked, one, nothing, both, head_is, choose, marked, the, mark, turn, many}
+use Rattle.sql_reader.specs.Readings.{Read, after, picked, one, nothing, both, head_is, choose, marked, mark, turn, many}
 use Rattle.sql_reader.proofs.Repeats.{Shortens, many_is}
 
 -- no element that `more` holds of stands at the front
@@ -22,8 +22,10 @@ again_nothing x more = record { reads = λ front v rest (e, h) k. ap (λ z. Read
 
 pub again_both : {T X V : Type 0} {A : List T → X → Type 0} {B : X → List T → V → Type 0} {a : List T → Read T X} {b : X → List T → Read T V} (ma mb more : T → Bool) → Again A ma a → ((x : X) → Again (B x) mb (b x)) → ((front : List T) (x : X) (v : V) (rest : List T) → B x front v → Ends more rest → Ends ma (front ++ rest)) → ((rest : List T) → Ends more rest → Ends mb rest) → Again (Then A B) more (both a b)
 unfolding both
-again_both {a = a} {b = b} ma mb more ka kb apart down = record { reads = λ front v rest (f, x, g, e, h, k) n.
-    ap (λ z. after (a (z ++ rest)) b) e ∙ ap (λ z. after (a z) b) (append_assoc f g rest) ∙ ap (λ q. after q b) (ka.reads f x (g ++ rest) h (apart g x v rest k n)) ∙ (kb x).reads g v rest k (down rest n) }
+again_both {a = a} {b = b} ma mb more ka kb apart down = record {
+  reads = λ front v rest (f, x, g, e, h, k) n.
+      ap (λ z. after (a (z ++ rest)) b) e ∙ ap (λ z. after (a z) b) (append_assoc f g rest) ∙ ap (λ q. after q b) (ka.reads f x (g ++ rest) h (apart g x v rest k n)) ∙ (kb x).reads g v rest k (down rest n);
+}
 
 pub again_choose : {T V : Type 0} {A B : List T → V → Type 0} {a b : List T → Read T V} (p ma mb more : T → Bool) → Again A ma a → Again B mb b → ((front : List T) (v : V) (rest : List T) → A front v → Ends more rest → head_is p (front ++ rest) ≡ true) → ((front : List T) (v : V) (rest : List T) → B front v → Ends more rest → head_is p (front ++ rest) ≡ false) → ((rest : List T) → Ends more rest → Ends ma rest) → ((rest : List T) → Ends more rest → Ends mb rest) → Again (Either A B) more (choose p a b)
 unfolding choose
@@ -46,7 +48,7 @@ unfolding turn choose both nothing
 turn_goes p a m ts mid v vs rest h e k = ap (λ z. if z then after (a ts) (λ w r. after (m r) (λ ws l. Read.Took (w ∷ ws) l)) else Read.Took [] ts) h ∙ ap (λ q. after q (λ w r. after (m r) (λ ws l. Read.Took (w ∷ ws) l))) e ∙ ap (λ q. after q (λ ws l. Read.Took (v ∷ ws) l)) k
 
 -- a turn that ends
-turn_ends : {T V : Type 0} (p : T → Bool) (a : List T → Read T V) (m : List T → Read T (List V)) (ts : List T) → head_is p ts ≡ false → turn p a m ts ≡ Read.Took [] ts
+pub turn_ends : {T V : Type 0} (p : T → Bool) (a : List T → Read T V) (m : List T → Read T (List V)) (ts : List T) → head_is p ts ≡ false → turn p a m ts ≡ Read.Took [] ts
 unfolding turn choose nothing
 turn_ends p a m ts h = ap (λ z. if z then both a (λ v. both m (λ vs. nothing (v ∷ vs))) ts else Read.Took [] ts) h
 
@@ -56,7 +58,7 @@ again_many {T = T} {V = V} {A = A} {a = a} p ma more shorter k stands no_more ap
     go : (vs : List V) (front : List T) (rest : List T) → Many A front vs → Ends more rest → many p a (front ++ rest) ≡ Read.Took vs rest
     go [] front rest h n = ap (λ z. many p a (z ++ rest)) h ∙ many_is p a shorter rest ∙ turn_ends p a (many p a) rest (no_more rest n)
     go (v ∷ vs) front rest (f, g, e, h, hs) n =
-      ap (λ z. many p a (z ++ rest)) e ∙ ap (many p a) (append_assoc f g rest) ∙ many_is p a shorter (f ++ (g ++ rest)) ∙ turn_goes p a (many p a) (f ++ (g ++ rest)) (g ++ rest) v vs rest (stands f v (g ++ rest) h) (k.reads f v (g ++ rest) h (apart g vs rest hs n)) (go vs g rest hs n)
+        ap (λ z. many p a (z ++ rest)) e ∙ ap (many p a) (append_assoc f g rest) ∙ many_is p a shorter (f ++ (g ++ rest)) ∙ turn_goes p a (many p a) (f ++ (g ++ rest)) (g ++ rest) v vs rest (stands f v (g ++ rest) h) (k.reads f v (g ++ rest) h (apart g vs rest hs n)) (go vs g rest hs n)
 
 -- what is spelled alike has one value
 pub again_one_value : {T V : Type 0} (L : List T → V → Type 0) (more : T → Bool) (read : List T → Read T V) → Again L more read → (ts : List T) (s t : V) → L ts s → L ts t → s ≡ t

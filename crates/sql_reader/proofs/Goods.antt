@@ -1,6 +1,6 @@
 -- One record for each production: with which symbols it begins and goes on, that its reader is judged, and that it
 -- reads again. The side conditions are tests that compute.
-use Rattle.std.proofs.Common.{◌≡◌, ℕ, zero, suc, ◌+◌, ◌<◌, ◌≤◌, ◌⊎◌, inl, inr, Bool, true, false, ◌&&◌, if◌then◌else◌, List, [], ◌∷◌, ◌++◌, length, Option, Some, None, refl, sym, ◌∙◌, ap, subst, append_assoc, append-nil, arith, length-append, rules}
+use Rattle.std.proofs.Common.{◌≡◌, ◌<◌, inl, inr, Bool, true, false, ◌&&◌, if◌then◌else◌, List, [], ◌∷◌, ◌++◌, length, Option, Some, refl, sym, ◌∙◌, ap, subst, arith, length-append, rules}
 use denote.Enum.Bare.{same_true}
 use Rattle.sql_words.specs.declared.token.Key.{Key}
 use Rattle.sql_words.specs.declared.token.Sign.{Sign}
@@ -12,11 +12,11 @@ use Rattle.sql_words.specs.contracts.token.KeyPartialEq.TheImpl as keys
 use Rattle.sql_words.specs.contracts.token.SignPartialEq.TheImpl as signs
 use Rattle.sql_words.specs.contracts.token.BackPartialEq.TheImpl as backs
 use Rattle.sql_words.specs.Symbols.{Symbol}
-use Rattle.sql_tree.specs.Phrases.{One, Mark, Nothing, Then, Either, Many, Chain}
-use Rattle.sql_tree.specs.Spells.{Spelling, Word, Glyph}
-use Rattle.sql_reader.specs.Readings.{Read, one, nothing, both, head_is, choose, mark, many}
+use Rattle.sql_tree.specs.Phrases.{One, Nothing, Then, Either, Many}
+use Rattle.sql_tree.specs.Spells.{Word, Glyph}
+use Rattle.sql_reader.specs.Readings.{Read, one, nothing, both, head_is, choose, many}
 use Rattle.sql_reader.specs.Classes.{Class, class_of, is_key, is_sign, same_class, has, in_set, disjoint, subset}
-use Rattle.sql_reader.specs.Readers.{Reads, word, glyph}
+use Rattle.sql_reader.specs.Readers.{word, glyph}
 use Rattle.sql_reader.proofs.Judges.{Takes, Judged, Judge, judge_nothing, judge_one, judge_both, judge_choose, judge_mark}
 use Rattle.sql_reader.proofs.Repeats.{Shortens, judge_many}
 use Rattle.sql_reader.proofs.Agains.{Ends, Again, again_one, again_nothing, again_both, again_choose, again_mark, again_many}
@@ -123,18 +123,18 @@ pub record Good {V : Type 0} (L : List Symbol → V → Type 0) (read : List Sym
 
 pub good_nothing : {V : Type 0} (v : V) → Good (Nothing v) (nothing v) [] true []
 good_nothing v = record {
-    judge = judge_nothing v;
-    again = again_nothing v (in_set []);
-    begins = λ front w (e, h). subst (Begins [] true) (sym e) refl
-  }
+  judge = judge_nothing v;
+  again = again_nothing v (in_set []);
+  begins = λ front w (e, h). subst (Begins [] true) (sym e) refl;
+}
 
 -- t is one symbol that carries a value, and each that does is of the set
 pub good_one : {V : Type 0} (pick : Symbol → Option V) (cs : List Class) (t : Symbol) (v : V) → pick t ≡ Some v → ((u : Symbol) (w : V) → pick u ≡ Some w → in_set cs u ≡ true) → Good (One pick) (one pick) cs false []
 good_one pick cs t v e only = record {
-    judge = judge_one pick t v e;
-    again = again_one pick (in_set []);
-    begins = λ front w (u, f, h). subst (Begins cs false) (sym f) (only u w h)
-  }
+  judge = judge_one pick t v e;
+  again = again_one pick (in_set []);
+  begins = λ front w (u, f, h). subst (Begins cs false) (sym f) (only u w h);
+}
 
 key_only : (k : Key) (u : Symbol) → is_key k u ≡ true → u ≡ Symbol.Keyword k
 key_only k (Symbol.Keyword j) h = ap Symbol.Keyword (key_same j k h)
@@ -178,17 +178,17 @@ sign_tells s Symbol.Unknown = refl
 
 pub good_key : {V : Type 0} {A : List Symbol → V → Type 0} {a : List Symbol → Read Symbol V} {fa ma : List Class} {ea : Bool} (k : Key) → Good A a fa ea ma → Good (Word k A) (word k a) (Class.OfKey k ∷ []) false ma
 good_key {ma = ma} k g = record {
-    judge = judge_mark (Symbol.Keyword k) (is_key k) (key_hits k) (key_only k) g.judge;
-    again = again_mark (Symbol.Keyword k) (is_key k) (in_set ma) (key_hits k) g.again;
-    begins = λ front v (b, e, h). subst (Begins (Class.OfKey k ∷ []) false) (sym e) (sym (key_tells k (Symbol.Keyword k)) ∙ key_hits k)
-  }
+  judge = judge_mark (Symbol.Keyword k) (is_key k) (key_hits k) (key_only k) g.judge;
+  again = again_mark (Symbol.Keyword k) (is_key k) (in_set ma) (key_hits k) g.again;
+  begins = λ front v (b, e, h). subst (Begins (Class.OfKey k ∷ []) false) (sym e) (sym (key_tells k (Symbol.Keyword k)) ∙ key_hits k);
+}
 
 pub good_sign : {V : Type 0} {A : List Symbol → V → Type 0} {a : List Symbol → Read Symbol V} {fa ma : List Class} {ea : Bool} (s : Sign) → Good A a fa ea ma → Good (Glyph s A) (glyph s a) (Class.OfSign s ∷ []) false ma
 good_sign {ma = ma} s g = record {
-    judge = judge_mark (Symbol.Mark s) (is_sign s) (sign_hits s) (sign_only s) g.judge;
-    again = again_mark (Symbol.Mark s) (is_sign s) (in_set ma) (sign_hits s) g.again;
-    begins = λ front v (b, e, h). subst (Begins (Class.OfSign s ∷ []) false) (sym e) (sym (sign_tells s (Symbol.Mark s)) ∙ sign_hits s)
-  }
+  judge = judge_mark (Symbol.Mark s) (is_sign s) (sign_hits s) (sign_only s) g.judge;
+  again = again_mark (Symbol.Mark s) (is_sign s) (in_set ma) (sign_hits s) g.again;
+  begins = λ front v (b, e, h). subst (Begins (Class.OfSign s ∷ []) false) (sym e) (sym (sign_tells s (Symbol.Mark s)) ∙ sign_hits s);
+}
 
 abbrev pub first_then : List Class → Bool → List Class → List Class
 first_then fa true fb = fa ++ fb
@@ -217,10 +217,10 @@ then_begins fa fb false eb (t ∷ ts) g h k = h
 
 pub good_then : {X V : Type 0} {A : List Symbol → X → Type 0} {B : X → List Symbol → V → Type 0} {a : List Symbol → Read Symbol X} {b : X → List Symbol → Read Symbol V} {fa ma fb mb : List Class} {ea eb : Bool} → disjoint fb ma ≡ true → Good A a fa ea ma → ((x : X) → Good (B x) (b x) fb eb mb) → Good (Then A B) (both a b) (first_then fa ea fb) (ea && eb) (more_then ma eb mb)
 good_then {fa = fa} {ma = ma} {fb = fb} {mb = mb} {ea = ea} {eb = eb} d g h = record {
-    judge = judge_both g.judge (λ x. (h x).judge);
-    again = again_both (in_set ma) (in_set mb) (in_set (more_then ma eb mb)) g.again (λ x. (h x).again) (λ front x v rest k n. then_apart fb ma mb eb d front rest ((h x).begins front v k) n) (then_down ma mb eb);
-    begins = λ front v (f, x, k, e, m, n). subst (Begins (first_then fa ea fb) (ea && eb)) (sym e) (then_begins fa fb ea eb f k (g.begins f x m) ((h x).begins k v n))
-  }
+  judge = judge_both g.judge (λ x. (h x).judge);
+  again = again_both (in_set ma) (in_set mb) (in_set (more_then ma eb mb)) g.again (λ x. (h x).again) (λ front x v rest k n. then_apart fb ma mb eb d front rest ((h x).begins front v k) n) (then_down ma mb eb);
+  begins = λ front v (f, x, k, e, m, n). subst (Begins (first_then fa ea fb) (ea && eb)) (sym e) (then_begins fa fb ea eb f k (g.begins f x m) ((h x).begins k v n));
+}
 
 -- A's value made to another
 pub good_made : {X V : Type 0} {A : List Symbol → X → Type 0} {a : List Symbol → Read Symbol X} {fa ma : List Class} {ea : Bool} (f : X → V) → Good A a fa ea ma → Good (Then A (λ x. Nothing (f x))) (both a (λ x. nothing (f x))) (first_then fa ea []) (ea && true) (more_then ma true [])
@@ -255,14 +255,14 @@ either_begins fa fb eb left right front v (inr h) = either_begins_right fa fb eb
 -- the test p tells which of the two stands there
 pub good_either : {V : Type 0} {A B : List Symbol → V → Type 0} {a b : List Symbol → Read Symbol V} {fa ma fb mb : List Class} {eb : Bool} (p : Symbol → Bool) (cs : List Class) → ((t : Symbol) → p t ≡ in_set cs t) → subset fa cs ≡ true → disjoint fb cs ≡ true → Good A a fa false ma → Good B b fb eb mb → Good (Either A B) (choose p a b) (fa ++ fb) eb (ma ++ (mb ++ empty_more eb cs))
 good_either {A = A} {B = B} {fa = fa} {ma = ma} {fb = fb} {mb = mb} {eb = eb} p cs tells s d g h = record {
-    judge = judge_choose p g.judge h.judge;
-    again = again_choose p (in_set ma) (in_set mb) (in_set (ma ++ (mb ++ empty_more eb cs))) g.again h.again
+  judge = judge_choose p g.judge h.judge;
+  again = again_choose p (in_set ma) (in_set mb) (in_set (ma ++ (mb ++ empty_more eb cs))) g.again h.again
       (λ front v rest k n. either_yes p cs fa tells s front rest (g.begins front v k))
       (λ front v rest k n. either_no p cs fb ma mb eb tells d front rest (h.begins front v k) n)
       (λ rest n. ends_left ma (mb ++ empty_more eb cs) rest n)
       (λ rest n. ends_left mb (empty_more eb cs) rest (ends_right ma (mb ++ empty_more eb cs) rest n));
-    begins = either_begins fa fb eb g.begins h.begins
-  }
+  begins = either_begins fa fb eb g.begins h.begins;
+}
 
 shorter_front : (fa : List Class) (front rest ts : List Symbol) → Begins fa false front → ts ≡ front ++ rest → length rest < length ts
 shorter_front fa [] rest ts h e = absurd cc
@@ -293,10 +293,10 @@ many_no p ma cs tells (t ∷ ts) n = tells t ∙ out_right ma cs (class_of t) n
 -- the test p tells whether one more stands there
 pub good_many : {V : Type 0} {A : List Symbol → V → Type 0} {a : List Symbol → Read Symbol V} {fa ma : List Class} (p : Symbol → Bool) (cs : List Class) → ((t : Symbol) → p t ≡ in_set cs t) → subset fa cs ≡ true → disjoint fa ma ≡ true → Good A a fa false ma → Good (Many A) (many p a) fa true (ma ++ cs)
 good_many {fa = fa} {ma = ma} p cs tells s d g = record {
-    judge = judge_many p (good_shortens g) g.judge;
-    again = again_many p (in_set ma) (in_set (ma ++ cs)) (good_shortens g) g.again
+  judge = judge_many p (good_shortens g) g.judge;
+  again = again_many p (in_set ma) (in_set (ma ++ cs)) (good_shortens g) g.again
       (λ front v rest h. either_yes p cs fa tells s front rest (g.begins front v h))
       (λ rest n. many_no p ma cs tells rest n)
       (λ front vs rest h n. many_apart fa ma cs d front rest (many_front fa g.begins vs front h) n);
-    begins = λ front vs h. many_front fa g.begins vs front h
-  }
+  begins = λ front vs h. many_front fa g.begins vs front h;
+}

@@ -1,7 +1,7 @@
 -- What a reader takes is spelled, and where it stops something is begun: the judge of each word.
-use Rattle.std.proofs.Common.{◌≡◌, ℕ, zero, suc, ◌+◌, ◌<◌, ◌≤◌, ◌⊎◌, inl, inr, Bool, true, false, if◌then◌else◌, List, [], ◌∷◌, ◌++◌, length, Option, Some, None, refl, sym, ◌∙◌, ap, subst, append_assoc, append-nil, arith, length-append}
-use Rattle.sql_tree.specs.Phrases.{One, Mark, Nothing, Then, Either, Many, Opens}
-use Rattle.sql_reader.specs.Readings.{Read, after, picked, one, nothing, both, head_is, choose, marked, the, mark, turn, many_within, many}
+use Rattle.std.proofs.Common.{◌≡◌, inl, inr, Bool, true, false, if◌then◌else◌, List, [], ◌∷◌, ◌++◌, Option, Some, None, refl, sym, ◌∙◌, ap, append_assoc}
+use Rattle.sql_tree.specs.Phrases.{One, Mark, Nothing, Then, Either, Opens}
+use Rattle.sql_reader.specs.Readings.{Read, after, picked, one, nothing, both, head_is, choose, marked, the, mark}
 
 -- v was taken from the front and `rest` is left, whatever stands behind the first element of `rest`
 pub record Takes {T V : Type 0} (L : List T → V → Type 0) (read : List T → Read T V) (ts : List T) (v : V) (rest : List T) : Type 0 where
@@ -28,39 +28,39 @@ pub record Judge {T V : Type 0} (L : List T → V → Type 0) (read : List T →
 -- what is judged for one phrase and reader is judged for a wider phrase and a reader that reads alike
 pub widen : {T V : Type 0} (A L : List T → V → Type 0) (a read : List T → Read T V) (ts : List T) → ((front : List T) (v : V) → A front v → L front v) → ((front : List T) (t : T) (r s : List T) → ts ≡ front ++ (t ∷ r) → read (front ++ (t ∷ s)) ≡ a (front ++ (t ∷ s))) → (q : Read T V) → Judged A a ts q → Judged L read ts q
 widen A L a read ts up alike (Read.Took v rest) k = record {
-    front = k.front;
-    is = k.is;
-    spelled = up k.front v k.spelled;
-    same = λ t r s e. alike k.front t r s (k.is ∙ ap (λ z. k.front ++ z) e) ∙ k.same t r s e
-  }
+  front = k.front;
+  is = k.is;
+  spelled = up k.front v k.spelled;
+  same = λ t r s e. alike k.front t r s (k.is ∙ ap (λ z. k.front ++ z) e) ∙ k.same t r s e;
+}
 widen A L a read ts up alike (Read.Stopped rest) k = record {
-    front = k.front;
-    is = k.is;
-    opens = record { more = k.opens.more; value = k.opens.value; spelled = up (k.front ++ k.opens.more) k.opens.value k.opens.spelled };
-    same = λ t r s e. alike k.front t r s (k.is ∙ ap (λ z. k.front ++ z) e) ∙ k.same t r s e
-  }
+  front = k.front;
+  is = k.is;
+  opens = record { more = k.opens.more; value = k.opens.value; spelled = up (k.front ++ k.opens.more) k.opens.value k.opens.spelled };
+  same = λ t r s e. alike k.front t r s (k.is ∙ ap (λ z. k.front ++ z) e) ∙ k.same t r s e;
+}
 
 pub judge_nothing : {T V : Type 0} (v : V) → Judge (Nothing {T = T} v) (nothing {T = T} v)
 unfolding nothing
 judge_nothing v = record {
-    some = record { more = []; value = v; spelled = (refl, refl) };
-    each = λ ts. record { front = []; is = refl; spelled = (refl, refl); same = λ t r s e. refl }
-  }
+  some = record { more = []; value = v; spelled = (refl, refl) };
+  each = λ ts. record { front = []; is = refl; spelled = (refl, refl); same = λ t r s e. refl };
+}
 
 one_picked : {T V : Type 0} (pick : T → Option V) (some : Opens (One pick) []) (t : T) (ts : List T) (o : Option V) → pick t ≡ o → Judged (One pick) (one pick) (t ∷ ts) (picked t ts o)
 unfolding one
 one_picked pick some t ts (Some v) e = record {
-    front = t ∷ [];
-    is = refl;
-    spelled = (t, refl, e);
-    same = λ u r s h. ap (picked t (u ∷ s)) e
-  }
+  front = t ∷ [];
+  is = refl;
+  spelled = (t, refl, e);
+  same = λ u r s h. ap (picked t (u ∷ s)) e;
+}
 one_picked pick some t ts None e = record {
-    front = [];
-    is = refl;
-    opens = some;
-    same = λ u r s h. let same : t ≡ u = cc in ap (picked u s) (ap pick (sym same) ∙ e)
-  }
+  front = [];
+  is = refl;
+  opens = some;
+  same = λ u r s h. let same : t ≡ u = cc in ap (picked u s) (ap pick (sym same) ∙ e);
+}
 
 one_each : {T V : Type 0} (pick : T → Option V) (some : Opens (One pick) []) (ts : List T) → Judged (One pick) (one pick) ts (one pick ts)
 unfolding one
@@ -81,17 +81,17 @@ took_before A a ts x mid k (u ∷ us) rest t r s e h = k.same u (us ++ rest) (us
 both_took : {T X V : Type 0} (A : List T → X → Type 0) (B : X → List T → V → Type 0) (a : List T → Read T X) (b : X → List T → Read T V) (ts : List T) (x : X) (mid : List T) → Takes A a ts x mid → (q : Read T V) → Judged (B x) (b x) mid q → Judged (Then A B) (both a b) ts q
 unfolding both
 both_took A B a b ts x mid k (Read.Took v rest) h = record {
-    front = k.front ++ h.front;
-    is = k.is ∙ ap (λ z. k.front ++ z) h.is ∙ sym (append_assoc k.front h.front rest);
-    spelled = (k.front, x, h.front, refl, k.spelled, h.spelled);
-    same = λ t r s e. ap (λ z. after (a z) b) (append_assoc k.front h.front (t ∷ s)) ∙ ap (λ q. after q b) (took_before A a ts x mid k h.front rest t r s h.is e) ∙ h.same t r s e
-  }
+  front = k.front ++ h.front;
+  is = k.is ∙ ap (λ z. k.front ++ z) h.is ∙ sym (append_assoc k.front h.front rest);
+  spelled = (k.front, x, h.front, refl, k.spelled, h.spelled);
+  same = λ t r s e. ap (λ z. after (a z) b) (append_assoc k.front h.front (t ∷ s)) ∙ ap (λ q. after q b) (took_before A a ts x mid k h.front rest t r s h.is e) ∙ h.same t r s e;
+}
 both_took A B a b ts x mid k (Read.Stopped rest) h = record {
-    front = k.front ++ h.front;
-    is = k.is ∙ ap (λ z. k.front ++ z) h.is ∙ sym (append_assoc k.front h.front rest);
-    opens = record { more = h.opens.more; value = h.opens.value; spelled = (k.front, x, h.front ++ h.opens.more, append_assoc k.front h.front h.opens.more, k.spelled, h.opens.spelled) };
-    same = λ t r s e. ap (λ z. after (a z) b) (append_assoc k.front h.front (t ∷ s)) ∙ ap (λ q. after q b) (took_before A a ts x mid k h.front rest t r s h.is e) ∙ h.same t r s e
-  }
+  front = k.front ++ h.front;
+  is = k.is ∙ ap (λ z. k.front ++ z) h.is ∙ sym (append_assoc k.front h.front rest);
+  opens = record { more = h.opens.more; value = h.opens.value; spelled = (k.front, x, h.front ++ h.opens.more, append_assoc k.front h.front h.opens.more, k.spelled, h.opens.spelled) };
+  same = λ t r s e. ap (λ z. after (a z) b) (append_assoc k.front h.front (t ∷ s)) ∙ ap (λ q. after q b) (took_before A a ts x mid k h.front rest t r s h.is e) ∙ h.same t r s e;
+}
 
 both_read : {T X V : Type 0} (A : List T → X → Type 0) (B : X → List T → V → Type 0) (a : List T → Read T X) (b : X → List T → Read T V) (ts : List T) → ((x : X) → Opens (B x) []) → (q : Read T X) → Judged A a ts q → ((x : X) (mid : List T) → q ≡ Read.Took x mid → Judged (B x) (b x) mid (b x mid)) → Judged (Then A B) (both a b) ts (after q b)
 unfolding both
@@ -102,7 +102,7 @@ both_read A B a b ts some (Read.Stopped rest) k next =
       front = k.front;
       is = k.is;
       opens = record { more = k.opens.more ++ here.more; value = here.value; spelled = (k.front ++ k.opens.more, k.opens.value, here.more, sym (append_assoc k.front k.opens.more here.more), k.opens.spelled, here.spelled) };
-      same = λ t r s e. ap (λ q. after q b) (k.same t r s e)
+      same = λ t r s e. ap (λ q. after q b) (k.same t r s e);
     }
 
 -- at one list: the second reader is judged at what the first leaves
@@ -117,9 +117,9 @@ both_some A B one more =
 
 pub judge_both : {T X V : Type 0} {A : List T → X → Type 0} {B : X → List T → V → Type 0} {a : List T → Read T X} {b : X → List T → Read T V} → Judge A a → ((x : X) → Judge (B x) (b x)) → Judge (Then A B) (both a b)
 judge_both {A = A} {B = B} {a = a} {b = b} ja jb = record {
-    some = both_some A B ja.some (λ x. (jb x).some);
-    each = λ ts. both_at A B a b ts (λ x. (jb x).some) (ja.each ts) (λ x mid e. (jb x).each mid)
-  }
+  some = both_some A B ja.some (λ x. (jb x).some);
+  each = λ ts. both_at A B a b ts (λ x. (jb x).some) (ja.each ts) (λ x mid e. (jb x).each mid);
+}
 
 -- the first element stays where only what stands behind it changes
 head_same : {T : Type 0} (p : T → Bool) (front : List T) (t : T) (r s : List T) → head_is p (front ++ (t ∷ s)) ≡ head_is p (front ++ (t ∷ r))
@@ -137,9 +137,9 @@ choose_at A B p a b ts ka kb = choose_picks A B p a b ts ka kb (head_is p ts) re
 
 pub judge_choose : {T V : Type 0} {A B : List T → V → Type 0} {a b : List T → Read T V} (p : T → Bool) → Judge A a → Judge B b → Judge (Either A B) (choose p a b)
 judge_choose {A = A} {B = B} {a = a} {b = b} p ja jb = record {
-    some = record { more = ja.some.more; value = ja.some.value; spelled = inl ja.some.spelled };
-    each = λ ts. choose_at A B p a b ts (ja.each ts) (jb.each ts)
-  }
+  some = record { more = ja.some.more; value = ja.some.value; spelled = inl ja.some.spelled };
+  each = λ ts. choose_at A B p a b ts (ja.each ts) (jb.each ts);
+}
 
 the_only : {T : Type 0} (p : T → Bool) (t : T) (b : Bool) → p t ≡ b → marked b ≡ Some tt → p t ≡ true
 the_only p t true e h = e
@@ -158,5 +158,5 @@ judge_mark {A = A} {a = a} t p hit only ja =
     let j = judge_both (judge_one (the p) t tt hits) (λ u. ja) in
     record {
       some = record { more = t ∷ ja.some.more; value = ja.some.value; spelled = (ja.some.more, refl, ja.some.spelled) };
-      each = λ ts. widen (Then (One (the p)) (λ u. A)) (Mark t A) (both (one (the p)) (λ u. a)) (mark p a) ts (mark_up t p A only) (λ f u r s e. refl) (mark p a ts) (j.each ts)
+      each = λ ts. widen (Then (One (the p)) (λ u. A)) (Mark t A) (both (one (the p)) (λ u. a)) (mark p a) ts (mark_up t p A only) (λ f u r s e. refl) (mark p a ts) (j.each ts);
     }

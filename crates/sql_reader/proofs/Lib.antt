@@ -4,3 +4,5 @@ pub mod Agains
 pub mod Placing
 pub mod Goods
 pub mod Productions
+pub mod Rolling
+pub mod Closing

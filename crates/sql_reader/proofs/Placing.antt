@@ -1,5 +1,5 @@
 -- The place of a refusal, from the judge of a reader and from what it reads again.
-use Rattle.std.proofs.Common.{◌≡◌, ℕ, zero, suc, ◌+◌, ◌-◌, ◌<◌, ◌≤◌, ◌⊎◌, inl, inr, Bool, true, false, List, [], ◌∷◌, ◌++◌, length, take, refl, sym, ◌∙◌, ap, subst, append_assoc, append-nil, arith, length-append}
+use Rattle.std.proofs.Common.{◌≡◌, ℕ, zero, suc, ◌+◌, ◌-◌, ◌<◌, ◌≤◌, ◌⊎◌, inl, inr, Bool, List, [], ◌∷◌, ◌++◌, length, take, refl, sym, ◌∙◌, ap, subst, append_assoc, append-nil, arith, length-append}
 use Rattle.sql_tree.specs.Phrases.{Opens, IsPlace}
 use Rattle.sql_reader.specs.Readings.{Read}
 use Rattle.sql_reader.proofs.Judges.{Takes, Stops, Judged, Judge}
@@ -47,7 +47,7 @@ placed L more read k front rest place e o beyond whole =
       within = omega (arith, length-append front rest);
       opens = subst (λ z. Opens L z) (sym (ap (λ n. take n (front ++ rest)) before ∙ take_front front rest)) o;
       longest = λ n h p. let s : n ≤ length front = longest_front L more read k front rest n h beyond p in omega arith;
-      unspelled = λ v h. whole v (reads_whole L more read k (front ++ rest) v h)
+      unspelled = λ v h. whole v (reads_whole L more read k (front ++ rest) v h);
     }
 
 -- the place of an element at which a reader stopped
@@ -56,9 +56,9 @@ placed_stopped {T = T} {V = V} L more read j k ts rest place e count =
     let stop : Stops L read ts rest = subst (λ q. Judged L read ts q) e (j.each ts) in
     let size : length ts ≡ length stop.front + length rest = ap length stop.is ∙ length-append stop.front rest in
     subst (λ z. IsPlace L z place) (sym stop.is)
-      (placed L more read k stop.front rest place (omega arith) stop.opens
-        (λ t r s h w g. let clash : Read.Stopped (t ∷ s) ≡ Read.Took w [] = sym (stop.same t r s h) ∙ g in cc)
-        (λ w g. let clash : Read.Stopped rest ≡ Read.Took w [] = sym e ∙ ap read stop.is ∙ g in cc))
+    (placed L more read k stop.front rest place (omega arith) stop.opens
+    (λ t r s h w g. let clash : Read.Stopped (t ∷ s) ≡ Read.Took w [] = sym (stop.same t r s h) ∙ g in cc)
+    (λ w g. let clash : Read.Stopped rest ≡ Read.Took w [] = sym e ∙ ap read stop.is ∙ g in cc))
 
 -- the place of the first element that is left behind what was taken
 pub placed_rest : {T V : Type 0} (L : List T → V → Type 0) (more : T → Bool) (read : List T → Read T V) → Judge L read → Again L more read → (ts : List T) (v : V) (rest : List T) (place : ℕ) → read ts ≡ Read.Took v rest → 0 < length rest → place + length rest ≡ length ts + 1 → IsPlace L ts place
@@ -68,12 +68,25 @@ placed_rest {T = T} {V = V} L more read j k ts v (u ∷ us) place e left count =
     let size : length ts ≡ length took.front + length (u ∷ us) = ap length took.is ∙ length-append took.front (u ∷ us) in
     let here : L (took.front ++ []) v = subst (λ z. L z v) (sym (append-nil took.front)) took.spelled in
     subst (λ z. IsPlace L z place) (sym took.is)
-      (placed L more read k took.front (u ∷ us) place (omega arith) (record { more = []; value = v; spelled = here })
-        (λ t r s h w g. let clash : Read.Took v (t ∷ s) ≡ Read.Took w [] = sym (took.same t r s h) ∙ g in cc)
-        (λ w g. let clash : Read.Took v (u ∷ us) ≡ Read.Took w [] = sym e ∙ ap read took.is ∙ g in cc))
+    (placed L more read k took.front (u ∷ us) place (omega arith) (record { more = []; value = v; spelled = here })
+    (λ t r s h w g. let clash : Read.Took v (t ∷ s) ≡ Read.Took w [] = sym (took.same t r s h) ∙ g in cc)
+    (λ w g. let clash : Read.Took v (u ∷ us) ≡ Read.Took w [] = sym e ∙ ap read took.is ∙ g in cc))
 
 -- what was taken whole is spelled
 pub found_whole : {T V : Type 0} (L : List T → V → Type 0) (read : List T → Read T V) → Judge L read → (ts : List T) (v : V) → read ts ≡ Read.Took v [] → L ts v
 found_whole L read j ts v e =
     let took : Takes L read ts v [] = subst (λ q. Judged L read ts q) e (j.each ts) in
     subst (λ z. L z v) (sym (took.is ∙ append-nil took.front)) took.spelled
+
+-- what is left is no longer than the whole
+pub took_left : {T V : Type 0} (L : List T → V → Type 0) (read : List T → Read T V) → Judge L read → (ts : List T) (v : V) (rest : List T) → read ts ≡ Read.Took v rest → length rest ≤ length ts
+took_left L read j ts v rest e =
+    let took : Takes L read ts v rest = subst (λ q. Judged L read ts q) e (j.each ts) in
+    let size : length ts ≡ length took.front + length rest = ap length took.is ∙ length-append took.front rest in
+    omega arith
+
+pub stopped_left : {T V : Type 0} (L : List T → V → Type 0) (read : List T → Read T V) → Judge L read → (ts rest : List T) → read ts ≡ Read.Stopped rest → length rest ≤ length ts
+stopped_left L read j ts rest e =
+    let stop : Stops L read ts rest = subst (λ q. Judged L read ts q) e (j.each ts) in
+    let size : length ts ≡ length stop.front + length rest = ap length stop.is ∙ length-append stop.front rest in
+    omega arith

@@ -1,17 +1,14 @@
 -- Each production is good.
-use Rattle.std.proofs.Common.{◌≡◌, ℕ, zero, pos, Bool, true, false, List, [], ◌∷◌, Option, Some, None, refl}
-use Rattle.std.specs.Prelude.{negsuc}
-use Rattle.col_value.specs.declared.value.Wide.{Wide}
+use Rattle.std.proofs.Common.{◌≡◌, ℕ, pos, true, false, List, [], ◌∷◌, Some, refl}
 use Rattle.sql_words.specs.declared.token.Key.{Key}
 use Rattle.sql_words.specs.declared.token.Sign.{Sign}
 use Rattle.sql_words.specs.Symbols.{Symbol}
 use Rattle.sql_tree.specs.declared.statement.Statement.{Statement}
-use Rattle.sql_tree.specs.declared.query.Query.{Query}
-use Rattle.sql_tree.specs.Phrases.{One, Chain}
-use Rattle.sql_tree.specs.Spells.{Spelling, name_of, natural_of, number_of, Integer, Tuple, Listed, CreatesTable, Inserts, Commits, Queries, Selects, SelectsAt, Spells}
+use Rattle.sql_tree.specs.Phrases.{One}
+use Rattle.sql_tree.specs.Spells.{name_of, number_of, Integer, Tuple, Listed, CreatesTable, Inserts, Commits, Queries, Selects, SelectsAt, Spells}
 use Rattle.sql_reader.specs.Readings.{one}
 use Rattle.sql_reader.specs.Classes.{Class, in_set, is_key, is_sign}
-use Rattle.sql_reader.specs.Readers.{Reads, integer, tuple, listed, creates_table, inserts, commits, queries, selects, selects_at, reads}
+use Rattle.sql_reader.specs.Readers.{integer, tuple, listed, creates_table, inserts, commits, queries, selects, selects_at, reads}
 use Rattle.sql_reader.proofs.Goods.{Good, good_nothing, good_one, good_key, good_sign, good_then, good_made, good_either, good_many, key_tells, sign_tells}
 
 name_only : (u : Symbol) (w : List ℕ) → name_of u ≡ Some w → in_set (Class.OfName ∷ []) u ≡ true
@@ -78,6 +75,6 @@ pub good_reads : Good Spells reads (Class.OfKey Key.Create ∷ (Class.OfKey Key.
 unfolding reads
 good_reads =
     good_either (is_key Key.Create) (Class.OfKey Key.Create ∷ []) (key_tells Key.Create) refl refl good_creates_table
-      (good_either (is_key Key.Insert) (Class.OfKey Key.Insert ∷ []) (key_tells Key.Insert) refl refl good_inserts
-        (good_either (is_key Key.Commit) (Class.OfKey Key.Commit ∷ []) (key_tells Key.Commit) refl refl good_commits
-          (good_either (is_key Key.Select) (Class.OfKey Key.Select ∷ []) (key_tells Key.Select) refl refl good_selects good_selects_at)))
+    (good_either (is_key Key.Insert) (Class.OfKey Key.Insert ∷ []) (key_tells Key.Insert) refl refl good_inserts
+    (good_either (is_key Key.Commit) (Class.OfKey Key.Commit ∷ []) (key_tells Key.Commit) refl refl good_commits
+    (good_either (is_key Key.Select) (Class.OfKey Key.Select ∷ []) (key_tells Key.Select) refl refl good_selects good_selects_at)))

@@ -1,8 +1,8 @@
 -- The judge of a repetition, and that its count of turns makes no difference.
-use Rattle.std.proofs.Common.{◌≡◌, ℕ, zero, suc, ◌+◌, ◌<◌, ◌≤◌, ◌⊎◌, inl, inr, Bool, true, false, if◌then◌else◌, List, [], ◌∷◌, ◌++◌, length, Option, Some, None, refl, sym, ◌∙◌, ap, subst, append_assoc, append-nil, arith, length-append}
+use Rattle.std.proofs.Common.{◌≡◌, ℕ, zero, suc, ◌<◌, ◌≤◌, inl, inr, Bool, if◌then◌else◌, List, [], ◌∷◌, ◌++◌, length, refl, sym, ◌∙◌, ap, subst, append-nil, arith}
 use Rattle.sql_tree.specs.Phrases.{Nothing, Then, Either, Many, Opens}
 use Rattle.sql_reader.specs.Readings.{Read, after, nothing, both, head_is, choose, turn, many_within, many}
-use Rattle.sql_reader.proofs.Judges.{Takes, Stops, Judged, Judge, widen, judge_nothing, both_at, choose_at}
+use Rattle.sql_reader.proofs.Judges.{Judged, Judge, widen, judge_nothing, both_at, choose_at}
 
 -- what a takes is not empty
 abbrev pub Shortens : {T V : Type 0} → (List T → Read T V) → Type 0
@@ -59,9 +59,9 @@ turn_at : {T V : Type 0} (A : List T → V → Type 0) (p : T → Bool) (a : Lis
 unfolding turn
 turn_at {V = V} A p a m ts k next =
     choose_at (Then A (λ v. Then (Many A) (λ vs. Nothing (v ∷ vs)))) (Nothing []) p (both a (λ v. both m (λ vs. nothing (v ∷ vs)))) (nothing []) ts
-      (both_at A (λ v. Then (Many A) (λ vs. Nothing (v ∷ vs))) a (λ v. both m (λ vs. nothing (v ∷ vs))) ts (λ v. record { more = []; value = v ∷ []; spelled = ([], [], [], refl, refl, (refl, refl)) }) k
-        (λ v rest e. both_at (Many A) (λ vs. Nothing (v ∷ vs)) m (λ vs. nothing (v ∷ vs)) rest (λ vs. (judge_nothing (v ∷ vs)).some) (next v rest e) (λ vs left g. (judge_nothing (v ∷ vs)).each left)))
-      ((judge_nothing []).each ts)
+    (both_at A (λ v. Then (Many A) (λ vs. Nothing (v ∷ vs))) a (λ v. both m (λ vs. nothing (v ∷ vs))) ts (λ v. record { more = []; value = v ∷ []; spelled = ([], [], [], refl, refl, (refl, refl)) }) k
+    (λ v rest e. both_at (Many A) (λ vs. Nothing (v ∷ vs)) m (λ vs. nothing (v ∷ vs)) rest (λ vs. (judge_nothing (v ∷ vs)).some) (next v rest e) (λ vs left g. (judge_nothing (v ∷ vs)).each left)))
+    ((judge_nothing []).each ts)
 
 many_within_judged : {T V : Type 0} (A : List T → V → Type 0) (p : T → Bool) (a : List T → Read T V) → Shortens a → Judge A a → (n : ℕ) (ts : List T) → length ts < n → Judged (Many A) (many p a) ts (many p a ts)
 many_within_judged A p a shorter j zero ts h = absurd (omega arith)
@@ -72,6 +72,6 @@ many_within_judged A p a shorter j (suc n) ts h =
 
 pub judge_many : {T V : Type 0} {A : List T → V → Type 0} {a : List T → Read T V} (p : T → Bool) → Shortens a → Judge A a → Judge (Many A) (many p a)
 judge_many {A = A} {a = a} p shorter j = record {
-    some = many_some A;
-    each = λ ts. many_within_judged A p a shorter j (suc (length ts)) ts (omega arith)
-  }
+  some = many_some A;
+  each = λ ts. many_within_judged A p a shorter j (suc (length ts)) ts (omega arith);
+}

@@ -1,5 +1,5 @@
 -- How each production is read from the front.
-use Rattle.std.specs.Prelude.{ℕ, pos, neg_ℤ, List, [], ◌∷◌}
+use Rattle.std.specs.Prelude.{pos, neg_ℤ, List, [], ◌∷◌}
 use Rattle.col_value.specs.declared.value.Wide.{Wide}
 use Rattle.sql_words.specs.declared.token.Key.{Key}
 use Rattle.sql_words.specs.declared.token.Sign.{Sign}

@@ -1,5 +1,5 @@
 -- Reading from the front of a list, by the words that phrases are made of.
-use Rattle.std.specs.Prelude.{ℕ, zero, suc, Bool, true, false, if◌then◌else◌, List, [], ◌∷◌, Option, Some, None, length}
+use Rattle.std.specs.Prelude.{ℕ, zero, suc, Bool, true, false, if◌then◌else◌, List, [], ◌∷◌, ◌++◌, Option, Some, None, length}
 
 -- a value with what is left behind it, or what is left from the first wrong element on
 pub data Read (T V : Type 0) : Type 0 where
@@ -60,3 +60,7 @@ many_within (suc n) p a = turn p a (many_within n p a)
 -- a again and again, as long as p holds of the first element
 unfoldable pub many : {T V : Type 0} → (T → Bool) → (List T → Read T V) → List T → Read T (List V)
 many p a ts = many_within (length ts) p a ts
+
+-- what is taken, with these values before it
+abbrev pub joined : {T V : Type 0} → List V → Read T (List V) → Read T (List V)
+joined vs q = after q (λ ws rest. Read.Took (vs ++ ws) rest)
