@@ -1,6 +1,6 @@
 -- How each production is read from the front.
 use Rattle.std.specs.Prelude.{pos, neg_ℤ, List, [], ◌∷◌}
-use Rattle.col_value.specs.declared.value.Wide.{Wide}
+use Rattle.col_value.specs.declared.wide.Wide.{Wide}
 use Rattle.sql_words.specs.declared.token.Key.{Key}
 use Rattle.sql_words.specs.declared.token.Sign.{Sign}
 use Rattle.sql_words.specs.Symbols.{Symbol}
