@@ -15,3 +15,6 @@ pub use fixed::{put_be4, put_be8, take_be4, take_be8};
 pub use laws::{one_form, read_again, shortest};
 pub use text::{put_text, take_text};
 pub use varint::{put_vint, take_vint};
+
+#[cfg(test)]
+mod tests;
