@@ -1,0 +1,7 @@
+//! The catalogue.
+#![tactic(auto)]
+
+mod table;
+mod names;
+
+pub use table::{Column, Table};
