@@ -1,27 +1,22 @@
--- What a valid catalogue is.
-use Rattle.std.specs.Prelude.{◌≡◌, ◌≢◌, ℕ, ◌+◌, ◌*◌, ◌^◌, ◌<◌, ◌≤◌, Bool, true, false, List, [], ◌∷◌, ◌++◌, length, map, Option, Some, None, All, AllPairs, Any, Contains, IsTrue, ◌||◌, ◌&&◌, nat_le, ◌==◌, sum_by}
-use Rattle.std.specs.List.{list_all}
-use Rattle.catalog_types.specs.declared.table.Column.{Column}
-use Rattle.catalog_types.specs.declared.table.Table.{Table}
+-- What a valid catalogue is. The rules of its tables, projections and containers are the fields of the records in Parts.
+use Rattle.std.specs.Prelude.{ℕ, ◌+◌, ◌<◌, ◌≤◌, ◌^◌, length}
+use Rattle.std.specs.Bool.{OnTrue}
+use Rattle.std.specs.List.{All}
+use Rattle.catalog_types.specs.declared.catalogue.Catalogue.{Catalogue}
+use Rattle.catalog_types.specs.Lists.{Pairwise}
+use Rattle.catalog_types.specs.Names.{IsBelow, HasNamesOnce}
+use Rattle.catalog_types.specs.Parts.{IsTable}
+use Rattle.catalog_types.specs.Reached.{least_lge, is_past}
+use Rattle.catalog_types.specs.Numbers.{HasNumbersOnce, store_count}
 
--- a lower-case letter or an underscore
-abbrev pub is_letter : ℕ → Bool
-is_letter b = (nat_le 97 b && nat_le b 122) || b == 95
-
-abbrev pub is_digit : ℕ → Bool
-is_digit b = nat_le 48 b && nat_le b 57
-
--- letters and digits, a letter first, at most 128 of them
-abbrev pub IsName : List ℕ → Type 0
-IsName [] = ⊥
-IsName (b ∷ rest) = IsTrue (is_letter b) × IsTrue (list_all (λ c. is_letter c || is_digit c) rest) × (length (b ∷ rest) ≤ 128)
-
-abbrev pub HasNames : List Table → Type 0
-HasNames ts = All (λ t. IsName t.name × All (λ c. IsName c.name) t.columns) ts
-
--- no name stands twice
-abbrev pub AreDistinct : {A : Type 0} → List A → Type 0
-AreDistinct xs = AllPairs (λ x y. x ≢ y) xs
-
-abbrev pub HasColumnsOnce : List Table → Type 0
-HasColumnsOnce ts = All (λ t. AreDistinct (map (λ c. c.name) t.columns)) ts
+pub record IsValid (c : Catalogue) : Type 0 where
+  pub most : length c.tables ≤ 1024
+  pub tables : All (IsTable c) c.tables
+  pub ascending : Pairwise (λ t u. IsBelow t.name u.name) c.tables
+  pub names_once : HasNamesOnce c.tables
+  pub mark : c.ahm ≤ c.last
+  pub last : c.last < 2 ^ 63
+  pub numbers_once : HasNumbersOnce c.tables
+  pub next : c.next < 2 ^ 62
+  -- where recovery has something to do, it can draw as many numbers as there are, and one more
+  pub room : OnTrue (is_past c (least_lge c)) (c.next + store_count c + 1 < 2 ^ 62)

@@ -1,7 +1,11 @@
-ghost use Rattle.std.specs.Prelude.{◌≡◌, ◌↔◌, IsTrue, ◌||◌, map, All};
-ghost use Rattle.catalog_types.specs.Valid.{is_letter, is_digit, IsName, HasNames, AreDistinct, HasColumnsOnce};
+//! What a name is, and that names ascend and stand once.
 
-use crate::table::{Column, Table};
+ghost use Rattle.std.specs.Prelude.{◌≡◌, ◌≢◌, ◌↔◌, IsTrue, ◌||◌, ◌++◌, map};
+ghost use Rattle.std.specs.List.{All, list_all, flat_map};
+ghost use Rattle.catalog_types.specs.Lists.{Pairwise, Ahead};
+ghost use Rattle.catalog_types.specs.Names.{is_letter, is_digit, is_spelled, IsName, IsBelow, names_of, HasNamesOnce};
+
+use crate::catalogue::{Column, Projection, Table};
 use col_value::Name;
 
 fn is_letter(b: u8) -> bool
@@ -16,56 +20,152 @@ fn is_digit(b: u8) -> bool
     b >= 48 && b <= 57
 }
 
-fn is_name(name: &Name) -> bool
-    ensures { IsTrue result ↔ IsName name.now }
+fn is_word(bytes: &[u8]) -> bool
+    ensures { result ≡ list_all (λ c. is_letter c || is_digit c) bytes.now }
 {
-    match name.as_slice() {
+    bytes.iter().all(|b| is_letter(*b) || is_digit(*b))
+}
+
+fn is_spelled(bytes: &[u8]) -> bool
+    ensures { result ≡ is_spelled bytes.now }
+{
+    match bytes {
         [] => false,
-        [first, rest @ ..] => {
-            is_letter(*first)
-                && rest.iter().all(|b| is_letter(*b) || is_digit(*b))
-                && rest.len() < 128
-        }
+        [first, ..] => is_letter(*first) && is_word(bytes),
     }
 }
 
-fn names_columns(t: &Table) -> bool
-    ensures { IsTrue result ↔ All (λ c. IsName c.name) t.now.columns }
+/// Whether it is spelled as a name, in at most 128 bytes.
+pub fn is_name(name: &Name) -> bool
+    ensures { IsTrue result ↔ IsName name.now }
 {
-    t.columns.as_slice().iter().all(|c| is_name(&c.name))
+    is_spelled(name.as_slice()) && name.as_slice().len() <= 128
 }
 
-fn names_table(t: &Table) -> bool
-    ensures { IsTrue result ↔ (IsName t.now.name × All (λ c. IsName c.name) t.now.columns) }
+fn is_below(m: &Name, n: &Name) -> bool
+    ensures { IsTrue result ↔ IsBelow m.now n.now }
 {
-    is_name(&t.name) && names_columns(t)
+    m.as_slice().cmp(&n.as_slice()).is_lt()
 }
 
-fn has_names(tables: &[Table]) -> bool
-    ensures { IsTrue result ↔ HasNames tables.now }
+fn below_tables(t: &Table, later: &[Table]) -> bool
+    ensures { IsTrue result ↔ All (λ u. IsBelow t.now.name u.name) later.now }
 {
-    tables.iter().all(|t| names_table(t))
+    later.iter().all(|u| is_below(&t.name, &u.name))
 }
 
-fn same_name(a: &Name, b: &Name) -> bool
-    ensures { IsTrue result ↔ (a.now ≡ b.now) }
+/// Whether tables ascend by name.
+pub fn tables_ascend(tables: &[Table]) -> bool
+    ensures { IsTrue result ↔ Pairwise (λ t u. IsBelow t.name u.name) tables.now }
 {
-    a.is(b.as_slice())
-}
-
-fn columns_once(columns: &[Column]) -> bool
-    ensures { IsTrue result ↔ AreDistinct (map (λ c. c.name) columns.now) }
-{
-    for (i, c) in columns.iter().enumerate() {
-        if columns[i + 1..].iter().any(|d| same_name(&c.name, &d.name)) {
+    for (i, t) in tables.iter().enumerate() {
+        if !below_tables(t, tables.split_at(i + 1).1) {
             return false;
         }
     }
     true
 }
 
-fn has_columns_once(tables: &[Table]) -> bool
-    ensures { IsTrue result ↔ HasColumnsOnce tables.now }
+fn below_projections(p: &Projection, later: &[Projection]) -> bool
+    ensures { IsTrue result ↔ All (λ q. IsBelow p.now.name q.name) later.now }
 {
-    tables.iter().all(|t| columns_once(t.columns.as_slice()))
+    later.iter().all(|q| is_below(&p.name, &q.name))
+}
+
+/// Whether projections ascend by name.
+pub fn projections_ascend(projections: &[Projection]) -> bool
+    ensures { IsTrue result ↔ Pairwise (λ p q. IsBelow p.name q.name) projections.now }
+{
+    for (i, p) in projections.iter().enumerate() {
+        if !below_projections(p, projections.split_at(i + 1).1) {
+            return false;
+        }
+    }
+    true
+}
+
+fn differs(m: &Name, n: &Name) -> bool
+    ensures { IsTrue result ↔ (m.now ≢ n.now) }
+{
+    !m.is(n.as_slice())
+}
+
+fn free_in_columns(k: &Column, later: &[Column]) -> bool
+    ensures { IsTrue result ↔ All (λ l. k.now.name ≢ l.name) later.now }
+{
+    later.iter().all(|l| differs(&k.name, &l.name))
+}
+
+/// Whether no two columns have one name.
+pub fn columns_differ(columns: &[Column]) -> bool
+    ensures { IsTrue result ↔ Pairwise (λ k l. k.name ≢ l.name) columns.now }
+{
+    for (i, k) in columns.iter().enumerate() {
+        if !free_in_columns(k, columns.split_at(i + 1).1) {
+            return false;
+        }
+    }
+    true
+}
+
+fn free_in_projections(n: &Name, projections: &[Projection]) -> bool
+    ensures { IsTrue result ↔ All (λ p. n.now ≢ p.name) projections.now }
+{
+    projections.iter().all(|p| differs(n, &p.name))
+}
+
+fn free_in_table(n: &Name, t: &Table) -> bool
+    ensures { IsTrue result ↔ ((n.now ≢ t.now.name) × All (λ p. n.now ≢ p.name) t.now.projections) }
+{
+    differs(n, &t.name) && free_in_projections(n, t.projections.as_slice())
+}
+
+fn free_in_tables(n: &Name, tables: &[Table]) -> bool
+    ensures { IsTrue result ↔ All (λ t. (n.now ≢ t.name) × All (λ p. n.now ≢ p.name) t.projections) tables.now }
+{
+    tables.iter().all(|t| free_in_table(n, t))
+}
+
+fn free_in_both(n: &Name, projections: &[Projection], tables: &[Table]) -> bool
+    ensures { IsTrue result ↔ (All (λ p. n.now ≢ p.name) projections.now × All (λ t. (n.now ≢ t.name) × All (λ p. n.now ≢ p.name) t.projections) tables.now) }
+{
+    free_in_projections(n, projections) && free_in_tables(n, tables)
+}
+
+/// Whether a name is free in these projections and tables.
+fn is_free(n: &Name, projections: &[Projection], tables: &[Table]) -> bool
+    ensures { IsTrue result ↔ All (λ m. n.now ≢ m) (map (λ p. p.name) projections.now ++ flat_map names_of tables.now) }
+{
+    free_in_both(n, projections, tables)
+}
+
+/// Whether the names of projections are free in what stands behind them.
+fn projections_free(projections: &[Projection], tables: &[Table]) -> bool
+    ensures { IsTrue result ↔ Ahead ◌≢◌ (map (λ p. p.name) projections.now) (flat_map names_of tables.now) }
+{
+    for (i, p) in projections.iter().enumerate() {
+        if !is_free(&p.name, projections.split_at(i + 1).1, tables) {
+            return false;
+        }
+    }
+    true
+}
+
+fn table_free(t: &Table, later: &[Table]) -> bool
+    ensures { IsTrue result ↔ Ahead ◌≢◌ (names_of t.now) (flat_map names_of later.now) }
+{
+    is_free(&t.name, t.projections.as_slice(), later)
+        && projections_free(t.projections.as_slice(), later)
+}
+
+/// Whether no name of a table or a projection stands twice.
+pub fn has_names_once(tables: &[Table]) -> bool
+    ensures { IsTrue result ↔ HasNamesOnce tables.now }
+{
+    for (i, t) in tables.iter().enumerate() {
+        if !table_free(t, tables.split_at(i + 1).1) {
+            return false;
+        }
+    }
+    true
 }
