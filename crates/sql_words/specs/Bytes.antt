@@ -1,5 +1,5 @@
 -- Kinds of bytes, and the runs that a text is made of.
-use Rattle.std.specs.Prelude.{ℕ, ◌+◌, ◌-◌, ◌*◌, ◌==◌, ◌&&◌, ◌||◌, not, if◌then◌else◌, Bool, true, false, List, [], ◌∷◌, Option, Some, None, length, slice_index, option_map, fold, bytes_eq, take}
+use Rattle.std.specs.Prelude.{ℕ, ◌+◌, ◌-◌, ◌*◌, ◌==◌, ◌&&◌, ◌||◌, not, if◌then◌else◌, Bool, false, List, [], ◌∷◌, Option, Some, None, length, slice_index, fold, bytes_eq, take}
 use Rattle.std.specs.List.{prefix_len}
 use Rattle.std.specs.Char.{is_ascii_alphabetic, is_ascii_alphanumeric}
 
@@ -23,18 +23,21 @@ begins_comment text = (slice_index text 0 == 45) && (slice_index text 1 == 45)
 abbrev pub line_size : List ℕ → ℕ
 line_size text = prefix_len (λ b. not (b == 10)) text
 
--- behind a quote that begins a text: how many bytes stand before the quote that ends it, None where none does.
+-- the place of the quote that ends a text, whose bytes behind its first quote stand here from a place on; None where no quote ends it.
 -- Two quotes in a row are a quote of the text, and don't end it.
-abbrev pub inner_size : List ℕ → Option ℕ
-inner_size [] = None
-inner_size (b ∷ []) = if b == 39 then Some 0 else None
-inner_size (b ∷ (c ∷ rest)) = if b == 39 then (if c == 39 then option_map (λ n. n + 2) (inner_size rest) else Some 0) else option_map (λ n. n + 1) (inner_size (c ∷ rest))
+abbrev pub closing_quote : ℕ → List ℕ → Option ℕ
+closing_quote at [] = None
+closing_quote at (b ∷ []) = if b == 39 then Some at else None
+closing_quote at (b ∷ (c ∷ rest)) = if b == 39 then (if c == 39 then closing_quote (at + 2) rest else Some at) else closing_quote (at + 1) (c ∷ rest)
 
--- what a text says: of two quotes in a row the second is left out (`skip`: the byte is the second of two)
+-- behind the first quote of a text: how many bytes stand before the quote that ends it
+abbrev pub inner_size : List ℕ → Option ℕ
+inner_size inner = closing_quote 0 inner
+
+-- what a text says: of two quotes in a row the second is left out (`twin`: a quote was just read that is the first of two)
 abbrev pub unquoted_behind : Bool → List ℕ → List ℕ
-unquoted_behind skip [] = []
-unquoted_behind true (b ∷ rest) = unquoted_behind false rest
-unquoted_behind false (b ∷ rest) = b ∷ unquoted_behind (b == 39) rest
+unquoted_behind twin [] = []
+unquoted_behind twin (b ∷ rest) = if twin && (b == 39) then unquoted_behind false rest else b ∷ unquoted_behind (b == 39) rest
 
 -- what a text between its two quotes says, `''` read as one quote
 abbrev pub unquoted : List ℕ → List ℕ

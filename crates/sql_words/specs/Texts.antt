@@ -1,5 +1,5 @@
 -- The statement texts of a script.
-use Rattle.std.specs.Prelude.{ℕ, zero, suc, pred, ◌+◌, ◌-◌, ◌==◌, if◌then◌else◌, Bool, true, false, List, [], ◌∷◌, map, filter, length, take, drop, slice_index, Option, Some, None}
+use Rattle.std.specs.Prelude.{ℕ, zero, suc, pred, ◌+◌, ◌-◌, ◌==◌, ◌≤◌, if◌then◌else◌, Bool, true, false, List, [], ◌∷◌, map, filter, length, take, drop, slice_index, Option, Some, None}
 use Rattle.sql_words.specs.Bytes.{begins_comment, line_size, inner_size}
 use Rattle.sql_words.specs.Words.{tokens_of}
 
@@ -44,3 +44,7 @@ statement_spans script = filter (has_token script) (spans_to 0 (ends_behind 0 0 
 -- the statement texts of a script
 abbrev pub statement_texts : List ℕ → List (List ℕ)
 statement_texts script = map (cut script) (statement_spans script)
+
+-- a span that lies within the first n bytes
+abbrev pub LiesWithin : ℕ → (ℕ × ℕ) → Type 0
+LiesWithin n span = (span.0 ≤ span.1) × (span.1 ≤ n)

@@ -1,7 +1,8 @@
 -- The tokens of a text.
-use Rattle.std.specs.Prelude.{ℕ, zero, suc, pred, ◌+◌, ◌^◌, ◌==◌, ◌&&◌, if◌then◌else◌, nat_lt, List, [], ◌∷◌, ◌++◌, map, length, take, drop, slice_index, Option, Some, None, option_map, option_to_list, pos, bytes_eq, find, take_while, codes}
-use Rattle.std.specs.Char.{is_ascii_digit, to_ascii_lowercase}
-use Rattle.std.specs.Str.{is_utf8}
+use Rattle.std.specs.Prelude.{ℕ, zero, suc, pred, ◌+◌, ◌^◌, ◌<◌, ◌≤◌, ◌==◌, ◌&&◌, if◌then◌else◌, nat_lt, List, [], ◌∷◌, ◌++◌, map, length, take, drop, slice_index, Option, Some, None, option_map, option_to_list, pos, ℤ, find, codes}
+use Rattle.std.specs.List.{prefix_len}
+use Rattle.std.specs.Char.{is_ascii_digit}
+use Rattle.std.specs.Str.{is_utf8, str_eq_ignore_ascii_case}
 use Rattle.sql_words.specs.declared.token.Key.{Key}
 use Rattle.sql_words.specs.declared.token.Sign.{Sign}
 use Rattle.sql_words.specs.declared.token.Back.{Back}
@@ -11,13 +12,13 @@ use Rattle.sql_words.specs.declared.piece.Piece.{Piece}
 use Rattle.sql_words.specs.declared.reserved.TheConstants.{RESERVED}
 use Rattle.sql_words.specs.Bytes.{is_space, begins_word, is_of_word, begins_comment, line_size, inner_size, value_of, stands_at}
 
--- the keyword of a table that is spelled so
+-- the keyword of a table's first entry that the word is, without regard to ASCII case
 unfoldable pub key_in : List (List ℕ × Key) → List ℕ → Option Key
-key_in table word = option_map (λ e. e.1) (find (λ e. bytes_eq e.0 word) table)
+key_in table word = option_map (λ e. e.1) (find (λ e. str_eq_ignore_ascii_case e.0 word) table)
 
--- the keyword that a word is, without regard to ASCII case; None where it is a name
+-- the keyword that a word is; None where it is a name
 unfoldable pub key_of : List ℕ → Option Key
-key_of word = key_in (map (λ e. (e.0.now, e.1)) RESERVED) (map to_ascii_lowercase word)
+key_of word = key_in (map (λ e. (e.0.now, e.1)) RESERVED) word
 
 -- what begins no token: it goes on to the end
 abbrev pub bad_piece : List ℕ → Piece
@@ -25,13 +26,19 @@ bad_piece text = record { kind = Some TokenKind.Bad; size = length text }
 
 -- a word, as long as possible
 abbrev pub word_piece : List ℕ → Piece
-word_piece text = let word = take_while is_of_word text in record { kind = Some (TokenKind.Word (key_of word)); size = length word }
+word_piece text = let size = prefix_len is_of_word text in record { kind = Some (TokenKind.Word (key_of (take size text))); size = size }
 
--- a number, as long as possible, at most 2^127 - 1
+-- the number that digits spell, where it is at most 2^127 - 1
+unfoldable pub number_of : List ℕ → Option ℤ
+number_of digits = if nat_lt (value_of digits) (2 ^ 127) then Some (pos (value_of digits)) else None
+
+abbrev pub number_of_size : List ℕ → ℕ → Option ℤ → Piece
+number_of_size text size None = bad_piece text
+number_of_size text size (Some n) = record { kind = Some (TokenKind.Int n); size = size }
+
+-- a number, as long as possible
 abbrev pub number_piece : List ℕ → Piece
-number_piece text =
-    let digits = take_while is_ascii_digit text in
-    if nat_lt (value_of digits) (2 ^ 127) then record { kind = Some (TokenKind.Int (pos (value_of digits))); size = length digits } else bad_piece text
+number_piece text = let size = prefix_len is_ascii_digit text in number_of_size text size (number_of (take size text))
 
 -- the text between the first quote and the one that ends it, where its bytes are UTF-8
 abbrev pub text_of_size : List ℕ → Option ℕ → Piece
@@ -110,3 +117,12 @@ tokens_behind (suc skip) at (b ∷ rest) = tokens_behind skip (at + 1) rest
 -- the tokens of a text, in order, each with its place
 abbrev pub tokens_of : List ℕ → List Token
 tokens_of text = tokens_behind 0 0 text
+
+-- the token has a byte, and ends within the first n
+abbrev pub IsWithin : ℕ → Token → Type 0
+IsWithin n token = (token.start < token.end) × (token.end ≤ n)
+
+-- tokens stand one behind the other between two places: each has a byte, and ends before the next begins
+abbrev pub AreInOrder : ℕ → ℕ → List Token → Type 0
+AreInOrder from to [] = from ≤ to
+AreInOrder from to (token ∷ more) = (from ≤ token.start) × (token.start < token.end) × AreInOrder token.end to more

@@ -1,6 +1,10 @@
 //! The reserved words, each with its keyword.
 #![tactic(auto)]
 
+ghost use Rattle.std.specs.Prelude.{◌≡◌, map};
+ghost use Rattle.std.specs.Str.{str_eq_ignore_ascii_case};
+ghost use Rattle.sql_words.specs.Words.{key_in, key_of};
+
 use crate::token::Key;
 
 /// The reserved words in lower case, in the order of the alphabet.
@@ -70,3 +74,31 @@ pub const RESERVED: [(&str, Key); 64] = [
     ("varchar", Key::Varchar),
     ("where", Key::Where),
 ];
+
+/// The keyword of the table's first entry that the word is.
+#[tactic(auto, unfolding(crate::specs::Words::key_in))]
+fn key_in(table: &[(&'static str, Key)], word: &[u8]) -> Option<Key>
+    ensures { result ≡ key_in (map (λ e. (e.0.now, e.1)) table.now) word.now }
+{
+    for entry in table {
+        if is_spelled(word, entry.0) {
+            return Some(entry.1);
+        }
+    }
+    None
+}
+
+/// The word is the entry, without regard to ASCII case.
+fn is_spelled(word: &[u8], entry: &str) -> bool
+    ensures { result ≡ str_eq_ignore_ascii_case entry.now word.now }
+{
+    word.eq_ignore_ascii_case(entry.as_bytes())
+}
+
+/// The keyword that a word is, without regard to ASCII case; None where it is a name.
+#[tactic(auto, unfolding(crate::specs::Words::key_of))]
+pub fn key_of(word: &[u8]) -> Option<Key>
+    ensures { result ≡ key_of word.now }
+{
+    key_in(&RESERVED, word)
+}

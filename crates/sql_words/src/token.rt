@@ -1,5 +1,5 @@
 /// A reserved word. No table, column or alias can be called so.
-#[derive(Clone, Copy, Debug)]
+#[derive(Clone, Copy, Debug, PartialEq, Eq)]
 pub enum Key {
     And,
     As,

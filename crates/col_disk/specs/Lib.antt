@@ -1,0 +1,5 @@
+pub mod Calls
+pub mod Moved
+pub mod Memory
+pub mod Folder
+pub mod Faults

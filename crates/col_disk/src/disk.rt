@@ -1,0 +1,119 @@
+ghost use Rattle.std.specs.Prelude.{◌≡◌, ◌≤◌, ℕ, Option, IfOk};
+ghost use Rattle.col_base.specs.Causes.{HasCause};
+ghost use Rattle.col_base.specs.Maps.{Contents};
+ghost use Rattle.col_disk.specs.declared.disk.DiskFault.TheVariants.{Memory};
+ghost use Rattle.col_disk.specs.declared.disk.StoreFault.TheVariants.{Memory as no_memory};
+ghost use Rattle.col_disk.specs.Faults.{store_fault};
+ghost use Rattle.col_disk.specs.Calls.{AnswersSize, AnswersPart, AnswersNames, Keeps, Writes, Removes};
+
+use std::alloc::{AllocError, AllocFailed, Global};
+
+/// Why a call of a disk gives no answer: the disk failed, or memory is short.
+#[derive(Clone, Copy, Debug, PartialEq, Eq)]
+pub enum DiskFault {
+    Failed,
+    Memory,
+}
+
+impl From<AllocError> for DiskFault {
+    ghost from_gives = { λ _ e. e ≡ Memory };
+
+    fn from(_: AllocError) -> DiskFault {
+        DiskFault::Memory
+    }
+}
+
+impl<T: Drop> From<AllocFailed<T>> for DiskFault {
+    ghost from_gives = { λ _ e. e ≡ Memory };
+
+    fn from(_: AllocFailed<T>) -> DiskFault {
+        DiskFault::Memory
+    }
+}
+
+/// Why a store's call over a disk gives no answer: the disk failed; the file of this name isn't what it has to be;
+/// memory is short.
+#[derive(Clone, Copy, Debug, PartialEq, Eq)]
+pub enum StoreFault {
+    Disk,
+    Damaged(u64),
+    Memory,
+}
+
+impl From<AllocError> for StoreFault {
+    ghost from_gives = { λ _ e. e ≡ no_memory };
+
+    fn from(_: AllocError) -> StoreFault {
+        StoreFault::Memory
+    }
+}
+
+impl<T: Drop> From<AllocFailed<T>> for StoreFault {
+    ghost from_gives = { λ _ e. e ≡ no_memory };
+
+    fn from(_: AllocFailed<T>) -> StoreFault {
+        StoreFault::Memory
+    }
+}
+
+impl From<DiskFault> for StoreFault {
+    ghost from_gives = { λ fault e. e ≡ store_fault fault };
+
+    fn from(fault: DiskFault) -> StoreFault {
+        match fault {
+            DiskFault::Failed => StoreFault::Disk,
+            DiskFault::Memory => StoreFault::Memory,
+        }
+    }
+}
+
+/// Names, each with its bytes.
+///
+/// `Failed` comes only where the count of faults rose in that call. `Memory` changes nothing. No call changes
+/// whether the disk tells its contents.
+pub trait Disk {
+    /// The bytes of each name that is there, if the disk tells them.
+    ghost holds: { Self → Option Contents };
+
+    /// How often the disk has failed. The count stays at 2^64 - 1 once it is there.
+    ghost faults: { Self → ℕ };
+
+    /// The number of bytes that the name holds, or None where it is absent.
+    fn size(&mut self, name: u64) -> Result<Option<u64>, DiskFault>
+        ensures answer { IfOk result (AnswersSize name (holds self.old)) }
+        ensures keeps { Keeps holds faults self.old self.new }
+        ensures cause { HasCause DiskFault.Failed (faults self.old) (faults self.new) result };
+
+    /// At most `len` bytes of the name, from byte `at` on: fewer only at the end. None where the name is absent.
+    fn read(
+        &mut self,
+        alloc: Global,
+        name: u64,
+        at: u64,
+        len: usize,
+    ) -> Result<Option<Vec<u8>>, DiskFault>
+        ensures answer { IfOk result (AnswersPart name at len (holds self.old)) }
+        ensures keeps { Keeps holds faults self.old self.new }
+        ensures cause { HasCause DiskFault.Failed (faults self.old) (faults self.new) result };
+
+    /// Makes the name hold exactly these bytes. After `Failed` it is absent or holds anything.
+    fn write(&mut self, name: u64, bytes: &[u8]) -> Result<(), DiskFault>
+        ensures writes { Writes holds faults name bytes.now self.old self.new result }
+        ensures cause { HasCause DiskFault.Failed (faults self.old) (faults self.new) result };
+
+    /// Makes the name absent. After `Failed` it is absent or as it was.
+    fn remove(&mut self, name: u64) -> Result<(), DiskFault>
+        ensures removes { Removes holds faults name self.old self.new result }
+        ensures cause { HasCause DiskFault.Failed (faults self.old) (faults self.new) result };
+
+    /// The names that are there, in ascending order.
+    fn names(&mut self, alloc: Global) -> Result<Vec<u64>, DiskFault>
+        ensures answer { IfOk result (λ v. AnswersNames (holds self.old) v.items) }
+        ensures keeps { Keeps holds faults self.old self.new }
+        ensures cause { HasCause DiskFault.Failed (faults self.old) (faults self.new) result };
+
+    /// After Ok, what was written and removed until now outlasts a crash.
+    fn sync(&mut self) -> Result<(), DiskFault>
+        ensures keeps { Keeps holds faults self.old self.new }
+        ensures cause { HasCause DiskFault.Failed (faults self.old) (faults self.new) result };
+}

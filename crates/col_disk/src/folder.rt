@@ -1,0 +1,252 @@
+ghost use Rattle.std.specs.Prelude.{◌≡◌, ◌++◌, ◌∷◌, ◌↔◌, IsTrue, IfOk, string_bytes};
+ghost use Rattle.std.specs.Fmt.{decimal};
+ghost use Rattle.col_disk.specs.Folder.{IsNumberOf};
+
+use crate::DiskFault;
+use std::alloc::{AllocError, Global};
+use std::fs::{DirEntry, OpenFile};
+use std::io::{ErrorKind, Read, Seek, SeekFrom, Write};
+use std::rt::Files;
+use std::{fs, io};
+
+/// A folder with one file a name.
+#[derive(Drop)]
+pub(crate) struct Folder<R: Files + Clone + Drop> {
+    rt: (R, Global),
+    path: String,
+    is_made: bool,
+    // what an earlier process left has been synced
+    is_settled: bool,
+    // an entry may have come or gone since the last sync
+    is_changed: bool,
+    // a write, a removal or a sync failed
+    is_broken: bool,
+}
+
+impl<R: Files + Clone + Drop> Folder<R> {
+    pub(crate) fn new(rt: &R, alloc: Global, path: &str) -> Result<Folder<R>, AllocError> {
+        Ok(Folder {
+            rt: (rt.clone()?, alloc),
+            path: String::from_str(alloc, path)?,
+            is_made: false,
+            is_settled: false,
+            is_changed: false,
+            is_broken: false,
+        })
+    }
+
+    pub(crate) fn size(&mut self, name: u64) -> Result<Option<u64>, DiskFault> {
+        self.make()?;
+        let path = self.path_of(name)?;
+        self.size_at(path.as_str())
+    }
+
+    pub(crate) fn read(
+        &mut self,
+        alloc: Global,
+        name: u64,
+        at: u64,
+        len: usize,
+    ) -> Result<Option<Vec<u8>>, DiskFault> {
+        self.make()?;
+        let path = self.path_of(name)?;
+        match self.size_at(path.as_str())? {
+            Some(size) => {
+                let count = size.saturating_sub(at).min(len as u64);
+                let mut bytes = vec![in alloc; 0u8; count as usize]?;
+                match self.read_at(path.as_str(), at, &mut bytes) {
+                    Ok(()) => Ok(Some(bytes)),
+                    Err(error) => Err(fault_of(&error)),
+                }
+            }
+            None => Ok(None),
+        }
+    }
+
+    /// Replaces the file, and syncs it.
+    pub(crate) fn write(&mut self, name: u64, bytes: &[u8]) -> Result<(), DiskFault> {
+        self.settle()?;
+        let path = self.path_of(name)?;
+        self.is_changed = true;
+        match self.replace(path.as_str(), bytes) {
+            Ok(()) => Ok(()),
+            Err(_) => Err(DiskFault::Failed),
+        }
+    }
+
+    pub(crate) fn remove(&mut self, name: u64) -> Result<(), DiskFault> {
+        self.settle()?;
+        let path = self.path_of(name)?;
+        if self.size_at(path.as_str())?.is_none() {
+            return Ok(());
+        }
+        self.is_changed = true;
+        match fs::remove_file(&self.rt, path.as_str()) {
+            Ok(()) => Ok(()),
+            Err(_) => Err(DiskFault::Failed),
+        }
+    }
+
+    /// The names, in ascending order.
+    pub(crate) fn names(&mut self, alloc: Global) -> Result<Vec<u64>, DiskFault> {
+        self.make()?;
+        let listing = match fs::read_dir(&self.rt, self.path.as_str()) {
+            Ok(listing) => listing,
+            Err(error) => return Err(fault_of(&error)),
+        };
+        let mut names = Vec::new(alloc);
+        for entry in listing {
+            if let Some(name) = self.name_of(alloc, entry)? {
+                names.push(name)?;
+            }
+        }
+        names.sort_unstable();
+        Ok(names)
+    }
+
+    /// Makes what was written and removed outlast a crash: each file was synced as it was written, so it is left to
+    /// sync the folder, whose entries came and went. It fails ever after a failure.
+    pub(crate) fn sync(&mut self) -> Result<(), DiskFault> {
+        self.settle()?;
+        if self.is_broken {
+            return Err(DiskFault::Failed);
+        }
+        if self.is_changed {
+            match self.sync_file(self.path.as_str()) {
+                Ok(()) => self.is_changed = false,
+                Err(_) => return Err(DiskFault::Failed),
+            }
+        }
+        Ok(())
+    }
+
+    /// From here on no sync succeeds.
+    pub(crate) fn break_off(&mut self) {
+        self.is_broken = true;
+    }
+
+    // makes the folder, unless that has succeeded before
+    fn make(&mut self) -> Result<(), DiskFault> {
+        if !self.is_made {
+            match fs::create_dir_all(&self.rt, self.path.as_str()) {
+                Ok(()) => self.is_made = true,
+                Err(error) => return Err(fault_of(&error)),
+            }
+        }
+        Ok(())
+    }
+
+    // syncs what an earlier process left, unless that has succeeded before
+    fn settle(&mut self) -> Result<(), DiskFault> {
+        if self.is_settled {
+            return Ok(());
+        }
+        let names = self.names(self.rt.1)?;
+        for name in names.as_slice() {
+            let path = self.path_of(*name)?;
+            self.sync_in(path.as_str())?;
+        }
+        self.sync_in(self.path.as_str())?;
+        self.is_settled = true;
+        Ok(())
+    }
+
+    fn sync_in(&self, path: &str) -> Result<(), DiskFault> {
+        match self.sync_file(path) {
+            Ok(()) => Ok(()),
+            Err(error) => Err(fault_of(&error)),
+        }
+    }
+
+    // of a file or of the folder
+    fn sync_file(&self, path: &str) -> io::Result<()> {
+        fs::open(&self.rt, path)?.sync_all()
+    }
+
+    fn replace(&self, path: &str, bytes: &[u8]) -> io::Result<()> {
+        let mut file = fs::create(&self.rt, path)?;
+        file.write_all(bytes)?;
+        file.sync_all()
+    }
+
+    fn read_at(&self, path: &str, at: u64, bytes: &mut [u8]) -> io::Result<()> {
+        if bytes.is_empty() {
+            return Ok(());
+        }
+        let mut file = fs::open(&self.rt, path)?;
+        file.seek(SeekFrom::Start(at))?;
+        file.read_exact(bytes)
+    }
+
+    // the length of the file; None where no file is there
+    fn size_at(&self, path: &str) -> Result<Option<u64>, DiskFault> {
+        match fs::metadata(&self.rt, path) {
+            Ok(metadata) => Ok(if metadata.is_file() {
+                Some(metadata.len())
+            } else {
+                None
+            }),
+            Err(error) if error.kind() == ErrorKind::NotFound => Ok(None),
+            Err(error) => Err(fault_of(&error)),
+        }
+    }
+
+    // the name that an entry of the folder is the file of, if it is one's
+    fn name_of(
+        &self,
+        alloc: Global,
+        entry: io::Result<DirEntry<(R, Global), Global>>,
+    ) -> Result<Option<u64>, DiskFault> {
+        let entry = match entry {
+            Ok(entry) => entry,
+            Err(error) if error.kind() == ErrorKind::InvalidFilename => return Ok(None),
+            Err(error) => return Err(fault_of(&error)),
+        };
+        let Some(name) = number_of(alloc, entry.file_name())? else {
+            return Ok(None);
+        };
+        let path = self.path_of(name)?;
+        match self.size_at(path.as_str())? {
+            Some(_) => Ok(Some(name)),
+            None => Ok(None),
+        }
+    }
+
+    fn path_of(&self, name: u64) -> Result<String, AllocError>
+        ensures { IfOk result (λ path. string_bytes path ≡ string_bytes self.now.path ++ 47 ∷ decimal name) }
+    {
+        let folder = self.path.as_str();
+        format!(in self.rt.1; "{folder}/{name}")
+    }
+}
+
+// the number that the text is the decimal spelling of: no sign, no leading zero, below 2^64
+fn number_of(alloc: Global, text: &str) -> Result<Option<u64>, AllocError>
+    ensures { IfOk result (IsNumberOf text.now) }
+{
+    match text.parse::<u64>() {
+        Ok(number) => {
+            if is_spelling(alloc, number, text)? {
+                Ok(Some(number))
+            } else {
+                Ok(None)
+            }
+        }
+        Err(_) => Ok(None),
+    }
+}
+
+fn is_spelling(alloc: Global, number: u64, text: &str) -> Result<bool, AllocError>
+    ensures { IfOk result (λ b. IsTrue b ↔ (text.now ≡ decimal number)) }
+{
+    let spelled = format!(in alloc; "{number}")?;
+    Ok(spelled.as_str() == text)
+}
+
+fn fault_of(error: &io::Error) -> DiskFault {
+    if error.kind() == ErrorKind::OutOfMemory {
+        DiskFault::Memory
+    } else {
+        DiskFault::Failed
+    }
+}

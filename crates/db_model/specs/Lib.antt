@@ -1,0 +1,6 @@
+pub mod Database
+pub mod State
+pub mod Forms
+pub mod Answers
+pub mod Step
+pub mod Run

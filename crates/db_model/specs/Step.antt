@@ -1,0 +1,101 @@
+-- One statement: what it is, whether it is refused, what it prints and what it leaves.
+use Rattle.std.specs.Prelude.{ℕ, ◌≡◌, ◌==◌, ◌&&◌, ◌+◌, ◌++◌, if◌then◌else◌, nat_lt, nat_le, Bool, true, false, List, [], ◌∷◌, map, length, Option, Some, None, codes}
+use Rattle.std.specs.List.{enumerate_from}
+use Rattle.col_value.specs.declared.value.Value.{Value}
+use Rattle.col_value.specs.declared.wide.Wide.{Wide}
+use Rattle.col_value.specs.declared.kinds.Encoding.{Encoding}
+use Rattle.sql_words.specs.Symbols.{symbols_of}
+use Rattle.sql_tree.specs.declared.statement.NewColumn.{NewColumn}
+use Rattle.sql_tree.specs.declared.statement.Insert.{Insert}
+use Rattle.sql_tree.specs.declared.statement.Statement.{Statement}
+use Rattle.sql_tree.specs.declared.query.At.{At}
+use Rattle.sql_tree.specs.declared.refusal.Refusal.{Refusal}
+use Rattle.sql_tree.specs.Spells.{Spells}
+use Rattle.sql_tree.specs.Lines.{refusal_text}
+use Rattle.db_model.specs.Database.{Table, Shape, Database, super_name}
+use Rattle.db_model.specs.State.{State, own_changes, with_changes, with_rows, has_changes, committed}
+use Rattle.db_model.specs.Forms.{is_in_form}
+use Rattle.db_model.specs.Answers.{output_rows, IsListing, listing_text, insert_line, commit_line}
+
+-- what a text says: the statement that its tokens spell, or none where they spell none
+abbrev pub Reads : List ℕ → Option Statement → Type 0
+Reads text (Some s) = Spells (symbols_of text) s
+Reads text None = (s : Statement) → Spells (symbols_of text) s → ⊥
+
+-- an epoch lies in the future
+abbrev pub future_refusal : At → ℕ → Option Refusal
+future_refusal At.View last = None
+future_refusal At.Latest last = None
+future_refusal (At.Epoch n) last = if nat_lt last n then Some (Refusal.EpochInFuture n last) else None
+
+-- the greatest epoch is closed, and there is something to commit
+abbrev pub spent_refusal : Bool → ℕ → Option Refusal
+spent_refusal changed last = if changed && nat_le 9223372036854775807 last then Some Refusal.EpochsSpent else None
+
+-- why a statement in form is refused
+abbrev pub served_refusal : State → Statement → Option Refusal
+served_refusal state (Statement.Select at q) = future_refusal at state.database.last
+served_refusal state Statement.Commit = spent_refusal (has_changes (own_changes state)) state.database.last
+served_refusal state statement = None
+
+-- Why a statement is refused, if it is. What is no statement in form is refused as Syntax at place 1.
+abbrev pub refusal_of : State → Option Statement → Option Refusal
+refusal_of state None = Some (Refusal.Syntax 1)
+refusal_of state (Some s) = if is_in_form state s then served_refusal state s else Some (Refusal.Syntax 1)
+
+-- the projection that CREATE TABLE makes: all columns in order, sorted by all, encoded as is shortest
+abbrev pub super_shape : List ℕ → List NewColumn → ℕ → Shape
+super_shape name columns last = record {
+    name = super_name name;
+    columns = map (λ e. (e.0, Encoding.Auto)) (enumerate_from 0 columns);
+    sort = map (λ e. e.0) (enumerate_from 0 columns);
+    fresh = true; lge = last }
+
+-- a table without rows
+abbrev pub new_table : List ℕ → List NewColumn → ℕ → Table
+new_table name columns last = record { name = name; columns = columns; rows = []; shapes = super_shape name columns last ∷ [] }
+
+abbrev pub with_table : Table → Database → Database
+with_table t d = record d { tables = d.tables ++ t ∷ [] }
+
+-- what a column holds of a literal
+abbrev pub narrowed : Wide → Value
+narrowed Wide.Null = Value.Null
+narrowed (Wide.Bool b) = Value.Bool b
+narrowed (Wide.Int n) = Value.Int n
+narrowed (Wide.Text t) = Value.Text t
+
+abbrev pub inserted_rows : List (List Wide) → List (List Value)
+inserted_rows rows = map (map narrowed) rows
+
+-- a commit with changes closes the next epoch; the session's changes end
+abbrev pub after_commit : State → State
+after_commit state = with_changes [] (if has_changes (own_changes state) then (record state { database = committed (own_changes state) state.database }) else state)
+
+-- the state that a statement leaves which isn't refused
+abbrev pub after : State → Statement → State
+after state (Statement.CreateTable name columns) = record state { database = with_table (new_table name columns state.database.last) state.database }
+after state (Statement.Insert i) = with_changes (with_rows i.table (inserted_rows i.rows) (own_changes state)) state
+after state Statement.Commit = after_commit state
+after state statement = state
+
+-- what a statement prints which isn't refused
+abbrev pub Prints : State → Statement → List ℕ → Type 0
+Prints state (Statement.CreateTable name columns) text = text ≡ codes "CREATE TABLE\n"
+Prints state (Statement.Insert i) text = text ≡ insert_line (length i.rows)
+Prints state Statement.Commit text = text ≡ (if has_changes (own_changes state) then commit_line (state.database.last + 1) else codes "COMMIT\n")
+Prints state (Statement.Select at q) text = (listed : List (List Wide)) × IsListing (output_rows at q state) listed × (text ≡ listing_text listed)
+Prints state statement text = ⊥
+
+-- A refused statement prints its ERROR line and changes nothing. Any other prints and leaves what it is defined to.
+abbrev pub Effect : State → Option Statement → Option Refusal → List ℕ → State → Type 0
+Effect old read (Some refusal) printed new = (printed ≡ refusal_text refusal) × (new ≡ old)
+Effect old (Some s) None printed new = Prints old s printed × (new ≡ after old s)
+Effect old None None printed new = ⊥
+
+-- one statement text in a state: what it prints, whether it was refused, and the new state
+pub record Step (old : State) (text printed : List ℕ) (refusal : Option Refusal) (new : State) : Type 0 where
+  pub read : Option Statement
+  pub reads : Reads text read
+  pub decided : refusal ≡ refusal_of old read
+  pub effect : Effect old read refusal printed new

@@ -1,0 +1,17 @@
+//! The trees of SQL's statements, and the refusals of a statement.
+//!
+//! A tree is plain data: `List`, `Boxed`, `Name` and `Text` are seen as what they hold, so that equal
+//! trees are equal values.
+#![tactic(auto)]
+
+mod query;
+mod refusal;
+mod statement;
+mod tree;
+
+pub use query::{At, Item, Items, KeyRef, Query, SortKey, Source};
+pub use refusal::{Refusal, Which};
+pub use statement::{
+    Delete, Function, Insert, NewColumn, NewPart, NewProjection, Setting, Statement, Update,
+};
+pub use tree::{AggKind, Cmp, ColRef, Term, Tree};

@@ -1,0 +1,7 @@
+pub mod Ends
+pub mod Joined
+pub mod Numbers
+pub mod Quotes
+pub mod Says
+pub mod Tokens
+pub mod Utf8
