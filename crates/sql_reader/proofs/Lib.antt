@@ -1,6 +1,0 @@
-pub mod Judges
-pub mod Repeats
-pub mod Agains
-pub mod Placing
-pub mod Goods
-pub mod Productions

@@ -1,3 +1,0 @@
-pub mod Readings
-pub mod Classes
-pub mod Readers

@@ -1,2 +1,0 @@
-//! The reader of statements.
-#![tactic(auto)]
