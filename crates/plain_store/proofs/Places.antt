@@ -21,7 +21,7 @@ map_set g xs i y fits = ap (map g) (set_split xs i y fits) ∙ map-append g (tak
 
 -- the table at its place was changed
 pub table_changed : (name : List ℕ) (change : model.Table → model.Table) (xs : List Table) (i : ℕ) (x y : Table)
-  → IsTableAt name xs i → x ≡ get_or xs i x → table_of y ≡ change (table_of x) → map table_of (set xs i y) ≡ change_named name change (map table_of xs)
+    → IsTableAt name xs i → x ≡ get_or xs i x → table_of y ≡ change (table_of x) → map table_of (set xs i y) ≡ change_named name change (map table_of xs)
 table_changed name change xs i x y at is changed =
     map_set table_of xs i y at.within
     ∙ ap (λ (t : model.Table). map table_of (take i xs) ++ t ∷ map table_of (drop (i + 1) xs)) changed
@@ -29,7 +29,7 @@ table_changed name change xs i x y at is changed =
 
 -- rows joined the changes at their place
 pub changes_joined : (name : List ℕ) (rows : List (List Value)) (xs : List Pending) (i : ℕ) (x y : Pending)
-  → StandsAt name xs i → x ≡ get_or xs i x → changes_of y ≡ joined (changes_of x) rows → map changes_of (set xs i y) ≡ with_rows name rows (map changes_of xs)
+    → StandsAt name xs i → x ≡ get_or xs i x → changes_of y ≡ joined (changes_of x) rows → map changes_of (set xs i y) ≡ with_rows name rows (map changes_of xs)
 changes_joined name rows xs i x y at is changed =
     map_set changes_of xs i y at.within
     ∙ ap (λ (c : Changes). map changes_of (take i xs) ++ c ∷ map changes_of (drop (i + 1) xs)) changed

@@ -12,7 +12,7 @@ use Rattle.plain_store.specs.Views.{table_of, changes_of}
 pub record StandsAt (name : List ℕ) (xs : List Pending) (i : ℕ) : Type 0 where
   pub within : i < length xs
   pub split : (rows : List (List Value)) (x : Pending) → x ≡ slice_index_or xs i x
-    → with_rows name rows (map changes_of xs) ≡ map changes_of (take i xs) ++ joined (changes_of x) rows ∷ map changes_of (drop (i + 1) xs)
+      → with_rows name rows (map changes_of xs) ≡ map changes_of (take i xs) ++ joined (changes_of x) rows ∷ map changes_of (drop (i + 1) xs)
 
 -- rows that join the changes of the name stand at the end
 abbrev pub StandsNowhere : List ℕ → List Pending → Type 0
@@ -23,7 +23,7 @@ StandsNowhere name xs = (rows : List (List Value)) →
 pub record IsTableAt (name : List ℕ) (xs : List Table) (i : ℕ) : Type 0 where
   pub within : i < length xs
   pub split : (change : model.Table → model.Table) (x : Table) → x ≡ slice_index_or xs i x
-    → change_named name change (map table_of xs) ≡ map table_of (take i xs) ++ change (table_of x) ∷ map table_of (drop (i + 1) xs)
+      → change_named name change (map table_of xs) ≡ map table_of (take i xs) ++ change (table_of x) ∷ map table_of (drop (i + 1) xs)
 
 -- a change of the table of the name changes none
 abbrev pub IsNoTable : List ℕ → List Table → Type 0

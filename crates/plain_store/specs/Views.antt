@@ -13,10 +13,12 @@ use Rattle.plain_store.specs.declared.table.Pending.{Pending}
 -- the projection of a table: all its columns in order, sorted by all
 abbrev pub projection_of : Table → Shape
 projection_of t = record {
-    name = t.projection;
-    columns = map (λ e. (e.0, Encoding.Auto)) (enumerate_from 0 t.columns);
-    sort = map (λ e. e.0) (enumerate_from 0 t.columns);
-    fresh = true; lge = t.born }
+  name = t.projection;
+  columns = map (λ e. (e.0, Encoding.Auto)) (enumerate_from 0 t.columns);
+  sort = map (λ e. e.0) (enumerate_from 0 t.columns);
+  fresh = true;
+  lge = t.born;
+}
 
 abbrev pub table_of : Table → model.Table
 table_of t = record { name = t.name; columns = t.columns; rows = t.rows.items; shapes = projection_of t ∷ [] }
@@ -28,9 +30,14 @@ changes_of p = record { table = p.table; exclusive = false; rows = p.rows.items;
 -- session 1 is current, and no other has changes
 abbrev pub state_of : List Table → ℕ → List Pending → State
 state_of tables last pending = record {
-    database = record { tables = map table_of tables; last = last; ahm = 0 };
-    sessions = map changes_of pending ∷ [] ∷ [] ∷ [] ∷ [] ∷ [] ∷ [] ∷ [] ∷ [];
-    current = 1; asked = []; next = 1; busy = 0; parts = 0 }
+  database = record { tables = map table_of tables; last = last; ahm = 0 };
+  sessions = map changes_of pending ∷ [] ∷ [] ∷ [] ∷ [] ∷ [] ∷ [] ∷ [] ∷ [];
+  current = 1;
+  asked = [];
+  next = 1;
+  busy = 0;
+  parts = 0;
+}
 
 -- a table with rows more, inserted at an epoch
 abbrev pub with_committed : ℕ → List (List Value) → model.Table → model.Table

@@ -16,3 +16,5 @@ mod table;
 pub use answering::Answer;
 pub use store::PlainStore;
 
+#[cfg(test)]
+mod tests;

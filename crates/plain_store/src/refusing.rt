@@ -30,11 +30,13 @@ pub fn may_create(
     ensures { IfOk result (λ b. b ≡ form.may_create (map view.table_of tables.now) name.now columns.now) }
 {
     let projection = projection_name(alloc, name)?;
-    Ok(is_name_size(name)
-        && is_one_integer(columns)
-        && !is_name_taken(tables, name.as_slice())
-        && !is_name_taken(tables, projection.as_slice())
-        && tables.len() < 1024)
+    Ok(
+        is_name_size(name)
+            && is_one_integer(columns)
+            && !is_name_taken(tables, name.as_slice())
+            && !is_name_taken(tables, projection.as_slice())
+            && tables.len() < 1024,
+    )
 }
 
 /// The one table that a query names.

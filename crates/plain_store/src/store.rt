@@ -9,18 +9,14 @@ ghost use Rattle.plain_store.specs.Views.{table_of};
 ghost use Rattle.sql_tree.specs.Lines.{refusal_text};
 
 use crate::forms::{are_number_rows, is_served_epoch};
+use crate::listing::{add_view, add_visible, commit_text, insert_text, listing, sorted};
 use crate::lists::{add_rows, commit_all, find_table, has_rows};
-use crate::listing::{
-    add_view, add_visible, commit_text, insert_text, listing, sorted,
-};
-
 use crate::refusing::{may_create, plain_place, projection_name, source_table};
 use crate::table::{Pending, Table};
 use col_value::{List, Name, Row, Value, Wide, WideRow};
 use sql_tree::{At, Insert, NewColumn, Query, Refusal, Statement};
 use std::alloc::{AllocError, Global};
 use std::marker::Model;
-
 
 /// Tables in memory, with the rows that wait for the COMMIT of session 1.
 #[derive(Drop)]
@@ -122,7 +118,11 @@ impl PlainStore {
         }
     }
 
-    pub(crate) fn refusal(&self, alloc: Global, statement: &Statement) -> Result<Option<Refusal>, AllocError>
+    pub(crate) fn refusal(
+        &self,
+        alloc: Global,
+        statement: &Statement,
+    ) -> Result<Option<Refusal>, AllocError>
         ensures { IfOk result (λ r. r ≡ refusal_of self.now (Some statement.now)) }
     {
         if self.is_in_form(alloc, statement)? {
@@ -145,11 +145,24 @@ impl PlainStore {
         let mut rows = Vec::new(alloc);
         match at {
             At::View => {
-                add_view(alloc, &mut rows, table, self.pending.as_slice(), self.last, place)?;
+                add_view(
+                    alloc,
+                    &mut rows,
+                    table,
+                    self.pending.as_slice(),
+                    self.last,
+                    place,
+                )?;
                 Ok(rows)
             }
             At::Latest => {
-                add_visible(alloc, &mut rows, table.rows.as_slice(), u128::from(self.last), place)?;
+                add_visible(
+                    alloc,
+                    &mut rows,
+                    table.rows.as_slice(),
+                    u128::from(self.last),
+                    place,
+                )?;
                 Ok(rows)
             }
             At::Epoch(epoch) => {
@@ -237,7 +250,12 @@ impl PlainStore {
     {
         if has_rows(self.pending.as_slice()) {
             let epoch = self.last + 1;
-            commit_all(alloc, self.tables.as_mut_slice(), self.pending.as_mut_slice(), epoch)?;
+            commit_all(
+                alloc,
+                self.tables.as_mut_slice(),
+                self.pending.as_mut_slice(),
+                epoch,
+            )?;
             self.last = epoch;
             self.pending = Vec::new(alloc);
             return Ok(());

@@ -1,5 +1,5 @@
 -- How the search for the quote that ends a text goes on.
-use Rattle.std.proofs.Common.{◌≡◌, ◌≢◌, ℕ, suc, ◌+◌, ◌<◌, List, [], ◌∷◌, length, get_or, drop, add-one, drop-cons, arith, refl, true, false, ◌++◌, ◌==◌, append_assoc}
+use Rattle.std.proofs.Common.{◌≡◌, ◌≢◌, ℕ, suc, ◌+◌, ◌<◌, List, [], ◌∷◌, length, get_or, drop, add-one, drop-cons, arith, refl, true, false, Bool, ◌&&◌, ◌++◌, ◌==◌, append_assoc}
 use Rattle.std.proofs.lemmas.Bool.Decides.{nat_tests}
 use Rattle.sql_words.specs.Bytes.{closing_quote, unquoted_behind}
 
@@ -29,9 +29,9 @@ past_twin_at text at within one two =
     cc
 
 -- what a text says goes on behind a quote's twin
-pub twin_on : (inner : List ℕ) (i : ℕ) → i < length inner → unquoted_behind true (drop i inner) ≡ unquoted_behind false (drop (i + 1) inner)
-twin_on inner i within = rw (drop-cons inner i 0, add-one) refl
+pub twin_on : (inner : List ℕ) (twin : Bool) (i : ℕ) → i < length inner → (twin && (get_or inner i 0 == 39)) ≡ true → unquoted_behind twin (drop i inner) ≡ unquoted_behind false (drop (i + 1) inner)
+twin_on inner twin i within second = rw (drop-cons inner i 0, add-one, second) refl
 
 -- and behind any other byte
-pub byte_on : (inner said : List ℕ) (i : ℕ) → i < length inner → said ++ unquoted_behind false (drop i inner) ≡ (said ++ get_or inner i 0 ∷ []) ++ unquoted_behind (get_or inner i 0 == 39) (drop (i + 1) inner)
-byte_on inner said i within = rw (drop-cons inner i 0, add-one, append_assoc) refl
+pub byte_on : (inner said : List ℕ) (twin : Bool) (i : ℕ) → i < length inner → (twin && (get_or inner i 0 == 39)) ≡ false → said ++ unquoted_behind twin (drop i inner) ≡ (said ++ get_or inner i 0 ∷ []) ++ unquoted_behind (get_or inner i 0 == 39) (drop (i + 1) inner)
+byte_on inner said twin i within other = rw (drop-cons inner i 0, add-one, append_assoc, other) refl

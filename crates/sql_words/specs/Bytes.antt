@@ -1,5 +1,5 @@
 -- Kinds of bytes, and the runs that a text is made of.
-use Rattle.std.specs.Prelude.{ℕ, ◌+◌, ◌-◌, ◌*◌, ◌==◌, ◌&&◌, ◌||◌, not, if◌then◌else◌, Bool, true, false, List, [], ◌∷◌, Option, Some, None, length, slice_index, fold, bytes_eq, take}
+use Rattle.std.specs.Prelude.{ℕ, ◌+◌, ◌-◌, ◌*◌, ◌==◌, ◌&&◌, ◌||◌, not, if◌then◌else◌, Bool, false, List, [], ◌∷◌, Option, Some, None, length, slice_index, fold, bytes_eq, take}
 use Rattle.std.specs.List.{prefix_len}
 use Rattle.std.specs.Char.{is_ascii_alphabetic, is_ascii_alphanumeric}
 
@@ -34,11 +34,10 @@ closing_quote at (b ∷ (c ∷ rest)) = if b == 39 then (if c == 39 then closing
 abbrev pub inner_size : List ℕ → Option ℕ
 inner_size inner = closing_quote 0 inner
 
--- what a text says: of two quotes in a row the second is left out (`skip`: the byte is the second of two)
+-- what a text says: of two quotes in a row the second is left out (`twin`: a quote was just read that is the first of two)
 abbrev pub unquoted_behind : Bool → List ℕ → List ℕ
-unquoted_behind skip [] = []
-unquoted_behind true (b ∷ rest) = unquoted_behind false rest
-unquoted_behind false (b ∷ rest) = b ∷ unquoted_behind (b == 39) rest
+unquoted_behind twin [] = []
+unquoted_behind twin (b ∷ rest) = if twin && (b == 39) then unquoted_behind false rest else b ∷ unquoted_behind (b == 39) rest
 
 -- what a text between its two quotes says, `''` read as one quote
 abbrev pub unquoted : List ℕ → List ℕ

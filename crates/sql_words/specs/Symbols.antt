@@ -1,5 +1,6 @@
 -- What tokens say: a token with the bytes of its span.
 use Rattle.std.specs.Prelude.{ℕ, ◌+◌, ◌-◌, List, map, ℤ, Some, None}
+use Rattle.std.specs.Str.{IsUtf8}
 use Rattle.std.specs.Char.{to_ascii_lowercase}
 use Rattle.sql_words.specs.declared.token.Key.{Key}
 use Rattle.sql_words.specs.declared.token.Sign.{Sign}
@@ -47,3 +48,16 @@ symbol_of text token = symbol_of_kind text (token.start, token.end) token.kind
 -- what the tokens of a text say, in order
 abbrev pub symbols_of : List ℕ → List Symbol
 symbols_of text = map (symbol_of text) (tokens_of text)
+
+-- what a token of a kind says is UTF-8, where it is a text
+abbrev pub IsUtf8Text : TokenKind → List ℕ → Type 0
+IsUtf8Text (TokenKind.Word key) says = Unit {0}
+IsUtf8Text (TokenKind.Int n) says = Unit {0}
+IsUtf8Text TokenKind.Text says = IsUtf8 says
+IsUtf8Text (TokenKind.Sign sign) says = Unit {0}
+IsUtf8Text (TokenKind.Back back) says = Unit {0}
+IsUtf8Text TokenKind.Bad says = Unit {0}
+
+-- the same of a token of a text
+abbrev pub SaysUtf8 : List ℕ → Token → Type 0
+SaysUtf8 text token = IsUtf8Text token.kind (text_at text (token.start, token.end))

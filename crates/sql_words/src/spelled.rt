@@ -1,7 +1,7 @@
 //! What a token says: the name of a name's span, the text of a text's span.
 #![tactic(auto)]
 
-ghost use Rattle.std.specs.Prelude.{◌≡◌, ◌≤◌, ◌<◌, length, IfOk};
+ghost use Rattle.std.specs.Prelude.{◌≡◌, ◌&&◌, ◌==◌, ◌≤◌, ◌<◌, length, IfOk};
 ghost use Rattle.sql_words.specs.Bytes.{unquoted};
 ghost use Rattle.sql_words.specs.Symbols.{name_at, text_at};
 
@@ -37,7 +37,7 @@ fn unquoted(alloc: Global, inner: &[u8]) -> Result<Vec<u8>, AllocError>
     let mut said = Vec::new(alloc);
     let mut is_twin = false;
     for b in inner {
-        if is_twin {
+        if is_second(is_twin, *b) {
             is_twin = false;
             continue;
         }
@@ -45,4 +45,11 @@ fn unquoted(alloc: Global, inner: &[u8]) -> Result<Vec<u8>, AllocError>
         is_twin = *b == b'\'';
     }
     Ok(said)
+}
+
+/// The byte is the second of two quotes.
+fn is_second(is_twin: bool, b: u8) -> bool
+    ensures { result ≡ (is_twin && (b == 39)) }
+{
+    is_twin && b == b'\''
 }

@@ -14,7 +14,10 @@ const TEXTS: [(&[u8], &[u8]); 44] = [
     (b"selects", b"Word(None) 0 7;"),
     (b"selec", b"Word(None) 0 5;"),
     (b"_a9 A_1", b"Word(None) 0 3;Word(None) 4 7;"),
-    (b"Get_Last_Good_Epoch", b"Word(Some(GetLastGoodEpoch)) 0 19;"),
+    (
+        b"Get_Last_Good_Epoch",
+        b"Word(Some(GetLastGoodEpoch)) 0 19;",
+    ),
     (
         b"do_tm_task block_dict",
         b"Word(Some(DoTmTask)) 0 10;Word(Some(BlockDict)) 11 21;",

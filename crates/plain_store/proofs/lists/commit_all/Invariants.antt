@@ -7,5 +7,5 @@ abbrev pub invariant-loop-changes : goal.invariant-loop-changes
 invariant-loop-changes l = record {
   rest : drop l.changes-index l.pending ≡ drop l.changes-index l.fn.pending;
   so_far : commit_changes l.epoch (map changes_of (drop l.changes-index l.fn.pending)) (map table_of l.tables)
-    ≡ commit_changes l.epoch (map changes_of l.fn.pending) (map table_of l.fn.tables);
+      ≡ commit_changes l.epoch (map changes_of l.fn.pending) (map table_of l.fn.tables);
 }

@@ -1,0 +1,7 @@
+use Rattle.std.proofs.Common.{◌≡◌, ◌≢◌, ◌↔◌, ◌+◌, ◌-◌, ◌*◌, ◌^◌, ◌<◌, ◌≤◌, ◌++◌, ℕ, None, map, drop, take, length, min, sum_by, fold}
+use Rattle.std.specs.List.{flat_map, All, Any}
+use Rattle.catalog_types.specs.Lists.{Pairwise, Ahead}
+use Rattle.catalog_types.proofs.catalogue.Catalogue.projection.Given as goal
+
+abbrev pub invariant-loop-k : goal.invariant-loop-k
+invariant-loop-k l = All (λ t. All (λ p. p.name ≢ l.name) t.projections) (take l.k l.self.tables)

@@ -1,0 +1,5 @@
+pub mod Codecs
+pub mod Vints
+pub mod Pushed
+pub mod Texts
+pub mod Widths

@@ -1,0 +1,5 @@
+pub mod Readings
+pub mod Classes
+pub mod Readers
+pub mod Gives
+pub mod Refusals
