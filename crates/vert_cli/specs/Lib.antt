@@ -1,0 +1,5 @@
+pub mod Words
+pub mod Statements
+pub mod Runs
+pub mod Ends
+pub mod OneText

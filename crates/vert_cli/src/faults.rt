@@ -1,0 +1,129 @@
+//! How a run and a statement end.
+#![tactic(auto)]
+
+ghost use Rattle.std.specs.Prelude.{◌≡◌, ◌||◌, is_some};
+ghost use Rattle.vert_cli.specs.Statements.{refusal_in, outcome_of};
+ghost use Rattle.vert_cli.specs.Ends.{code_of, status_of, status_of_open};
+
+use col_disk::StoreFault;
+use sql_tree::Refusal;
+
+/// How the program ends.
+#[derive(Debug, Clone, Copy, PartialEq, Eq)]
+pub enum Status {
+    /// Every statement was answered, and none was refused.
+    Done,
+    /// Every statement was answered, and some was refused.
+    Refused,
+    /// The words are not the program's name, DIR and SCRIPT.
+    Usage,
+    /// No file has the script's name.
+    NoScript,
+    /// The sink took no more.
+    SinkFault,
+    /// The disk failed.
+    DiskFault,
+    /// The file of this number is not what it has to be.
+    Damaged(u64),
+    /// There was no memory to go on.
+    Memory,
+    /// A file could not be read.
+    ReadFault,
+    /// The script has over 67,108,864 bytes or over 4,096 statements.
+    TooLarge,
+}
+
+impl Status {
+    /// The code that the program ends with: 0 to 9, in the order of the variants.
+    pub fn code(&self) -> u8
+        ensures { result ≡ code_of self.now }
+    {
+        match self {
+            Status::Done => 0,
+            Status::Refused => 1,
+            Status::Usage => 2,
+            Status::NoScript => 3,
+            Status::SinkFault => 4,
+            Status::DiskFault => 5,
+            Status::Damaged(_) => 6,
+            Status::Memory => 7,
+            Status::ReadFault => 8,
+            Status::TooLarge => 9,
+        }
+    }
+}
+
+/// What came of a statement.
+#[derive(Debug, Drop)]
+pub enum Outcome {
+    /// It did what it says.
+    Done,
+    /// It changed nothing, for this reason.
+    Refused(Refusal),
+}
+
+impl Outcome {
+    // The outcome of a statement that is refused for this reason, if there is one.
+    pub(crate) fn of(refusal: Option<Refusal>) -> Outcome
+        ensures { result ≡ outcome_of refusal }
+    {
+        match refusal {
+            None => Outcome::Done,
+            Some(why) => Outcome::Refused(why),
+        }
+    }
+
+    // Whether some statement was refused, up to this one.
+    pub(crate) fn adds_to(&self, refused: bool) -> bool
+        ensures { result ≡ (refused || is_some (refusal_in self.now)) }
+    {
+        match self {
+            Outcome::Done => refused,
+            Outcome::Refused(_) => true,
+        }
+    }
+}
+
+/// Why a run stopped at a statement.
+#[derive(Debug, Clone, Copy, PartialEq, Eq)]
+pub enum RunFault {
+    /// The sink took no more; the statement has taken effect.
+    Sink,
+    /// The disk failed.
+    Disk,
+    /// The file of this number is not what it has to be.
+    Damaged(u64),
+    /// There was no memory to go on.
+    Memory,
+    /// A file could not be read.
+    Read,
+    /// The disk failed at an earlier statement.
+    Halted,
+}
+
+impl RunFault {
+    // The status of a run that stops for this reason.
+    pub(crate) fn status(self) -> Status
+        ensures { result ≡ status_of self }
+    {
+        match self {
+            RunFault::Sink => Status::SinkFault,
+            RunFault::Disk => Status::DiskFault,
+            RunFault::Damaged(name) => Status::Damaged(name),
+            RunFault::Memory => Status::Memory,
+            RunFault::Read => Status::ReadFault,
+            RunFault::Halted => Status::DiskFault,
+        }
+    }
+}
+
+// The status of a run whose session did not open.
+pub(crate) fn status_of_open(fault: StoreFault) -> Status
+    ensures { result ≡ status_of_open fault }
+{
+    match fault {
+        StoreFault::Disk => Status::DiskFault,
+        StoreFault::Damaged(name) => Status::Damaged(name),
+        StoreFault::Memory => Status::Memory,
+    }
+}

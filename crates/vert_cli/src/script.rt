@@ -1,0 +1,88 @@
+//! A script's statements, run in order.
+#![tactic(auto)]
+
+ghost use Rattle.std.specs.Prelude.{◌≡◌, ◌≤◌, length, map, All, IfOk, IfErr, IsErrOf};
+ghost use Rattle.col_base.specs.Causes.{Rose};
+ghost use Rattle.sql_words.specs.Texts.{cut, LiesWithin};
+ghost use Rattle.vert_cli.specs.declared.faults.RunFault.TheVariants.{Sink as sink_failed};
+ghost use Rattle.vert_cli.specs.declared.faults.Status.TheVariants.{SinkFault as sink_fault};
+ghost use Rattle.vert_cli.specs.Runs.{RanWhole, RanPart};
+ghost use Rattle.vert_cli.specs.Ends.{ScriptEnds};
+
+use crate::faults::{RunFault, Status, status_of_open};
+use crate::session::Session;
+use col_disk::Disk;
+use col_io::{Files, Sink};
+use sql_words::split;
+use std::alloc::{AllocError, Global};
+
+// The most statements of a script.
+const MOST_STATEMENTS: usize = 4096;
+
+// Runs a script over no tables. It is too large where it has over 4,096 statements, and then none is run.
+pub(crate) fn run_script<F: Files, S: Sink, D: Disk>(
+    alloc: Global,
+    script: &[u8],
+    files: &mut F,
+    out: &mut S,
+    disk: &mut D,
+) -> Status
+    ensures ends { ScriptEnds result script.now (S.taken out.old) (S.taken out.new) }
+    ensures sink { result ≡ sink_fault → Rose (S.faults out.old) (S.faults out.new) }
+    ensures later { S.faults out.old ≤ S.faults out.new }
+    ensures files { files.new ≡ files.old }
+    ensures disk { disk.new ≡ disk.old }
+{
+    let spans = match split(alloc, script) {
+        Ok(spans) => spans,
+        Err(AllocError) => return Status::Memory,
+    };
+    if spans.len() > MOST_STATEMENTS {
+        return Status::TooLarge;
+    }
+    let mut session = match Session::open(alloc, disk) {
+        Ok(session) => session,
+        Err(fault) => return status_of_open(fault),
+    };
+    match run_spans(
+        alloc,
+        &mut session,
+        script,
+        spans.as_slice(),
+        files,
+        out,
+        disk,
+    ) {
+        Ok(true) => Status::Refused,
+        Ok(false) => Status::Done,
+        Err(fault) => fault.status(),
+    }
+}
+
+// Runs the texts of these spans of a script in order, and says whether some was refused.
+fn run_spans<F: Files, S: Sink, D: Disk>(
+    alloc: Global,
+    session: &mut Session,
+    script: &[u8],
+    spans: &[(usize, usize)],
+    files: &mut F,
+    out: &mut S,
+    disk: &mut D,
+) -> Result<bool, RunFault>
+    requires within { All (LiesWithin (length script.now)) spans.now }
+    ensures whole { IfOk result (λ refused. RanWhole session.old (map (cut script.now) spans.now) refused session.new (S.taken out.old) (S.taken out.new)) }
+    ensures part { IfErr result (λ fault. RanPart fault session.old (map (cut script.now) spans.now) (S.taken out.old) (S.taken out.new)) }
+    ensures sink { IsErrOf result sink_failed → Rose (S.faults out.old) (S.faults out.new) }
+    ensures later { S.faults out.old ≤ S.faults out.new }
+    ensures files { files.new ≡ files.old }
+    ensures disk { disk.new ≡ disk.old }
+{
+    let mut refused = false;
+    for span in spans {
+        match session.execute(alloc, &script[span.0..span.1], files, disk, out) {
+            Ok(outcome) => refused = outcome.adds_to(refused),
+            Err(fault) => return Err(fault),
+        }
+    }
+    Ok(refused)
+}

@@ -1,0 +1,41 @@
+//! One run over a script in memory.
+
+use col_disk::MemDisk;
+use col_io::{MemFiles, MemSink};
+use std::alloc::Global;
+use std::test::Fail;
+use vert_cli::{Status, run};
+
+/// What fails, and how much the sink takes at once.
+pub struct Trouble<'a> {
+    pub reads: &'a [u64],
+    pub writes: &'a [u64],
+    pub most: usize,
+}
+
+/// Nothing fails.
+pub const NONE: Trouble<'static> = Trouble {
+    reads: &[],
+    writes: &[],
+    most: 65_536,
+};
+
+/// These words, the program's name first.
+pub fn words(alloc: Global, all: &[&str]) -> Result<Vec<String>, Fail> {
+    let mut words = Vec::new(alloc);
+    for word in all {
+        words.push(String::from_str(alloc, word)?)?;
+    }
+    Ok(words)
+}
+
+/// `vert DIR s.sql`, where these bytes are the file `s.sql`: the status and the sink.
+pub fn ran(alloc: Global, script: &[u8], trouble: &Trouble) -> Result<(Status, MemSink), Fail> {
+    let words = words(alloc, &["vert", "DIR", "s.sql"])?;
+    let mut files = MemFiles::new(alloc, Vec::from_slice(alloc, trouble.reads)?);
+    files.put(alloc, "s.sql", Vec::from_slice(alloc, script)?)?;
+    let mut out = MemSink::new(alloc, trouble.most, Vec::from_slice(alloc, trouble.writes)?);
+    let mut disk = MemDisk::new(alloc);
+    let status = run(alloc, words.as_slice(), &mut files, &mut out, &mut disk);
+    Ok((status, out))
+}
