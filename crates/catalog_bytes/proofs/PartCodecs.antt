@@ -1,11 +1,5 @@
 -- The parts that are made of others, and the whole.
-use Rattle.std.proofs.Common.{◌≡◌, ℕ, suc, ◌+◌, ◌^◌, ◌<◌, ◌≤◌, Bool, true, false, cond, eqb, List, [], ◌∷◌, ◌++◌, length, take, drop, Option, Some, None, refl, sym, ap, subst, ◌∙◌, arith}
-use Rattle.std.specs.Prelude.{option_map, option_and_then}
-use Rattle.std.proofs.lemmas.Bool.{eqb-true}
-use Rattle.std.proofs.lemmas.List.{append-nil, nil_from_length, take-append-drop, take_at, drop_at}
-use Rattle.std.proofs.lemmas.Option.{option_and_then_some, cond_some}
-use Rattle.col_value.specs.declared.kinds.ColType.{ColType}
-use Rattle.col_value.specs.declared.kinds.Encoding.{Encoding}
+use Rattle.std.proofs.Common.{ℕ, ◌^◌, ◌<◌, List, ◌++◌, length, refl}
 use Rattle.catalog_types.specs.declared.catalogue.Column.{Column}
 use Rattle.catalog_types.specs.declared.catalogue.ProjColumn.{ProjColumn}
 use Rattle.catalog_types.specs.declared.catalogue.Container.{Container}
@@ -14,11 +8,11 @@ use Rattle.catalog_types.specs.declared.catalogue.Table.{Table}
 use Rattle.catalog_types.specs.declared.catalogue.Catalogue.{Catalogue}
 use Rattle.col_bytes.specs.Spellings.{vint, text}
 use Rattle.col_bytes.specs.Fronts.{vint_at, text_at}
-use Rattle.col_bytes.proofs.Codecs.{IsBytes, IsBytes-drop, Takes, IsCodec, some_is}
+use Rattle.col_bytes.proofs.Codecs.{IsCodec}
 use Rattle.col_bytes.proofs.Vints.{vint_codec}
 use Rattle.col_bytes.proofs.Texts.{text_codec}
 use Rattle.catalog_bytes.specs.Spelling.{flag, kind, encoding, counted, column, proj_column, marks, container, projection, table, FitsKind, FitsMarks, FitsList, FitsColumn, FitsProjColumn, FitsContainer, FitsProjection, FitsTable, Fits}
-use Rattle.catalog_bytes.specs.Fronts.{both, flag_at, narrow_at, kind_at, encoding_at, marks_at, counted_at, column_of, column_at, proj_column_of, proj_column_at, container_of, container_at, projection_of, projection_at, table_of, table_at, catalogue_of, catalogue_at}
+use Rattle.catalog_bytes.specs.Fronts.{flag_at, narrow_at, kind_at, encoding_at, marks_at, counted_at, column_of, column_at, proj_column_of, proj_column_at, container_of, container_at, projection_of, projection_at, table_of, table_at, catalogue_of, catalogue_at}
 use Rattle.catalog_bytes.proofs.Combine.{both_codec, made_codec, counted_codec}
 use Rattle.catalog_bytes.proofs.SmallCodecs.{flag_codec, narrow_codec, kind_codec, encoding_codec, marks_codec}
 

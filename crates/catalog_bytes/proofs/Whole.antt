@@ -1,5 +1,5 @@
 -- All of the bytes.
-use Rattle.std.proofs.Common.{◌≡◌, ℕ, suc, Bool, true, false, cond, eqb, List, [], ◌∷◌, ◌++◌, length, take, drop, Option, Some, None, refl, sym, ap, subst, ◌∙◌}
+use Rattle.std.proofs.Common.{◌≡◌, ℕ, eqb, List, [], ◌∷◌, ◌++◌, length, Option, Some, None, refl, sym, ap, subst, ◌∙◌}
 use Rattle.std.specs.Prelude.{option_and_then, IfSome, IfNone}
 use Rattle.std.proofs.lemmas.Bool.{eqb-true}
 use Rattle.std.proofs.lemmas.List.{append-nil, nil_from_length}
@@ -64,9 +64,9 @@ all_again c fits =
 pub same : (c d : Catalogue) → Fits c → Fits d → spelling c ≡ spelling d → c ≡ d
 same c d fc fd e = let both : ◌≡◌ {A = Option Catalogue} (Some c) (Some d) = sym (all_again c fc) ∙ ap all_of e ∙ all_again d fd in some_is c d both
 
-pub is_found : (bytes : List ℕ) (c : Catalogue) (r : Option Catalogue) → IsBytes bytes → all_of bytes ≡ Some c → IfValid c r → IfSome r (λ d. IsValid d × (bytes ≡ spelling d))
+pub is_found : (bytes : List ℕ) (c : Catalogue) (r : Option Catalogue) → IsBytes bytes → all_of bytes ≡ Some c → IfValid c r → IfSome r (λ d. IsValid d × Fits d × (bytes ≡ spelling d))
 is_found bytes c None are e h = tt
-is_found bytes c (Some d) are e h = subst (λ (x : Catalogue). IsValid x × (bytes ≡ spelling x)) (sym h.0) (h.1, (all_takes bytes c are e).0)
+is_found bytes c (Some d) are e h = let t = all_takes bytes c are e in subst (λ (x : Catalogue). IsValid x × Fits x × (bytes ≡ spelling x)) (sym h.0) (h.1, t.1, t.0)
 
 pub is_none : (bytes : List ℕ) (c : Catalogue) (r : Option Catalogue) → all_of bytes ≡ Some c → IfValid c r → IfNone r ((d : Catalogue) → IsValid d → Fits d → bytes ≡ spelling d → ⊥)
 is_none bytes c None e h = λ d valid fits is.

@@ -1,5 +1,5 @@
 -- Reading a part of a catalogue from the front of some bytes: the part, and the bytes behind it.
-use Rattle.std.specs.Prelude.{◌≡◌, ℕ, zero, suc, ◌^◌, Bool, true, false, List, [], ◌∷◌, length, take, drop, Option, Some, None, Result, Ok, Err, option_map, option_and_then, nat_lt, if◌then◌else◌, ◌==◌}
+use Rattle.std.specs.Prelude.{◌≡◌, ℕ, zero, suc, ◌^◌, Bool, true, false, List, [], ◌∷◌, length, Option, Some, None, Result, Ok, Err, option_map, option_and_then, nat_lt, if◌then◌else◌, ◌==◌}
 use Rattle.col_value.specs.declared.kinds.ColType.{ColType}
 use Rattle.col_value.specs.declared.kinds.ColType.TheVariants.{Integer, Varchar, Boolean}
 use Rattle.col_value.specs.declared.kinds.Encoding.{Encoding}
@@ -14,7 +14,6 @@ use Rattle.catalog_bytes.specs.declared.stop.Stop.{Stop}
 use Rattle.catalog_bytes.specs.declared.stop.Stop.TheVariants.{Memory, Malformed}
 use Rattle.col_bytes.specs.Fronts.{vint_at, text_at}
 use Rattle.catalog_types.specs.Valid.{IsValid}
-use Rattle.catalog_bytes.specs.Spelling.{head}
 
 -- what a function returned, seen by a view, is what reading gives, unless memory ran out
 abbrev pub Stops : {A : Type 0} → Stop → Option A → Type 0

@@ -1,5 +1,5 @@
 -- How a catalogue is spelled as bytes, and what has a spelling.
-use Rattle.std.specs.Prelude.{◌≡◌, ℕ, ◌+◌, ◌<◌, ◌≤◌, ◌^◌, Bool, true, false, List, [], ◌∷◌, ◌++◌, length, Option, Some, None, IfSome}
+use Rattle.std.specs.Prelude.{ℕ, ◌<◌, ◌≤◌, ◌^◌, Bool, true, false, List, [], ◌∷◌, ◌++◌, length, Option, Some, None}
 use Rattle.std.specs.List.{AllByRecursion, flat_map}
 use Rattle.col_value.specs.declared.kinds.ColType.{ColType}
 use Rattle.col_value.specs.declared.kinds.ColType.TheVariants.{Integer, Varchar, Boolean}

@@ -86,7 +86,7 @@ fn if_valid(c: Catalogue) -> Option<Catalogue>
 /// The valid catalogue that all of the bytes spell. None exactly where they spell no valid catalogue whose
 /// numbers fit their types.
 pub fn from_bytes(alloc: Global, bytes: &[u8]) -> Result<Option<Catalogue>, AllocError>
-    ensures found { IfOk result (λ r. IfSome r (λ c. IsValid c × (bytes.now ≡ spelling c))) }
+    ensures found { IfOk result (λ r. IfSome r (λ c. IsValid c × Fits c × (bytes.now ≡ spelling c))) }
     ensures none { IfOk result (λ r. IfNone r ((c : Logical) → IsValid c → Fits c → bytes.now ≡ spelling c → ⊥)) }
 {
     match all(alloc, bytes) {
