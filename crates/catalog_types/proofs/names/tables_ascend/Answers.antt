@@ -1,14 +1,9 @@
-use Rattle.std.proofs.Common.{◌≡◌, ◌≢◌, ◌↔◌, ℕ, List, ◌++◌, map, arith, length, get_or}
-use Rattle.std.specs.List.{flat_map, All}
-use Rattle.catalog_types.specs.declared.catalogue.Column.{Column}
-use Rattle.catalog_types.specs.declared.catalogue.ProjColumn.{ProjColumn}
-use Rattle.catalog_types.specs.declared.catalogue.Container.{Container}
-use Rattle.catalog_types.specs.declared.catalogue.Projection.{Projection}
+use Rattle.std.proofs.Common.{List, arith}
+use Rattle.std.specs.List.{All}
 use Rattle.catalog_types.specs.declared.catalogue.Table.{Table}
-use Rattle.catalog_types.specs.Lists.{Pairwise, Ahead}
-use Rattle.catalog_types.specs.Names.{IsBelow, names_of}
-use Rattle.catalog_types.proofs.Zeros.{no_column, no_container}
-use Rattle.catalog_types.proofs.Pairs.{refused, passed, ahead_append, pairs_ahead, read_again}
+use Rattle.catalog_types.specs.Lists.{Pairwise}
+use Rattle.catalog_types.specs.Names.{IsBelow}
+use Rattle.catalog_types.proofs.Pairs.{refused, passed}
 use Rattle.catalog_types.proofs.names.tables_ascend.Goals as goal
 
 pub returns-then-not-below_tables : goal.returns-then-not-below_tables

@@ -1,7 +1,6 @@
-use Rattle.std.proofs.Common.{◌≡◌, ◌≢◌, ◌↔◌, ◌+◌, ◌-◌, ◌*◌, ◌^◌, ◌<◌, ◌≤◌, ◌++◌, ℕ, None, map, drop, take, length, min, sum_by, fold}
-use Rattle.std.specs.List.{flat_map, All, Any}
-use Rattle.catalog_types.specs.Lists.{Pairwise, Ahead}
-use Rattle.catalog_types.specs.Names.{IsBelow, names_of}
+use Rattle.std.proofs.Common.{◌↔◌, drop}
+use Rattle.catalog_types.specs.Lists.{Pairwise}
+use Rattle.catalog_types.specs.Names.{IsBelow}
 use Rattle.catalog_types.proofs.names.tables_ascend.Given as goal
 
 abbrev pub invariant-loop-i : goal.invariant-loop-i

@@ -1,14 +1,10 @@
-use Rattle.std.proofs.Common.{◌≡◌, ◌≢◌, ◌↔◌, ℕ, List, ◌++◌, map, arith, length, get_or}
-use Rattle.std.specs.List.{flat_map, All}
-use Rattle.catalog_types.specs.declared.catalogue.Column.{Column}
-use Rattle.catalog_types.specs.declared.catalogue.ProjColumn.{ProjColumn}
+use Rattle.std.proofs.Common.{List, ◌++◌, arith, get_or}
+use Rattle.std.specs.List.{flat_map}
 use Rattle.catalog_types.specs.declared.catalogue.Container.{Container}
-use Rattle.catalog_types.specs.declared.catalogue.Projection.{Projection}
-use Rattle.catalog_types.specs.declared.catalogue.Table.{Table}
-use Rattle.catalog_types.specs.Lists.{Pairwise, Ahead}
-use Rattle.catalog_types.specs.Numbers.{container_spans, projection_spans, table_spans, AreApart, container_count, number_count}
-use Rattle.catalog_types.proofs.Zeros.{no_column, no_container}
-use Rattle.catalog_types.proofs.Pairs.{refused, passed, ahead_append, pairs_ahead, read_again}
+use Rattle.catalog_types.specs.Lists.{Ahead}
+use Rattle.catalog_types.specs.Numbers.{container_spans, projection_spans, table_spans, AreApart}
+use Rattle.catalog_types.proofs.Zeros.{no_container}
+use Rattle.catalog_types.proofs.Pairs.{refused, passed, ahead_append, read_again}
 use Rattle.catalog_types.proofs.numbers.containers_ahead.Goals as goal
 
 pub returns-then-not-container_ahead : goal.returns-then-not-container_ahead

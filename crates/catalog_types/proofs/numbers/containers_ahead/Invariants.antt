@@ -1,7 +1,7 @@
-use Rattle.std.proofs.Common.{◌≡◌, ◌≢◌, ◌↔◌, ◌+◌, ◌-◌, ◌*◌, ◌^◌, ◌<◌, ◌≤◌, ◌++◌, ℕ, None, map, drop, take, length, min, sum_by, fold}
-use Rattle.std.specs.List.{flat_map, All, Any}
-use Rattle.catalog_types.specs.Lists.{Pairwise, Ahead}
-use Rattle.catalog_types.specs.Numbers.{container_spans, projection_spans, table_spans, AreApart, container_count, number_count}
+use Rattle.std.proofs.Common.{◌↔◌, ◌++◌, drop}
+use Rattle.std.specs.List.{flat_map}
+use Rattle.catalog_types.specs.Lists.{Ahead}
+use Rattle.catalog_types.specs.Numbers.{container_spans, projection_spans, table_spans, AreApart}
 use Rattle.catalog_types.proofs.numbers.containers_ahead.Given as goal
 
 abbrev pub invariant-loop-i : goal.invariant-loop-i

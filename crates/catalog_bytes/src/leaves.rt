@@ -1,0 +1,144 @@
+//! The parts that are made of no others.
+
+ghost use Rattle.std.specs.Prelude.{◌≡◌, ◌++◌, ◌∷◌, [], OnOk};
+ghost use Rattle.col_bytes.specs.Spellings.{vint, text};
+ghost use Rattle.col_bytes.specs.Fronts.{vint_at, text_at};
+ghost use Rattle.catalog_bytes.specs.Spelling.{flag, kind, encoding, marks};
+ghost use Rattle.catalog_bytes.specs.Fronts.{Gives, flag_at, narrow_at, kind_at, encoding_at, marks_at};
+
+use crate::stop::Stop;
+use col_bytes::{put_vint, take_text, take_vint};
+use col_value::{ColType, Encoding, Name};
+use std::alloc::{AllocError, Global};
+
+pub fn put_flag(out: &mut Vec<u8>, b: bool) -> Result<(), AllocError>
+    ensures { OnOk result (out.new.items ≡ out.old.items ++ flag b) }
+{
+    out.push(if b { 1 } else { 0 })?;
+    Ok(())
+}
+
+pub fn put_kind(out: &mut Vec<u8>, k: ColType) -> Result<(), AllocError>
+    ensures { OnOk result (out.new.items ≡ out.old.items ++ kind k) }
+{
+    match k {
+        ColType::Integer => out.push(1)?,
+        ColType::Varchar(n) => {
+            out.push(2)?;
+            put_vint(out, u64::from(n))?;
+        }
+        ColType::Boolean => out.push(3)?,
+    }
+    Ok(())
+}
+
+fn tag_of(k: Encoding) -> u8
+    ensures { result ∷ [] ≡ encoding k }
+{
+    match k {
+        Encoding::Auto => 0,
+        Encoding::Rle => 1,
+        Encoding::DeltaVal => 2,
+        Encoding::BlockDict => 3,
+        Encoding::Plain => 4,
+    }
+}
+
+pub fn put_encoding(out: &mut Vec<u8>, k: Encoding) -> Result<(), AllocError>
+    ensures { OnOk result (out.new.items ≡ out.old.items ++ encoding k) }
+{
+    out.push(tag_of(k))?;
+    Ok(())
+}
+
+pub fn put_marks(out: &mut Vec<u8>, m: Option<u64>) -> Result<(), AllocError>
+    ensures { OnOk result (out.new.items ≡ out.old.items ++ marks m) }
+{
+    match m {
+        None => put_vint(out, 0),
+        Some(m) => put_vint(out, m),
+    }
+}
+
+pub fn flag_of(bytes: &[u8]) -> Result<(bool, &[u8]), Stop>
+    ensures { Gives (λ x. (x.0, x.1.now)) result (flag_at bytes.now) }
+{
+    match bytes {
+        [0, rest @ ..] => Ok((false, rest)),
+        [1, rest @ ..] => Ok((true, rest)),
+        _ => Err(Stop::Malformed),
+    }
+}
+
+pub fn number_of(bytes: &[u8]) -> Result<(u64, &[u8]), Stop>
+    ensures { Gives (λ x. (x.0, x.1.now)) result (vint_at bytes.now) }
+{
+    match take_vint(bytes) {
+        Some((n, len)) => Ok((n, bytes.split_at(len).1)),
+        None => Err(Stop::Malformed),
+    }
+}
+
+#[tactic(auto, unfolding(crate::specs::Fronts::narrow_at))]
+pub fn narrow_of(bytes: &[u8]) -> Result<(u32, &[u8]), Stop>
+    ensures { Gives (λ x. (x.0, x.1.now)) result (narrow_at bytes.now) }
+{
+    let (n, rest) = number_of(bytes)?;
+    if n < 1 << 32 {
+        Ok((n as u32, rest))
+    } else {
+        Err(Stop::Malformed)
+    }
+}
+
+#[tactic(auto, unfolding(crate::specs::Fronts::kind_at))]
+pub fn kind_of(bytes: &[u8]) -> Result<(ColType, &[u8]), Stop>
+    ensures { Gives (λ x. (x.0, x.1.now)) result (kind_at bytes.now) }
+{
+    match bytes {
+        [1, rest @ ..] => Ok((ColType::Integer, rest)),
+        [2, rest @ ..] => {
+            let (n, rest) = narrow_of(rest)?;
+            Ok((ColType::Varchar(n), rest))
+        }
+        [3, rest @ ..] => Ok((ColType::Boolean, rest)),
+        _ => Err(Stop::Malformed),
+    }
+}
+
+#[tactic(auto, unfolding(crate::specs::Fronts::encoding_at))]
+pub fn encoding_of(bytes: &[u8]) -> Result<(Encoding, &[u8]), Stop>
+    ensures { Gives (λ x. (x.0, x.1.now)) result (encoding_at bytes.now) }
+{
+    match bytes {
+        [0, rest @ ..] => Ok((Encoding::Auto, rest)),
+        [1, rest @ ..] => Ok((Encoding::Rle, rest)),
+        [2, rest @ ..] => Ok((Encoding::DeltaVal, rest)),
+        [3, rest @ ..] => Ok((Encoding::BlockDict, rest)),
+        [4, rest @ ..] => Ok((Encoding::Plain, rest)),
+        _ => Err(Stop::Malformed),
+    }
+}
+
+pub fn marks_of(bytes: &[u8]) -> Result<(Option<u64>, &[u8]), Stop>
+    ensures { Gives (λ x. (x.0, x.1.now)) result (marks_at bytes.now) }
+{
+    let (n, rest) = number_of(bytes)?;
+    if n == 0 {
+        Ok((None, rest))
+    } else {
+        Ok((Some(n), rest))
+    }
+}
+
+pub fn name_of(alloc: Global, bytes: &[u8]) -> Result<(Name, &[u8]), Stop>
+    ensures { Gives (λ x. (x.0, x.1.now)) result (text_at bytes.now) }
+{
+    match take_text(bytes) {
+        Some((t, len)) => {
+            let name = Name::new(Vec::from_slice(alloc, t)?);
+            Ok((name, bytes.split_at(len).1))
+        }
+        None => Err(Stop::Malformed),
+    }
+}
