@@ -1,6 +1,6 @@
 -- Codecs that are put together of others.
 use Rattle.std.proofs.Common.{◌≡◌, ℕ, zero, suc, List, [], ◌∷◌, ◌++◌, length, Option, Some, None, refl, sym, ap, subst, ◌∙◌, append_assoc}
-use Rattle.std.specs.Prelude.{option_map, option_and_then}
+use Rattle.std.specs.Prelude.{option_map}
 use Rattle.std.specs.List.{AllByRecursion, flat_map}
 use Rattle.std.proofs.lemmas.Option.{option_and_then_some}
 use Rattle.col_bytes.proofs.Codecs.{IsBytes, Takes, Takes-then, IsCodec, some_is}

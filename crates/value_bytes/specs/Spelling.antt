@@ -1,5 +1,5 @@
 -- How a value is spelled as bytes, and which values have a spelling.
-use Rattle.std.specs.Prelude.{ℕ, ℤ, Bool, true, false, List, [], ◌∷◌, ◌++◌, length}
+use Rattle.std.specs.Prelude.{ℕ, ℤ, true, false, List, [], ◌∷◌, ◌++◌, length}
 use Rattle.std.specs.Str.{IsUtf8}
 use Rattle.col_bytes.specs.Spellings.{be4, be8}
 use Rattle.col_value.specs.Order.{IsValue}

@@ -13,7 +13,7 @@ mod stop;
 mod take;
 
 pub use laws::{one_form, read_again};
-pub use put::put_value;
+pub use put::{is_value, put_value};
 pub use stop::Stop;
 pub use take::{read_value, take_value};
 

@@ -1,10 +1,22 @@
-ghost use Rattle.std.specs.Prelude.{◌≡◌, ◌≤◌, ◌++◌, length, take, OnOk, OnErr};
+ghost use Rattle.std.specs.Prelude.{◌≡◌, ◌↔◌, IsTrue, ◌≤◌, ◌++◌, length, take, OnOk, OnErr};
 ghost use Rattle.col_value.specs.Order.{IsValue};
 ghost use Rattle.value_bytes.specs.Spelling.{spelling, number_spelling, text_spelling};
 
 use col_bytes::{put_be4, put_be8};
 use col_value::Value;
 use std::alloc::AllocError;
+
+/// Whether it is a value of a table: no number is -2^63, and no text has more than 65,000 bytes.
+pub fn is_value(value: &Value) -> bool
+    ensures { IsTrue result ↔ IsValue value.now }
+{
+    match value {
+        Value::Null => true,
+        Value::Bool(_) => true,
+        Value::Int(n) => *n > i64::MIN,
+        Value::Text(t) => t.as_bytes().len() <= 65_000,
+    }
+}
 
 /// Appends a text: the byte 02, its length and its bytes. After a refusal a part of them may stand there.
 fn push_text(out: &mut Vec<u8>, text: &[u8]) -> Result<(), AllocError>

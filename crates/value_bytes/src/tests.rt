@@ -23,6 +23,7 @@ fn worked_values(rt: HostRuntime) -> Result<(), AllocError> {
     for (value, bytes) in &cases {
         let mut out = Vec::new(alloc);
         out.push(9)?;
+        assert!(rt; is_value(value));
         put_value(&mut out, value)?;
         assert_eq!(rt; &out.as_slice()[1..], *bytes);
         out.push(9)?;
@@ -50,6 +51,7 @@ fn malformed_values(rt: HostRuntime) -> Result<(), AllocError> {
         &[2, 0, 0, 0, 2, 0xc3, 97],
         &[2, 0, 0, 0, 3, 0xed, 0xa0, 0x80],
     ];
+    assert!(rt; !is_value(&Value::Int(i64::MIN)));
     for bytes in cases {
         assert!(rt; take_value(rt.alloc(), bytes)?.is_none(), "at {bytes:?}");
     }
