@@ -7,7 +7,7 @@ use Rattle.col_value.specs.declared.row.Asked.{Asked}
 use Rattle.col_value.specs.declared.row.Stamped.{Stamped}
 use Rattle.col_value.specs.Order.{widened}
 use Rattle.db_model.specs.Database.{visible}
-use Rattle.db_model.specs.State.{Changes, pending_rows, pending_deletes, session_view, without}
+use Rattle.db_model.specs.State.{pending_rows, pending_deletes, session_view, without}
 use Rattle.db_model.specs.Answers.{column_rows, value_at}
 use Rattle.plain_store.specs.declared.table.Table.{Table}
 use Rattle.plain_store.specs.declared.table.Pending.{Pending}

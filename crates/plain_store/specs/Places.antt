@@ -3,7 +3,7 @@ use Rattle.std.specs.Prelude.{◌≡◌, ℕ, ◌+◌, ◌<◌, List, [], ◌∷
 use Rattle.std.specs.List.{slice_index_or}
 use Rattle.col_value.specs.declared.value.Value.{Value}
 use Rattle.db_model.specs.Database as model
-use Rattle.db_model.specs.State.{Changes, with_rows, joined, change_named}
+use Rattle.db_model.specs.State.{with_rows, joined, change_named}
 use Rattle.plain_store.specs.declared.table.Table.{Table}
 use Rattle.plain_store.specs.declared.table.Pending.{Pending}
 use Rattle.plain_store.specs.Views.{table_of, changes_of}

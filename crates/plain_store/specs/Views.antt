@@ -1,9 +1,8 @@
 -- What the tables in memory stand for.
-use Rattle.std.specs.Prelude.{ℕ, Bool, true, false, List, [], ◌∷◌, ◌++◌, map}
+use Rattle.std.specs.Prelude.{ℕ, true, false, List, [], ◌∷◌, ◌++◌, map}
 use Rattle.std.specs.List.{enumerate_from}
 use Rattle.col_value.specs.declared.value.Value.{Value}
 use Rattle.col_value.specs.declared.kinds.Encoding.{Encoding}
-use Rattle.sql_tree.specs.declared.statement.NewColumn.{NewColumn}
 use Rattle.db_model.specs.Database.{Shape, Database}
 use Rattle.db_model.specs.Database as model
 use Rattle.db_model.specs.State.{State, Changes, inserted_at}

@@ -1,5 +1,5 @@
 -- Which symbols spell which statement: one line for each production.
-use Rattle.std.specs.Prelude.{ℕ, ℤ, pos, negsuc, neg_ℤ, List, [], ◌∷◌, Option, Some, None, true, false}
+use Rattle.std.specs.Prelude.{ℕ, ℤ, pos, negsuc, neg_ℤ, List, [], ◌∷◌, Option, Some, None, false}
 use Rattle.col_value.specs.declared.wide.Wide.{Wide}
 use Rattle.col_value.specs.declared.kinds.ColType.{ColType}
 use Rattle.sql_words.specs.declared.token.Key.{Key}

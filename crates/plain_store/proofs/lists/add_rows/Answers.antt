@@ -1,4 +1,4 @@
-use Rattle.std.proofs.Common.{◌≡◌, List, subst, rules}
+use Rattle.std.proofs.Common.{List, subst, rules}
 use Rattle.std.proofs.lemmas.Result.{on_ok_weaker}
 use Rattle.plain_store.specs.declared.table.Pending.{Pending}
 use Rattle.plain_store.specs.Places.{StandsAt}

@@ -1,4 +1,4 @@
-use Rattle.std.proofs.Common.{◌≡◌, ◌++◌, map, take, drop}
+use Rattle.std.proofs.Common.{◌≡◌, map, drop}
 use Rattle.db_model.specs.State.{commit_changes}
 use Rattle.plain_store.specs.Views.{table_of, changes_of}
 use Rattle.plain_store.proofs.lists.commit_all.Given as goal

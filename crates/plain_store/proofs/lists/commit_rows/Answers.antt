@@ -1,4 +1,4 @@
-use Rattle.std.proofs.Common.{◌≡◌, rules}
+use Rattle.std.proofs.Common.{rules}
 use Rattle.std.proofs.lemmas.Result.{on_ok_weaker}
 use Rattle.plain_store.specs.Views.{with_committed}
 use Rattle.plain_store.proofs.Places.{table_changed}

@@ -1,4 +1,4 @@
-use Rattle.std.proofs.Common.{◌≡◌, rules}
+use Rattle.std.proofs.Common.{rules}
 use Rattle.plain_store.proofs.refusing.place_in.Goals as goal
 
 pub returns-in-Some-Some : goal.returns-in-Some-Some
