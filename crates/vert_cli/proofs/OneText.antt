@@ -11,8 +11,8 @@ use Rattle.sql_tree.specs.declared.refusal.Refusal.{Refusal}
 use Rattle.sql_tree.specs.Spells.{Spells}
 use Rattle.db_model.specs.State.{State, empty_state}
 use Rattle.db_model.specs.Answers.{IsListing, listing_text}
-use Rattle.db_model.specs.Step.{Step, Reads, Prints, Effect, refusal_of, after}
-use Rattle.db_model.specs.Run.{RunTexts, Run}
+use Rattle.db_model.specs.Step.{Step, Reads, Prints, Effect, refusal_of}
+use Rattle.db_model.specs.Run.{RunTexts}
 use Rattle.sql_words.specs.Texts.{statement_texts}
 use Rattle.vert_cli.specs.OneText.{HasOneText}
 

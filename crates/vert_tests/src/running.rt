@@ -7,6 +7,7 @@ use std::test::Fail;
 use vert_cli::{Status, run};
 
 /// What fails, and how much the sink takes at once.
+#[derive(Drop)]
 pub struct Trouble<'a> {
     pub reads: &'a [u64],
     pub writes: &'a [u64],
