@@ -31,7 +31,7 @@ column_rows place rows = map (λ row. widened (value_at place row) ∷ []) rows
 abbrev pub output_rows : At → Query → State → List (List Wide)
 output_rows at q state =
     option_map_or (λ place. option_map_or (λ t. column_rows place (rows_at at state.database.last (own_changes state) t)) (source_table q state.database.tables) [])
-        (plain_place q state.database.tables) []
+    (plain_place q state.database.tables) []
 
 -- a list of rows in the printed order: ascending
 pub record IsListing (rows listed : List (List Wide)) : Type 0 where

@@ -29,9 +29,14 @@ pub record State : Type 0 where
 -- no tables, nothing pending
 abbrev pub empty_state : State
 empty_state = record {
-    database = record { tables = []; last = 0; ahm = 0 };
-    sessions = [] ∷ [] ∷ [] ∷ [] ∷ [] ∷ [] ∷ [] ∷ [] ∷ [];
-    current = 1; asked = []; next = 1; busy = 0; parts = 0 }
+  database = record { tables = []; last = 0; ahm = 0 };
+  sessions = [] ∷ [] ∷ [] ∷ [] ∷ [] ∷ [] ∷ [] ∷ [] ∷ [];
+  current = 1;
+  asked = [];
+  next = 1;
+  busy = 0;
+  parts = 0;
+}
 
 -- the changes of the current session
 abbrev pub own_changes : State → List Changes

@@ -46,10 +46,12 @@ refusal_of state (Some s) = if is_in_form state s then served_refusal state s el
 -- the projection that CREATE TABLE makes: all columns in order, sorted by all, encoded as is shortest
 abbrev pub super_shape : List ℕ → List NewColumn → ℕ → Shape
 super_shape name columns last = record {
-    name = super_name name;
-    columns = map (λ e. (e.0, Encoding.Auto)) (enumerate_from 0 columns);
-    sort = map (λ e. e.0) (enumerate_from 0 columns);
-    fresh = true; lge = last }
+  name = super_name name;
+  columns = map (λ e. (e.0, Encoding.Auto)) (enumerate_from 0 columns);
+  sort = map (λ e. e.0) (enumerate_from 0 columns);
+  fresh = true;
+  lge = last;
+}
 
 -- a table without rows
 abbrev pub new_table : List ℕ → List NewColumn → ℕ → Table
