@@ -1,7 +1,6 @@
 -- What was read is the index that the bytes are, or they are none.
-use Rattle.std.proofs.Common.{◌≡◌, ℕ, List, Option, Some, None, refl, sym, ap, subst, ◌∙◌}
+use Rattle.std.proofs.Common.{◌≡◌, ℕ, List, Some, None, ap, ◌∙◌}
 use Rattle.col_file.specs.declared.index.PosIndex.{PosIndex}
-use Rattle.col_file.specs.Index.{index_spelling, IsIndex, Fits}
 use Rattle.col_file.specs.Read.{SpellsIndex}
 use Rattle.col_file.specs.Fronts.{index_of}
 use Rattle.col_file.proofs.Parts.{index_again}

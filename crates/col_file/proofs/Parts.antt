@@ -1,19 +1,19 @@
 -- The blocks and the index that are read are those that were spelled.
-use Rattle.std.proofs.Common.{◌≡◌, ℕ, suc, ◌+◌, ◌^◌, ◌<◌, ◌≤◌, Bool, true, false, cond, eqb, ltb, List, [], ◌∷◌, ◌++◌, length, Option, Some, None, refl, sym, ap, subst, ◌∙◌, arith, inl, inr}
-use Rattle.std.specs.Prelude.{option_map, option_and_then, nat_lt, ◌&&◌, ◌||◌, ◌==◌, Result, Ok, Err, IfOk, IfSome, IfNone, Vec}
+use Rattle.std.proofs.Common.{◌≡◌, ℕ, ◌^◌, ◌<◌, ◌≤◌, Bool, true, false, cond, eqb, ltb, List, [], ◌∷◌, ◌++◌, length, Option, Some, None, refl, sym, ap, subst, ◌∙◌, arith}
+use Rattle.std.specs.Prelude.{option_and_then, ◌&&◌, ◌||◌, Result, Ok, Err, IfOk, IfSome, IfNone, Vec}
 use Rattle.std.specs.declared.alloc.AllocError.{AllocError}
 use Rattle.std.specs.declared.alloc.Global.{Global}
-use Rattle.std.specs.List.{AllByRecursion, flat_map}
-use Rattle.std.proofs.lemmas.Bool.{cases_Bool, eqb-true, ltb-false, ltb-true, lt-ltb, le-ltb}
+use Rattle.std.specs.List.{flat_map}
+use Rattle.std.proofs.lemmas.Bool.{eqb-true, ltb-false, le-ltb}
 use Rattle.std.proofs.lemmas.List.{append-nil, nil_from_length}
 use Rattle.std.proofs.lemmas.Option.{option_and_then_some, cond_some}
 use Rattle.col_bytes.specs.Spellings.{vint}
 use Rattle.col_bytes.specs.Fronts.{vint_at}
-use Rattle.col_bytes.proofs.Codecs.{IsBytes, IsBytes-rest, Takes, Takes-then, IsCodec, some_is}
+use Rattle.col_bytes.proofs.Codecs.{IsBytes, IsBytes-rest, Takes, Takes-then, IsCodec}
 use Rattle.col_bytes.proofs.Vints.{vint_codec}
 use Rattle.col_value.specs.declared.value.Value.{Value}
 use Rattle.value_bytes.specs.Spelling.{spelling, IsSpelled}
-use Rattle.value_bytes.specs.Fronts.{both, made, many, value_at}
+use Rattle.value_bytes.specs.Fronts.{many, value_at}
 use Rattle.value_bytes.proofs.Values.{value_codec}
 use Rattle.value_bytes.proofs.Combine.{map_some, both_codec, made_codec, many_takes, many_again}
 use Rattle.col_file.specs.declared.index.Entry.{Entry}
@@ -53,29 +53,30 @@ unfolding values_at counted
 values_take bytes x fits e =
     option_and_then_some so_many (vint_at bytes) x e
     (λ n is h.
-        let first = vint_codec.takes bytes n fits is in
-        let g = passed (ltb n.0 1 || ltb 1024 n.0) (many value_at n.0 n.1) x h in
-        let o = or_false (ltb n.0 1) (ltb 1024 n.0) g.0 in
-        let low : 1 ≤ n.0 = ltb-false n.0 1 o.0 in
-        let high : n.0 ≤ 1024 = ltb-false 1024 n.0 o.1 in
-        let second = many_takes spelling IsSpelled value_at value_codec n.0 n.1 x first.0.rest_fits g.1 in
-        let whole = Takes-then bytes (vint n.0) n.1 (flat_map spelling x.0) x.1 first.0 second.0 in
-        (subst (λ (k : ℕ). Takes bytes (vint k ++ flat_map spelling x.0) x.1) (sym second.1) whole,
-         record { some = omega (arith, low, second.1); few = omega (arith, high, second.1); values = second.2 }))
+    let first = vint_codec.takes bytes n fits is in
+    let g = passed (ltb n.0 1 || ltb 1024 n.0) (many value_at n.0 n.1) x h in
+    let o = or_false (ltb n.0 1) (ltb 1024 n.0) g.0 in
+    let low : 1 ≤ n.0 = ltb-false n.0 1 o.0 in
+    let high : n.0 ≤ 1024 = ltb-false 1024 n.0 o.1 in
+    let second = many_takes spelling IsSpelled value_at value_codec n.0 n.1 x first.0.rest_fits g.1 in
+    let whole = Takes-then bytes (vint n.0) n.1 (flat_map spelling x.0) x.1 first.0 second.0 in (
+      subst (λ (k : ℕ). Takes bytes (vint k ++ flat_map spelling x.0) x.1) (sym second.1) whole,
+      record { some = omega (arith, low, second.1); few = omega (arith, high, second.1); values = second.2 },
+    ))
 
 pub plain_takes : (bytes : List ℕ) (vs : List Value) → IsBytes bytes → plain_of bytes ≡ Some vs → IsPlain vs × (bytes ≡ plain vs)
 unfolding plain_of counted
 plain_takes bytes vs fits e =
     option_and_then_some ended (option_and_then values_at (tagged_at bytes)) vs e
     (λ x is done.
-        option_and_then_some values_at (tagged_at bytes) x is
-        (λ rest tag read.
-            let one = tagged_takes bytes rest fits tag in
-            let two = values_take rest x one.rest_fits read in
-            let g = cond_some (eqb (length x.1) 0) x.0 vs done in
-            let nothing : x.1 ≡ [] = nil_from_length x.1 (eqb-true _ _ g.0) in
-            let behind : rest ≡ counted x.0 = two.0.parts ∙ ap (λ (r : List ℕ). counted x.0 ++ r) nothing ∙ append-nil (counted x.0) in
-            subst (λ (us : List Value). IsPlain us × (bytes ≡ plain us)) g.1 (two.1, one.parts ∙ ap (λ (r : List ℕ). 4 ∷ r) behind)))
+    option_and_then_some values_at (tagged_at bytes) x is
+    (λ rest tag read.
+    let one = tagged_takes bytes rest fits tag in
+    let two = values_take rest x one.rest_fits read in
+    let g = cond_some (eqb (length x.1) 0) x.0 vs done in
+    let nothing : x.1 ≡ [] = nil_from_length x.1 (eqb-true _ _ g.0) in
+    let behind : rest ≡ counted x.0 = two.0.parts ∙ ap (λ (r : List ℕ). counted x.0 ++ r) nothing ∙ append-nil (counted x.0) in
+    subst (λ (us : List Value). IsPlain us × (bytes ≡ plain us)) g.1 (two.1, one.parts ∙ ap (λ (r : List ℕ). 4 ∷ r) behind)))
 
 values_again : (vs : List Value) → IsPlain vs → values_at (counted vs) ≡ Some (vs, [])
 unfolding values_at counted
@@ -117,26 +118,26 @@ unfolding index_at
 index_front_takes bytes x fits e =
     option_and_then_some made_index (vint_at bytes) x e
     (λ n is h.
-        let first = vint_codec.takes bytes n fits is in
-        let m = map_some (λ (es : List Entry × List ℕ). (record { rows = n.0; entries = es.0 }, es.1)) (many entry_at (blocks n.0) n.1) x h in
-        let second = many_takes entry_spelling FitsEntry entry_at entry_codec (blocks n.0) n.1 m.0 first.0.rest_fits m.1 in
-        let whole = Takes-then bytes (vint n.0) n.1 (flat_map entry_spelling m.0.0) m.0.1 first.0 second.0 in
-        subst (λ (y : PosIndex × List ℕ). Takes bytes (index_spelling y.0) y.1 × Fits y.0) m.2 (whole, record { rows = first.1; entries = second.2 }))
+    let first = vint_codec.takes bytes n fits is in
+    let m = map_some (λ (es : List Entry × List ℕ). (record { rows = n.0; entries = es.0 }, es.1)) (many entry_at (blocks n.0) n.1) x h in
+    let second = many_takes entry_spelling FitsEntry entry_at entry_codec (blocks n.0) n.1 m.0 first.0.rest_fits m.1 in
+    let whole = Takes-then bytes (vint n.0) n.1 (flat_map entry_spelling m.0.0) m.0.1 first.0 second.0 in
+    subst (λ (y : PosIndex × List ℕ). Takes bytes (index_spelling y.0) y.1 × Fits y.0) m.2 (whole, record { rows = first.1; entries = second.2 }))
 
 pub index_takes : (bytes : List ℕ) (x : PosIndex) → IsBytes bytes → index_of bytes ≡ Some x → (IsIndex x × (bytes ≡ index_spelling x)) × Fits x
 unfolding index_of
 index_takes bytes x fits e =
     option_and_then_some tested (option_and_then ended (index_at bytes)) x e
     (λ y was test.
-        option_and_then_some ended (index_at bytes) y was
-        (λ z is done.
-            let one = index_front_takes bytes z fits is in
-            let g = cond_some (eqb (length z.1) 0) z.0 y done in
-            let nothing : z.1 ≡ [] = nil_from_length z.1 (eqb-true _ _ g.0) in
-            let all : bytes ≡ index_spelling z.0 = one.0.parts ∙ ap (λ (r : List ℕ). index_spelling z.0 ++ r) nothing ∙ append-nil (index_spelling z.0) in
-            let there = subst (λ (w : PosIndex). (bytes ≡ index_spelling w) × Fits w) g.1 (all, one.1) in
-            let t = cond_some (is_index y) y x test in
-            subst (λ (w : PosIndex). (IsIndex w × (bytes ≡ index_spelling w)) × Fits w) t.1 ((t.0, there.0), there.1)))
+    option_and_then_some ended (index_at bytes) y was
+    (λ z is done.
+    let one = index_front_takes bytes z fits is in
+    let g = cond_some (eqb (length z.1) 0) z.0 y done in
+    let nothing : z.1 ≡ [] = nil_from_length z.1 (eqb-true _ _ g.0) in
+    let all : bytes ≡ index_spelling z.0 = one.0.parts ∙ ap (λ (r : List ℕ). index_spelling z.0 ++ r) nothing ∙ append-nil (index_spelling z.0) in
+    let there = subst (λ (w : PosIndex). (bytes ≡ index_spelling w) × Fits w) g.1 (all, one.1) in
+    let t = cond_some (is_index y) y x test in
+    subst (λ (w : PosIndex). (IsIndex w × (bytes ≡ index_spelling w)) × Fits w) t.1 ((t.0, there.0), there.1)))
 
 index_front_again : (x : PosIndex) → Fits x → length x.entries ≡ blocks x.rows → index_at (index_spelling x) ≡ Some (x, [])
 unfolding index_at

@@ -1,6 +1,6 @@
 -- Reading parts one after the other, as a loop does.
 use Rattle.std.proofs.Common.{◌≡◌, ℕ, suc, ◌-◌, ◌+◌, ◌≤◌, ◌<◌, List, [], ◌∷◌, ◌++◌, Option, Some, None, refl, sym, ap, ◌∙◌, append_assoc, arith}
-use Rattle.std.specs.Prelude.{option_map, option_and_then}
+use Rattle.std.specs.Prelude.{option_map}
 use Rattle.std.proofs.lemmas.List.{append-nil}
 use Rattle.value_bytes.specs.declared.stop.Stop.{Stop}
 use Rattle.value_bytes.specs.declared.stop.Stop.TheVariants.{Memory, Malformed}

@@ -1,6 +1,8 @@
 -- The bytes of the first blocks, one block more.
-use Rattle.std.proofs.Common.{◌≡◌, ℕ, suc, ◌+◌, ◌*◌, ◌≤◌, List, [], ◌∷◌, ◌++◌, length, take, drop, Option, Some, None, refl, sym, ap, ◌∙◌, arith}
-use Rattle.std.specs.List.{flat_map}
+use Rattle.std.proofs.Common.{◌<◌, get_or, subst, ◌≡◌, ℕ, suc, ◌+◌, ◌≤◌, List, [], ◌∷◌, ◌++◌, length, take, Option, Some, None, sym, ap, ◌∙◌, arith}
+use Rattle.std.specs.List.{All, flat_map}
+use Rattle.std.proofs.lemmas.List.Elements.{All-more}
+use Rattle.col_value.specs.Order.{IsValue}
 use Rattle.std.specs.Prelude.{Result, Ok, Err, OnOk, option_map}
 use Rattle.std.specs.FinMap.{get, insert}
 use Rattle.col_base.specs.Maps.{Contents}
@@ -44,9 +46,10 @@ both_there None mid new body index bb ib apart first second m told =
     absurd (cc)
 both_there (Some m0) mid new body index bb ib apart first second m told =
     let now : new ≡ Some (insert (insert m0 body bb) index ib) = second ∙ ap (option_map (λ (c : Contents). insert c index ib)) first in
-    let is : m ≡ insert (insert m0 body bb) index ib = some_is m (insert (insert m0 body bb) index ib) (sym told ∙ now) in
-    (ap (λ (c : Contents). get c body) is ∙ insert_elsewhere (insert m0 body bb) index ib body apart ∙ insert_there m0 body bb,
-     ap (λ (c : Contents). get c index) is ∙ insert_there (insert m0 body bb) index ib)
+    let is : m ≡ insert (insert m0 body bb) index ib = some_is m (insert (insert m0 body bb) index ib) (sym told ∙ now) in (
+      ap (λ (c : Contents). get c body) is ∙ insert_elsewhere (insert m0 body bb) index ib body apart ∙ insert_there m0 body bb,
+      ap (λ (c : Contents). get c index) is ∙ insert_there (insert m0 body bb) index ib,
+    )
 
 pub column_there : (old mid new : Option Contents) (body index : ℕ) (bb ib : List ℕ) (vs : List Value) (r : Result (Unit {0}) DiskFault) → (body ≡ index → ⊥)
     → bb ≡ body_spelling vs → ib ≡ index_spelling (column_index vs) → mid ≡ option_map (λ m. insert m body bb) old → WriteLeaves index ib mid new r → OnOk r (IsColumn body index vs new)
@@ -55,3 +58,11 @@ column_there old mid new body index bb ib vs (Ok done) apart eb ei first second 
   blocks_file = λ m told. (both_there old mid new body index bb ib apart first second m told).0 ∙ ap (λ (b : List ℕ). Some b) eb;
   index_file = λ m told. (both_there old mid new body index bb ib apart first second m told).1 ∙ ap (λ (b : List ℕ). Some b) ei;
 }
+
+-- ---- values of a table
+
+pub values_more : (vs : List Value) (i : ℕ) (v : Value) → i < length vs → v ≡ get_or vs i v → IsValue v → All IsValue (take i vs) → All IsValue (take (i + 1) vs)
+values_more vs i v lt is ok so_far = All-more IsValue vs i v lt so_far (subst IsValue is ok)
+
+pub values_all : (vs : List Value) (i : ℕ) → length vs ≤ i → All IsValue (take i vs) → All IsValue vs
+values_all vs i le so_far = subst (All IsValue) (take_all i vs le) so_far

@@ -147,7 +147,7 @@ fn runs_in(
 }
 
 /// The runs of the block of this entry, which ends where the next begins.
-fn block_runs<D: Disk>(
+pub fn block_runs<D: Disk>(
     alloc: Global,
     disk: &mut D,
     name: u64,

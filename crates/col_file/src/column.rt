@@ -1,6 +1,6 @@
 //! Writing a column.
 
-ghost use Rattle.std.specs.Prelude.{◌≡◌, ◌≢◌, ◌++◌, ◌*◌, ◌<◌, ◌≤◌, length, OnOk, IfOk};
+ghost use Rattle.std.specs.Prelude.{◌≡◌, ◌≢◌, ◌++◌, ◌*◌, ◌<◌, ◌≤◌, length, IsTrue, OnOk, IfOk};
 ghost use Rattle.std.specs.List.{All};
 ghost use Rattle.col_base.specs.Causes.{HasCause};
 ghost use Rattle.col_disk.specs.Moved.{Moved, NoName, Named, Either};
@@ -16,6 +16,19 @@ use col_bytes::put_vint;
 use col_disk::{Disk, DiskFault};
 use col_value::{Encoding, Value};
 use std::alloc::{AllocError, Global};
+use value_bytes::is_value;
+
+/// Whether these are values of a table: no number is -2^63, and no text has more than 65,000 bytes.
+pub fn are_values(values: &[Value]) -> bool
+    ensures { IsTrue result → All IsValue values.now }
+{
+    for value in values {
+        if !is_value(value) {
+            return false;
+        }
+    }
+    true
+}
 
 /// The values of block k.
 fn block_at(values: &[Value], k: usize) -> &[Value]
@@ -31,12 +44,7 @@ fn block_at(values: &[Value], k: usize) -> &[Value]
 }
 
 /// Appends the entry of a block of these values.
-fn put_bounds(
-    out: &mut Vec<u8>,
-    first: u64,
-    place: u64,
-    block: &[Value],
-) -> Result<(), AllocError>
+fn put_bounds(out: &mut Vec<u8>, first: u64, place: u64, block: &[Value]) -> Result<(), AllocError>
     requires some { 0 < length block.now }
     requires values { All IsValue block.now }
     ensures { OnOk result (out.new.items ≡ out.old.items ++ entry_spelling (record { first = first; place = place; least = least block.now; greatest = greatest block.now })) }

@@ -17,7 +17,10 @@ mod plain;
 mod read;
 
 pub use block::read_block;
-pub use column::write_column;
+pub use column::{are_values, write_column};
 pub use index::{Entry, PosIndex};
 pub use plain::{put_plain, take_plain};
 pub use read::read_index;
+
+#[cfg(test)]
+mod tests;

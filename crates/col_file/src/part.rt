@@ -15,7 +15,9 @@ use value_bytes::{Stop, put_value, read_value};
 /// A part of a file: which have a spelling, how it is, and what is read from the front of some bytes.
 pub trait Part: Sized {
     ghost fits: { Self → Type 0 };
+
     ghost spelling: { Self → List ℕ };
+
     ghost front: { List ℕ → Option (Self × List ℕ) };
 
     /// Appends the part's bytes.

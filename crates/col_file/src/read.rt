@@ -22,12 +22,7 @@ use std::alloc::{AllocError, Global};
 use std::sync::ledger::Ledger;
 
 /// The index of so many rows that all of the bytes are; the name is blamed where they are none.
-fn index_in(
-    alloc: Global,
-    bytes: &[u8],
-    name: u64,
-    rows: u64,
-) -> Result<PosIndex, StoreFault>
+fn index_in(alloc: Global, bytes: &[u8], name: u64, rows: u64) -> Result<PosIndex, StoreFault>
     ensures found { IfOk result (λ x. (x.rows ≡ rows) × IsIndex x × (bytes.now ≡ index_spelling x)) }
     ensures blamed { IfErr result (Blames name (SpellsIndex rows bytes.now → ⊥)) }
     ensures no_cause { result ≢ Err StoreFault.Disk }

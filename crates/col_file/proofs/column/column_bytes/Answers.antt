@@ -1,4 +1,4 @@
-use Rattle.std.proofs.Common.{arith, rules, length}
+use Rattle.std.proofs.Common.{length}
 use Rattle.col_bytes.specs.Spellings.{vint}
 use Rattle.col_file.proofs.Written.{blocks_on, entries_on}
 use Rattle.col_file.proofs.column.column_bytes.Goals as goal

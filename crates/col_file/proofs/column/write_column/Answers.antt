@@ -1,4 +1,4 @@
-use Rattle.std.proofs.Common.{refl, inl, inr, ◌∙◌, ◌≡◌}
+use Rattle.std.proofs.Common.{refl, inl, inr, ◌∙◌}
 use Rattle.col_disk.proofs.Moving.{moved_join, moved_write}
 use Rattle.col_file.proofs.Written.{column_there}
 use Rattle.col_file.proofs.column.write_column.Goals as goal
