@@ -1,14 +1,11 @@
 //! Reading one block of a column.
 
-ghost use Rattle.std.specs.Prelude.{◌≡◌, ◌≢◌, ◌&&◌, ◌==◌, ◌+◌, ◌<◌, ◌≤◌, ◌-◌, min, length, Err, IfOk, IfErr, IfSome, option_map};
-ghost use Rattle.std.specs.List.{All, list_all, slice_get};
-ghost use Rattle.std.specs.FinMap.{get};
+ghost use Rattle.std.specs.Prelude.{◌≡◌, ◌≢◌, ◌&&◌, ◌==◌, ◌+◌, ◌<◌, ◌-◌, min, length, Err, IfOk, IfErr, IfSome, option_map};
+ghost use Rattle.std.specs.List.{list_all, slice_get};
 ghost use Rattle.col_base.specs.Causes.{HasCause};
-ghost use Rattle.col_base.specs.Maps.{Contents};
 ghost use Rattle.col_disk.specs.Calls.{AnswersPart};
 ghost use Rattle.col_disk.specs.Moved.{Moved, NoName};
 ghost use Rattle.col_file.specs.Plain.{plain};
-ghost use Rattle.col_file.specs.Column.{IsNoFile};
 ghost use Rattle.col_file.specs.Read.{Blames, SpellsBlock, IsBlock, AnswersPiece, IsNoPiece, is_between, flattened, HaveCounts, AreRuns};
 
 use crate::index::{Entry, PosIndex};

@@ -1,6 +1,6 @@
 //! Writing a column.
 
-ghost use Rattle.std.specs.Prelude.{◌≡◌, ◌≢◌, ◌++◌, ◌*◌, ◌<◌, ◌≤◌, length, IsTrue, OnOk, IfOk};
+ghost use Rattle.std.specs.Prelude.{◌≡◌, ◌≢◌, ◌++◌, ◌*◌, ◌<◌, length, IsTrue, OnOk, IfOk};
 ghost use Rattle.std.specs.List.{All};
 ghost use Rattle.col_base.specs.Causes.{HasCause};
 ghost use Rattle.col_disk.specs.Moved.{Moved, NoName, Named, Either};

@@ -12,6 +12,7 @@ mod block;
 mod bounds;
 mod column;
 mod index;
+mod laws;
 mod part;
 mod plain;
 mod read;
@@ -19,6 +20,7 @@ mod read;
 pub use block::read_block;
 pub use column::{are_values, write_column};
 pub use index::{Entry, PosIndex};
+pub use laws::one_spelling;
 pub use plain::{put_plain, take_plain};
 pub use read::read_index;
 

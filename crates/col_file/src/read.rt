@@ -1,25 +1,16 @@
 //! Reading the index of a column.
 
-ghost use Rattle.std.specs.Prelude.{◌≡◌, ◌≢◌, ◌+◌, ◌<◌, ◌≤◌, ◌-◌, min, length, true, Some, Err, Bool, IfOk, IfErr, IfSome, option_map, List};
-ghost use Rattle.std.specs.List.{All, list_all, slice_get};
-ghost use Rattle.std.specs.FinMap.{get};
+ghost use Rattle.std.specs.Prelude.{◌≡◌, ◌≢◌, Err, IfOk, IfErr};
 ghost use Rattle.col_base.specs.Causes.{HasCause};
-ghost use Rattle.col_base.specs.Maps.{Contents};
-ghost use Rattle.col_disk.specs.Calls.{AnswersWhole};
 ghost use Rattle.col_disk.specs.Faults.{store_fault};
 ghost use Rattle.col_disk.specs.Moved.{Moved, NoName};
-ghost use Rattle.col_file.specs.Plain.{plain};
 ghost use Rattle.col_file.specs.Index.{index_spelling, IsIndex};
 ghost use Rattle.col_file.specs.Column.{IsFile, IsNoFile};
-ghost use Rattle.col_file.specs.Read.{Blames, SpellsIndex, SpellsBlock, IsBlock, piece, is_between, flattened, AreRuns};
+ghost use Rattle.col_file.specs.Read.{Blames, SpellsIndex};
 
-use crate::index::{Entry, PosIndex};
-use crate::plain::take_plain;
-use col_base::Steps;
+use crate::index::PosIndex;
 use col_disk::{Disk, DiskFault, StoreFault, read_whole};
-use col_value::{Encoding, Run, Value};
 use std::alloc::{AllocError, Global};
-use std::sync::ledger::Ledger;
 
 /// The index of so many rows that all of the bytes are; the name is blamed where they are none.
 fn index_in(alloc: Global, bytes: &[u8], name: u64, rows: u64) -> Result<PosIndex, StoreFault>
