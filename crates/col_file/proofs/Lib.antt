@@ -1,0 +1,5 @@
+pub mod ReadOn
+pub mod Parts
+pub mod Written
+pub mod Found
+pub mod Blocks

@@ -1,0 +1,5 @@
+pub mod Plain
+pub mod Index
+pub mod Fronts
+pub mod Column
+pub mod Read
