@@ -2,6 +2,7 @@
 use Rattle.std.specs.Prelude.{ℕ, true, false, List, [], ◌∷◌, ◌++◌, map}
 use Rattle.std.specs.List.{enumerate_from}
 use Rattle.col_value.specs.declared.value.Value.{Value}
+use Rattle.col_value.specs.declared.wide.Wide.{Wide}
 use Rattle.col_value.specs.declared.kinds.Encoding.{Encoding}
 use Rattle.db_model.specs.Database.{Shape, Database}
 use Rattle.db_model.specs.Database as model
@@ -41,3 +42,7 @@ state_of tables last pending = record {
 -- a table with rows more, inserted at an epoch
 abbrev pub with_committed : ℕ → List (List Value) → model.Table → model.Table
 with_committed epoch rows t = record t { rows = t.rows ++ map (inserted_at epoch) rows }
+
+-- rows of one value each
+abbrev pub singles : List Wide → List (List Wide)
+singles values = map (λ w. w ∷ []) values

@@ -7,11 +7,11 @@ ghost use Rattle.col_value.specs.Prints.{row_text};
 ghost use Rattle.db_model.specs.Database.{is_visible, visible};
 ghost use Rattle.db_model.specs.State.{pending_rows, session_view};
 ghost use Rattle.db_model.specs.Answers.{value_at, column_rows, IsListing, listing_text, insert_line, commit_line, count_line};
-ghost use Rattle.plain_store.specs.Views.{changes_of, table_of};
+ghost use Rattle.plain_store.specs.Views.{changes_of, singles, table_of};
 
 use crate::forms::same;
 use crate::table::{Pending, Table};
-use col_value::{List, Row, Stamped, Value, Wide, WideRow, sort_wide_rows};
+use col_value::{List, Row, Stamped, Value, Wide};
 use std::alloc::{AllocError, Global};
 
 /// The value at a place of a row, as a result has it; NULL where the row ends before it.
@@ -22,15 +22,6 @@ fn widened_at(alloc: Global, row: &Row, place: usize) -> Result<Wide, AllocError
         Some(value) => value.widen(alloc),
         None => Ok(Wide::Null),
     }
-}
-
-/// The output row of one value.
-fn output_row(alloc: Global, row: &Row, place: usize) -> Result<WideRow, AllocError>
-    ensures { IfOk result (λ r. r ≡ widened (value_at place row.now) ∷ []) }
-{
-    let mut values = Vec::with_capacity(alloc, 1)?;
-    values.push(widened_at(alloc, row, place)?)?;
-    Ok(List::new(values))
 }
 
 fn is_row_visible(row: &Stamped, epoch: u128) -> bool
@@ -45,18 +36,18 @@ fn is_row_visible(row: &Stamped, epoch: u128) -> bool
 /// The column at a place of the rows that are visible at an epoch joins the output.
 pub fn add_visible(
     alloc: Global,
-    out: &mut Vec<WideRow>,
+    out: &mut Vec<Wide>,
     rows: &[Stamped],
     epoch: u128,
     place: usize,
 ) -> Result<(), AllocError>
-    ensures { OnOk result (out.new.items ≡ out.old.items ++ column_rows place (visible epoch rows.now)) }
+    ensures { OnOk result (singles out.new.items ≡ singles out.old.items ++ column_rows place (visible epoch rows.now)) }
 {
     for row in rows {
         if !is_row_visible(row, epoch) {
             continue;
         }
-        out.push(output_row(alloc, &row.row, place)?)?;
+        out.push(widened_at(alloc, &row.row, place)?)?;
     }
     Ok(())
 }
@@ -64,14 +55,14 @@ pub fn add_visible(
 /// The column at a place of these rows joins the output.
 fn add_rows_of(
     alloc: Global,
-    out: &mut Vec<WideRow>,
+    out: &mut Vec<Wide>,
     rows: &[Row],
     place: usize,
 ) -> Result<(), AllocError>
-    ensures { OnOk result (out.new.items ≡ out.old.items ++ column_rows place rows.now) }
+    ensures { OnOk result (singles out.new.items ≡ singles out.old.items ++ column_rows place rows.now) }
 {
     for row in rows {
-        out.push(output_row(alloc, row, place)?)?;
+        out.push(widened_at(alloc, row, place)?)?;
     }
     Ok(())
 }
@@ -91,13 +82,13 @@ fn waiting_rows<'a>(pending: &'a [Pending], name: &[u8]) -> &'a [Row]
 /// The column at a place of the rows of a table that the session sees joins the output.
 pub fn add_view(
     alloc: Global,
-    out: &mut Vec<WideRow>,
+    out: &mut Vec<Wide>,
     table: &Table,
     pending: &[Pending],
     last: u64,
     place: usize,
 ) -> Result<(), AllocError>
-    ensures { OnOk result (out.new.items ≡ out.old.items ++ column_rows place (session_view last (map changes_of pending.now) (table_of table.now))) }
+    ensures { OnOk result (singles out.new.items ≡ singles out.old.items ++ column_rows place (session_view last (map changes_of pending.now) (table_of table.now))) }
 {
     add_visible(alloc, out, table.rows.as_slice(), u128::from(last), place)?;
     let waiting = waiting_rows(pending, table.name.as_slice());
@@ -105,20 +96,29 @@ pub fn add_view(
     Ok(())
 }
 
-/// The rows in the printed order.
-pub fn sorted(mut rows: Vec<WideRow>) -> Result<Vec<WideRow>, AllocError>
-    ensures { IfOk result (λ v. IsListing rows.items v.items) }
+/// The values in the printed order of their rows.
+pub fn sorted(mut values: Vec<Wide>) -> Result<Vec<Wide>, AllocError>
+    ensures { IfOk result (λ v. IsListing (singles values.items) (singles v.items)) }
 {
-    sort_wide_rows(&mut rows)?;
-    Ok(rows)
+    values.sort()?;
+    Ok(values)
 }
 
-/// Appends a line for each row.
-fn print_rows(rows: &[WideRow], out: &mut Vec<u8>) -> Result<(), AllocError>
-    ensures { OnOk result (out.new.items ≡ out.old.items ++ flat_map row_text rows.now) }
+/// The line of the row of one value.
+fn print_value(alloc: Global, value: &Wide, out: &mut Vec<u8>) -> Result<(), AllocError>
+    ensures { OnOk result (out.new.items ≡ out.old.items ++ row_text (value.now ∷ [])) }
 {
-    for row in rows {
-        row.print(out)?;
+    let mut row = Vec::with_capacity(alloc, 1)?;
+    row.push(value.copy(alloc)?)?;
+    List::new(row).print(out)
+}
+
+/// Appends the line of each value's row.
+fn print_values(alloc: Global, values: &[Wide], out: &mut Vec<u8>) -> Result<(), AllocError>
+    ensures { OnOk result (out.new.items ≡ out.old.items ++ flat_map row_text (singles values.now)) }
+{
+    for value in values {
+        print_value(alloc, value, out)?;
     }
     Ok(())
 }
@@ -130,13 +130,13 @@ fn count_text(alloc: Global, count: usize) -> Result<String, AllocError>
     format!(in alloc; "({count} rows)\n")
 }
 
-/// A line for each row, and their number.
-pub fn listing(alloc: Global, rows: &[WideRow]) -> Result<Vec<u8>, AllocError>
-    ensures { IfOk result (λ v. v.items ≡ listing_text rows.now) }
+/// A line for each value's row, and their number.
+pub fn listing(alloc: Global, values: &[Wide]) -> Result<Vec<u8>, AllocError>
+    ensures { IfOk result (λ v. v.items ≡ listing_text (singles values.now)) }
 {
     let mut out = Vec::new(alloc);
-    print_rows(rows, &mut out)?;
-    let count = count_text(alloc, rows.len())?;
+    print_values(alloc, values, &mut out)?;
+    let count = count_text(alloc, values.len())?;
     out.extend_from_slice(count.as_bytes())?;
     Ok(out)
 }

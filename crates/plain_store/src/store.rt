@@ -5,7 +5,7 @@ ghost use Rattle.db_model.specs.State.{empty_state, own_changes};
 ghost use Rattle.db_model.specs.Forms as form;
 ghost use Rattle.db_model.specs.Answers.{output_rows, rows_at, column_rows};
 ghost use Rattle.db_model.specs.Step.{Reads, Step, Prints, refusal_of, served_refusal, after, inserted_rows, narrowed};
-ghost use Rattle.plain_store.specs.Views.{table_of};
+ghost use Rattle.plain_store.specs.Views.{singles, table_of};
 ghost use Rattle.sql_tree.specs.Lines.{refusal_text};
 
 use crate::forms::{are_number_rows, is_served_epoch};
@@ -139,8 +139,8 @@ impl PlainStore {
         at: At,
         table: &Table,
         place: usize,
-    ) -> Result<Vec<WideRow>, AllocError>
-        ensures { IfOk result (λ v. v.items ≡ column_rows place (rows_at at self.now.database.last (own_changes self.now) (table_of table.now))) }
+    ) -> Result<Vec<Wide>, AllocError>
+        ensures { IfOk result (λ v. singles v.items ≡ column_rows place (rows_at at self.now.database.last (own_changes self.now) (table_of table.now))) }
     {
         let mut rows = Vec::new(alloc);
         match at {
@@ -173,8 +173,8 @@ impl PlainStore {
     }
 
     /// The output rows of a query, in some order.
-    fn output(&self, alloc: Global, at: At, query: &Query) -> Result<Vec<WideRow>, AllocError>
-        ensures { IfOk result (λ v. v.items ≡ output_rows at query.now self.now) }
+    fn output(&self, alloc: Global, at: At, query: &Query) -> Result<Vec<Wide>, AllocError>
+        ensures { IfOk result (λ v. singles v.items ≡ output_rows at query.now self.now) }
     {
         let Some(place) = plain_place(self.tables.as_slice(), query) else {
             return Ok(Vec::new(alloc));
@@ -188,8 +188,8 @@ impl PlainStore {
     fn select_text(&self, alloc: Global, at: At, query: &Query) -> Result<Vec<u8>, AllocError>
         ensures { IfOk result (λ v. Prints self.now (Statement.Select at query.now) v.items) }
     {
-        let rows = sorted(self.output(alloc, at, query)?)?;
-        listing(alloc, rows.as_slice())
+        let values = sorted(self.output(alloc, at, query)?)?;
+        listing(alloc, values.as_slice())
     }
 
     fn commit_line(&self, alloc: Global) -> Result<Vec<u8>, AllocError>
