@@ -1,6 +1,7 @@
 -- The logical database: plain tables whose rows carry the epochs of the commits that inserted and deleted them.
 use Rattle.std.specs.Prelude.{ℕ, ◌==◌, ◌&&◌, ◌||◌, ◌++◌, not, nat_le, if◌then◌else◌, Bool, true, false, List, [], ◌∷◌, map, filter, find, fold, min, Option, Some, None, is_none, bytes_eq, codes}
-use Rattle.std.specs.Ordering.{is_eq}
+use Rattle.std.specs.Ordering.{is_eq, is_lt, nat_cmp}
+use Rattle.std.specs.Cmp.Lexicographic.{slice_cmp}
 use Rattle.std.specs.List.{list_any, flat_map}
 use Rattle.std.specs.Option.{option_map_or}
 use Rattle.col_value.specs.declared.value.Value.{Value}
@@ -26,11 +27,20 @@ pub record Table : Type 0 where
   pub rows : List Stamped
   pub shapes : List Shape
 
--- all tables, the newest closed epoch, and the ancient history mark
+-- All tables, in ascending order of their names; the newest closed epoch; and the ancient history mark.
 pub record Database : Type 0 where
   pub tables : List Table
   pub last : ℕ
   pub ahm : ℕ
+
+-- no tables, and no epoch closed
+abbrev pub empty_database : Database
+empty_database = record { tables = []; last = 0; ahm = 0 }
+
+-- a table takes its place by name: before the first table of a greater name
+abbrev pub put_table : Table → List Table → List Table
+put_table t [] = t ∷ []
+put_table t (u ∷ us) = if is_lt (slice_cmp nat_cmp t.name u.name) then t ∷ (u ∷ us) else u ∷ put_table t us
 
 -- the table of a name
 abbrev pub table_named : List ℕ → List Table → Option Table

@@ -4,3 +4,5 @@ pub mod Forms
 pub mod Answers
 pub mod Step
 pub mod Run
+pub mod Kept
+pub mod Growth

@@ -6,7 +6,7 @@ use Rattle.col_value.specs.declared.value.Value.{Value}
 use Rattle.col_value.specs.declared.row.Stamped.{Stamped}
 use Rattle.col_value.specs.declared.row.Asked.{Asked}
 use Rattle.col_value.specs.Order.{row_cmp}
-use Rattle.db_model.specs.Database.{Table, Database, table_named, visible, mark_all}
+use Rattle.db_model.specs.Database.{Table, Database, empty_database, table_named, visible, mark_all}
 
 -- what a session has changed in a table since its last COMMIT or ROLLBACK, and whether it holds the table against others
 pub record Changes : Type 0 where
@@ -26,10 +26,10 @@ pub record State : Type 0 where
   pub busy : ℕ
   pub parts : ℕ
 
--- no tables, nothing pending
-abbrev pub empty_state : State
-empty_state = record {
-  database = record { tables = []; last = 0; ahm = 0 };
+-- a database over which nothing is pending
+abbrev pub opened_state : Database → State
+opened_state d = record {
+  database = d;
   sessions = [] ∷ [] ∷ [] ∷ [] ∷ [] ∷ [] ∷ [] ∷ [] ∷ [];
   current = 1;
   asked = [];
@@ -37,6 +37,10 @@ empty_state = record {
   busy = 0;
   parts = 0;
 }
+
+-- no tables, nothing pending
+abbrev pub empty_state : State
+empty_state = opened_state empty_database
 
 -- the changes of the current session
 abbrev pub own_changes : State → List Changes

@@ -12,7 +12,7 @@ use Rattle.sql_tree.specs.declared.query.At.{At}
 use Rattle.sql_tree.specs.declared.refusal.Refusal.{Refusal}
 use Rattle.sql_tree.specs.Spells.{Spells}
 use Rattle.sql_tree.specs.Lines.{refusal_text}
-use Rattle.db_model.specs.Database.{Table, Shape, Database, super_name}
+use Rattle.db_model.specs.Database.{Table, Shape, Database, super_name, put_table}
 use Rattle.db_model.specs.State.{State, own_changes, with_changes, with_rows, has_changes, committed}
 use Rattle.db_model.specs.Forms.{is_in_form}
 use Rattle.db_model.specs.Answers.{output_rows, IsListing, listing_text, insert_line, commit_line}
@@ -43,11 +43,11 @@ abbrev pub refusal_of : State → Option Statement → Option Refusal
 refusal_of state None = Some (Refusal.Syntax 1)
 refusal_of state (Some s) = if is_in_form state s then served_refusal state s else Some (Refusal.Syntax 1)
 
--- the projection that CREATE TABLE makes: all columns in order, sorted by all, encoded as is shortest
+-- the projection that CREATE TABLE makes: all columns in order, sorted by all, each column encoded plainly
 abbrev pub super_shape : List ℕ → List NewColumn → ℕ → Shape
 super_shape name columns last = record {
   name = super_name name;
-  columns = map (λ e. (e.0, Encoding.Auto)) (enumerate_from 0 columns);
+  columns = map (λ e. (e.0, Encoding.Plain)) (enumerate_from 0 columns);
   sort = map (λ e. e.0) (enumerate_from 0 columns);
   fresh = true;
   lge = last;
@@ -57,8 +57,9 @@ super_shape name columns last = record {
 abbrev pub new_table : List ℕ → List NewColumn → ℕ → Table
 new_table name columns last = record { name = name; columns = columns; rows = []; shapes = super_shape name columns last ∷ [] }
 
+-- a database with a table more, at its place
 abbrev pub with_table : Table → Database → Database
-with_table t d = record d { tables = d.tables ++ t ∷ [] }
+with_table t d = record d { tables = put_table t d.tables }
 
 -- what a column holds of a literal
 abbrev pub narrowed : Wide → Value

@@ -14,7 +14,7 @@ use Rattle.plain_store.specs.declared.table.Pending.{Pending}
 abbrev pub projection_of : Table → Shape
 projection_of t = record {
   name = t.projection;
-  columns = map (λ e. (e.0, Encoding.Auto)) (enumerate_from 0 t.columns);
+  columns = map (λ e. (e.0, Encoding.Plain)) (enumerate_from 0 t.columns);
   sort = map (λ e. e.0) (enumerate_from 0 t.columns);
   fresh = true;
   lge = t.born;
