@@ -1,5 +1,7 @@
 pub mod Words
+pub mod Sessions
 pub mod Statements
 pub mod Runs
+pub mod Folders
 pub mod Ends
 pub mod OneText

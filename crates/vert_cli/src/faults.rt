@@ -3,9 +3,9 @@
 
 ghost use Rattle.std.specs.Prelude.{◌≡◌, ◌||◌, is_some};
 ghost use Rattle.vert_cli.specs.Statements.{refusal_in, outcome_of};
-ghost use Rattle.vert_cli.specs.Ends.{code_of, status_of, status_of_open};
+ghost use Rattle.vert_cli.specs.Ends.{code_of, status_of, status_of_open, status_of_end, status_of_run};
 
-use col_disk::StoreFault;
+use col_disk::{DiskFault, StoreFault};
 use sql_tree::Refusal;
 
 /// How the program ends.
@@ -125,5 +125,26 @@ pub(crate) fn status_of_open(fault: StoreFault) -> Status
         StoreFault::Disk => Status::DiskFault,
         StoreFault::Damaged(name) => Status::Damaged(name),
         StoreFault::Memory => Status::Memory,
+    }
+}
+
+// The status of a run whose clean end failed.
+pub(crate) fn status_of_end(fault: DiskFault) -> Status
+    ensures { result ≡ status_of_end fault }
+{
+    match fault {
+        DiskFault::Failed => Status::DiskFault,
+        DiskFault::Memory => Status::Memory,
+    }
+}
+
+// The status of a run that came to its end.
+pub(crate) fn status_of_run(refused: bool) -> Status
+    ensures { result ≡ status_of_run refused }
+{
+    if refused {
+        Status::Refused
+    } else {
+        Status::Done
     }
 }

@@ -1,46 +1,58 @@
 //! A session: a store that statements are run on, one after the other.
 #![tactic(auto)]
 
-ghost use Rattle.std.specs.Prelude.{◌≡◌, ◌≤◌, IfOk, IfErr, IsErrOf};
-ghost use Rattle.col_base.specs.Causes.{Rose};
-ghost use Rattle.col_disk.specs.declared.disk.StoreFault.TheVariants.{Memory as no_memory};
-ghost use Rattle.db_model.specs.State.{empty_state};
+ghost use Rattle.std.specs.Prelude.{◌≡◌, ◌≤◌, Some, IfOk, IfErr, OnOk, IsErrOf};
+ghost use Rattle.col_base.specs.Causes.{Rose, HasCause};
+ghost use Rattle.col_disk.specs.Moved.{Moved, NoName};
+ghost use Rattle.col_disk.specs.declared.disk.DiskFault.TheVariants.{Failed};
+ghost use Rattle.col_disk.specs.declared.disk.StoreFault.TheVariants.{Disk as disk_failed};
+ghost use Rattle.db_model.specs.State.{opened_state};
+ghost use Rattle.db_model.specs.Database.{Database as Logical};
+ghost use Rattle.plain_folder.specs.Opening.{IsRead};
+ghost use Rattle.plain_folder.specs.Faults.{BlamesFolder};
+ghost use Rattle.plain_folder.specs.Closing.{IsUnchanged, LeavesTables};
 ghost use Rattle.vert_cli.specs.declared.faults.RunFault.TheVariants.{Sink as sink_failed};
 ghost use Rattle.vert_cli.specs.Statements.{Answered, Stopped, refusal_in};
 
 use crate::faults::{Outcome, RunFault};
-use col_disk::{Disk, StoreFault};
+use catalog_types::Catalogue;
+use col_disk::{Disk, DiskFault, StoreFault};
 use col_io::{Files, Sink, SinkFault, write_all};
+use plain_folder::{Opened, close_tables, open_tables};
 use plain_store::PlainStore;
 use std::alloc::{AllocError, Global};
 use std::marker::Model;
 
-/// A store that statements are run on, seen as the state of the program.
+/// A store that statements are run on, seen as the state of the program and the catalogue that its tables were read by.
 #[derive(Drop)]
 pub struct Session {
     store: PlainStore,
+    kept: Catalogue,
 }
 
 impl Model for Session {
-    ghost use Rattle.db_model.specs.State.{State};
+    ghost use Rattle.vert_cli.specs.Sessions.{Sitting};
 
-    ghost Value = { State };
+    ghost Value = { Sitting };
 
-    ghost view = { λ s. s.store };
+    ghost view = { λ s. record { state = s.store; kept = s.kept } };
 }
 
 impl Session {
-    /// A session over no tables. Nothing is kept on the disk yet, and it is left as it was. The one fault that can
-    /// come is want of memory.
+    /// A session over the tables that the folder holds. Nothing is written. `Damaged` names a file that keeps the folder
+    /// from opening: the body of the greatest open gate, a listed file that is absent or not what it has to be, or a data
+    /// file where no gate is open.
     pub fn open<D: Disk>(alloc: Global, disk: &mut D) -> Result<Session, StoreFault>
-        ensures empty { IfOk result (λ session. session ≡ empty_state) }
-        ensures only { IfErr result (λ fault. fault ≡ no_memory) }
-        ensures disk { disk.new ≡ disk.old }
+        ensures opened { IfOk result (λ session. (d : Logical) × (session.state ≡ opened_state d) × IsRead (D.holds disk.old) session.kept d) }
+        ensures blamed { IfErr result (BlamesFolder (D.holds disk.old)) }
+        ensures kept { D.holds disk.new ≡ D.holds disk.old }
+        ensures moved { Moved ⟦<D as Disk>⟧ NoName NoName disk.old disk.new }
+        ensures cause { HasCause disk_failed (D.faults disk.old) (D.faults disk.new) result }
     {
-        let _ = &*disk;
-        Ok(Session {
-            store: PlainStore::new(alloc),
-        })
+        match open_tables(alloc, disk) {
+            Ok(Opened { store, kept }) => Ok(Session { store, kept }),
+            Err(fault) => Err(fault),
+        }
     }
 
     /// Runs one statement text, without its `;`, and writes what it prints.
@@ -57,8 +69,9 @@ impl Session {
         disk: &mut D,
         out: &mut S,
     ) -> Result<Outcome, RunFault>
-        ensures answered { IfOk result (λ outcome. Answered self.old text.now (refusal_in outcome) self.new (S.taken out.old) (S.taken out.new)) }
-        ensures stopped { IfErr result (λ fault. Stopped fault self.old text.now self.new (S.taken out.old) (S.taken out.new)) }
+        ensures answered { IfOk result (λ outcome. Answered self.old.state text.now (refusal_in outcome) self.new.state (S.taken out.old) (S.taken out.new)) }
+        ensures stopped { IfErr result (λ fault. Stopped fault self.old.state text.now self.new.state (S.taken out.old) (S.taken out.new)) }
+        ensures kept { self.new.kept ≡ self.old.kept }
         ensures sink { IsErrOf result sink_failed → Rose (S.faults out.old) (S.faults out.new) }
         ensures later { S.faults out.old ≤ S.faults out.new }
         ensures files { files.new ≡ files.old }
@@ -75,5 +88,16 @@ impl Session {
             Err(SinkFault::Failed) => Err(RunFault::Sink),
             Err(SinkFault::Memory) => Err(RunFault::Memory),
         }
+    }
+
+    /// The clean end: writes the tables to the folder, so that it opens to them. Where nothing was committed and no table
+    /// made since the opening, the disk isn't called. What waits for COMMIT is dropped.
+    pub fn close<D: Disk>(self, alloc: Global, disk: &mut D) -> Result<(), DiskFault>
+        ensures leaves { OnOk result (LeavesTables self.kept self.state (D.holds disk.old) (D.holds disk.new)) }
+        ensures still { IsUnchanged self.kept self.state → disk.new ≡ disk.old }
+        ensures cause { HasCause Failed (D.faults disk.old) (D.faults disk.new) result }
+    {
+        let Session { store, kept } = self;
+        close_tables(alloc, disk, store, &kept)
     }
 }

@@ -1,0 +1,67 @@
+-- What a clean end leaves.
+use Rattle.std.specs.Prelude.{ℕ, ◌≡◌, ◌⊎◌, ◌≤◌, ◌^◌, ◌*◌, ◌+◌, if◌then◌else◌, List, [], ◌∷◌, length, bytes_eq, Option, Some}
+use Rattle.std.specs.List.{All}
+use Rattle.col_base.specs.Maps.{Contents}
+use Rattle.col_disk.specs.Moved.{Changed, NoName}
+use Rattle.catalog_types.specs.declared.catalogue.Container.{Container}
+use Rattle.catalog_types.specs.declared.catalogue.Projection.{Projection}
+use Rattle.catalog_types.specs.declared.catalogue.Table as kept
+use Rattle.catalog_types.specs.declared.catalogue.Catalogue.{Catalogue}
+use Rattle.catalog_types.specs.Numbers.{file_count}
+use Rattle.catalog_root.specs.Root.{data_file}
+use Rattle.db_model.specs.Database.{Database, Table}
+use Rattle.db_model.specs.State.{State}
+use Rattle.db_model.specs.Growth.{IsOpened, HasGrown}
+use Rattle.db_model.specs.Kept.{moved_table, moved_out, AreAlikeTables, AreAlike}
+use Rattle.plain_folder.specs.Reopens.{IsTableOf, Reopens}
+use Rattle.plain_folder.specs.Opening.{IsTold}
+
+-- the folder opens to this database, with all rows moved to disk, in some order
+pub record EndsAs (m : Contents) (d : Database) : Type 0 where
+  pub database : Database
+  pub reopens : Reopens m database
+  pub like : AreAlike database (moved_out d)
+
+-- so many numbers are used up that nothing is written any more
+abbrev pub IsSpent : Catalogue → Type 0
+IsSpent c = 2 ^ 60 ≤ c.next
+
+-- What a clean end leaves of a folder that opened by this catalogue: this database; or all as it was, where the numbers are used up.
+abbrev pub Ends : Catalogue → Contents → Contents → Database → Type 0
+Ends kept old new d = (IsSpent kept × Changed NoName NoName old new) ⊎ EndsAs new d
+
+-- data files of a number or a later one
+abbrev pub DataFrom : ℕ → ℕ → Type 0
+DataFrom base q = (n : ℕ) × (base ≤ n) × (q ≡ data_file n)
+
+-- the containers of the one projection of the table of a name, none where there is none
+abbrev pub containers_of : List Projection → List Container
+containers_of [] = []
+containers_of (p ∷ more) = p.containers
+
+abbrev pub containers_named : List ℕ → List kept.Table → List Container
+containers_named name [] = []
+containers_named name (t ∷ ts) = if bytes_eq t.name name then containers_of t.projections else containers_named name ts
+
+-- a catalogue's table whose files hold the rows of a table, in some order, all moved to disk
+pub record IsSaved (m : Contents) (last : ℕ) (t : kept.Table) (u : Table) : Type 0 where
+  pub table : Table
+  pub of : IsTableOf m t table
+  pub like : AreAlikeTables table (moved_table last u)
+
+-- the numbers of containers of so many columns are below the next free one
+abbrev pub AreBelow : ℕ → ℕ → List Container → Type 0
+AreBelow next columns ks = All (λ k. k.base + file_count columns ≤ next) ks
+
+abbrev pub IsBelowTable : ℕ → kept.Table → Type 0
+IsBelowTable next t = All (λ p. AreBelow next (length p.columns) p.containers) t.projections
+
+-- no epoch was closed and no table made since the tables were read by this catalogue
+pub record IsUnchanged (kept : Catalogue) (state : State) : Type 0 where
+  pub last : state.database.last ≡ kept.last
+  pub tables : length state.database.tables ≡ length kept.tables
+
+-- Where the folder held this database by the catalogue, and statements made the state of it, the tables are in the folder.
+abbrev pub LeavesTables : Catalogue → State → Option Contents → Option Contents → Type 0
+LeavesTables kept state found left =
+    (d : Database) (m : Contents) → found ≡ Some m → IsOpened d → IsTold m kept d → HasGrown d state → (n : Contents) × (left ≡ Some n) × Ends kept m n state.database

@@ -1,0 +1,6 @@
+pub mod Served
+pub mod Reopens
+pub mod Faults
+pub mod Loading
+pub mod Opening
+pub mod Closing

@@ -1,0 +1,133 @@
+//! The rows that are new in a table, as a container.
+
+ghost use Rattle.std.specs.Prelude.{◌≡◌, ◌≤◌, ◌<◌, ◌+◌, ◌^◌, ◌×◌, ℕ, Some, map, length, filter, IsTrue, OnOk, IfOk, IfSome, List};
+ghost use Rattle.std.specs.List.{All};
+ghost use Rattle.col_base.specs.Bags.{SameBag};
+ghost use Rattle.col_base.specs.Causes.{HasCause};
+ghost use Rattle.col_base.specs.Maps.{Contents};
+ghost use Rattle.col_disk.specs.Moved.{Moved, NoName};
+ghost use Rattle.col_value.specs.Order.{IsValue};
+ghost use Rattle.col_value.specs.declared.row.Asked.{Asked as Inserted};
+ghost use Rattle.db_model.specs.Growth.{late};
+ghost use Rattle.ros_container.specs.Files.{IsFileOf};
+ghost use Rattle.ros_container.specs.Held.{HoldsContainer};
+ghost use Rattle.plain_folder.specs.Reopens.{undeleted};
+
+use catalog_types::{Container, Projection};
+use col_disk::{Disk, DiskFault};
+use col_value::{Asked, Stamped};
+use ros_container::{sort_rows, write_rows};
+use std::alloc::{AllocError, Global};
+use value_bytes::is_value;
+
+/// The rows that were inserted after an epoch. None where one of them is deleted.
+pub fn late_rows(
+    alloc: Global,
+    rows: Vec<Stamped>,
+    epoch: u64,
+) -> Result<Option<Vec<Asked>>, AllocError>
+    ensures { IfOk result (λ r. IfSome r (λ v. map undeleted v.items ≡ late epoch rows.items)) }
+{
+    let mut out = Vec::new(alloc);
+    for stamped in rows {
+        if stamped.ins <= epoch {
+            continue;
+        }
+        if stamped.del.is_some() {
+            return Ok(None);
+        }
+        out.push(Asked {
+            row: stamped.row,
+            ins: stamped.ins,
+        })?;
+    }
+    Ok(Some(out))
+}
+
+fn is_writable(asked: &Asked, columns: usize) -> bool
+    ensures { IsTrue result → (length asked.now.row ≡ columns) × All IsValue asked.now.row × (asked.now.ins < 2 ^ 63) }
+{
+    let row = asked.row.as_slice();
+    row.len() == columns && asked.ins < 1 << 63 && row.iter().all(|value| is_value(value))
+}
+
+/// Whether each row can stand in a container of so many columns.
+pub fn are_writable(rows: &[Asked], columns: usize) -> bool
+    ensures { IsTrue result → All (λ a. (length a.row ≡ columns) × All IsValue a.row × (a.ins < 2 ^ 63)) rows.now }
+{
+    for asked in rows {
+        if !is_writable(asked, columns) {
+            return false;
+        }
+    }
+    true
+}
+
+fn least_epoch(rows: &[Asked]) -> u64
+    ensures { All (λ a. result ≤ a.ins) rows.now }
+{
+    let mut least = u64::MAX;
+    for asked in rows {
+        if asked.ins < least {
+            least = asked.ins;
+        }
+    }
+    least
+}
+
+fn greatest_epoch(rows: &[Asked]) -> u64
+    ensures { All (λ a. a.ins ≤ result) rows.now }
+{
+    let mut greatest = 0;
+    for asked in rows {
+        if asked.ins > greatest {
+            greatest = asked.ins;
+        }
+    }
+    greatest
+}
+
+/// The container of these rows with this base, none of them deleted.
+fn container_of(base: u64, rows: &[Asked]) -> Container
+    ensures base { result.base ≡ base }
+    ensures rows { result.rows ≡ length rows.now }
+    ensures least { All (λ a. result.least_epoch ≤ a.ins) rows.now }
+    ensures greatest { All (λ a. a.ins ≤ result.greatest_epoch) rows.now }
+{
+    Container {
+        base,
+        rows: rows.len() as u64,
+        least_epoch: least_epoch(rows),
+        greatest_epoch: greatest_epoch(rows),
+        level: 0,
+        marks: None,
+        greatest_mark: 0,
+    }
+}
+
+/// Writes rows as a container with this base, in container order.
+pub fn write_container<D: Disk>(
+    alloc: Global,
+    disk: &mut D,
+    shape: &Projection,
+    rows: Vec<Asked>,
+    base: u64,
+) -> Result<Container, DiskFault>
+    requires some { 0 < length rows.items }
+    requires sort { All (λ i. i < length shape.now.columns) shape.now.sort }
+    requires numbers { base + 2 * length shape.now.columns + 1 < 2 ^ 62 }
+    requires rows { All (λ a. (length a.row ≡ length shape.now.columns) × All IsValue a.row × (a.ins < 2 ^ 63)) rows.items }
+    ensures base { IfOk result (λ k. k.base ≡ base) }
+    ensures held { IfOk result (λ k. (sorted : List Inserted) × SameBag rows.items sorted × ((m : Contents) → D.holds disk.new ≡ Some m → HoldsContainer m (length shape.now.columns) k sorted)) }
+    ensures moved { Moved ⟦<D as Disk>⟧ (IsFileOf base (length shape.now.columns)) NoName disk.old disk.new }
+    ensures cause { HasCause DiskFault.Failed (D.faults disk.old) (D.faults disk.new) result }
+{
+    let sorted = match sort_rows(shape, rows) {
+        Ok(sorted) => sorted,
+        Err(AllocError) => return Err(DiskFault::Memory),
+    };
+    match write_rows(alloc, disk, base, shape, sorted.as_slice()) {
+        Ok(()) => Ok(container_of(base, sorted.as_slice())),
+        Err(fault) => Err(fault),
+    }
+}

@@ -1,0 +1,18 @@
+//! Tables in a folder: what opens them, and what a clean end leaves.
+//!
+//! `open_tables` answers the database that the folder's files spell (`Reopens` of `specs/Reopens.antt`), and `close_tables`
+//! writes what was added since, so that the folder opens to the tables then (`EndsAs` of `specs/Closing.antt`): each
+//! table's new rows as one container, then a new version of the catalogue; then it removes what is no longer listed.
+#![tactic(auto)]
+
+mod adding;
+mod closing;
+mod loading;
+mod opening;
+mod served;
+
+pub use closing::close_tables;
+pub use opening::{Opened, open_tables};
+
+#[cfg(test)]
+mod tests;

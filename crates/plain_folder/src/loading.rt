@@ -1,0 +1,96 @@
+//! The tables of a catalogue, with their rows.
+
+ghost use Rattle.std.specs.Prelude.{◌≡◌, ◌≤◌, ◌++◌, ℕ, Some, map, OnOk, IfOk, IfErr, true};
+ghost use Rattle.std.specs.List.{All, AllZip};
+ghost use Rattle.col_base.specs.Causes.{HasCause};
+ghost use Rattle.col_base.specs.Maps.{Contents};
+ghost use Rattle.col_disk.specs.Moved.{Moved, NoName};
+ghost use Rattle.plain_store.specs.Views as view;
+ghost use Rattle.plain_folder.specs.Served.{is_served_table};
+ghost use Rattle.plain_folder.specs.Reopens.{undeleted, column_of, IsTableOf};
+ghost use Rattle.plain_folder.specs.Loading.{AreLoadable, HoldsAll, BlamesProjection, BlamesTable, BlamesTables};
+
+use catalog_types::{Column, Projection, Table as Kept};
+use col_disk::{Disk, StoreFault};
+use col_value::{Asked, List, Stamped};
+use plain_store::Table;
+use sql_tree::NewColumn;
+use std::alloc::{AllocError, Global};
+
+fn add_rows(alloc: Global, out: &mut Vec<Stamped>, rows: Vec<Asked>) -> Result<(), AllocError>
+    ensures { OnOk result (out.new.items ≡ out.old.items ++ map undeleted rows.items) }
+{
+    let mut stamped: Vec<Stamped> = rows
+        .into_iter()
+        .map(|asked| Stamped {
+            row: asked.row,
+            ins: asked.ins,
+            del: None,
+        })
+        .collect(alloc)?;
+    out.append(&mut stamped)
+}
+
+/// The rows of a projection, container by container.
+fn load_rows<D: Disk>(
+    alloc: Global,
+    disk: &mut D,
+    p: &Projection,
+) -> Result<Vec<Stamped>, StoreFault>
+    requires { AreLoadable p.now }
+    ensures found { IfOk result (λ v. HoldsAll p.now (D.holds disk.old) v.items) }
+    ensures epochs { IfOk result (λ v. All (λ s. s.ins ≤ p.now.lge) v.items) }
+    ensures blamed { IfErr result (BlamesProjection p.now (D.holds disk.old)) }
+    ensures kept { D.holds disk.new ≡ D.holds disk.old }
+    ensures moved { Moved ⟦<D as Disk>⟧ NoName NoName disk.old disk.new }
+    ensures cause { HasCause StoreFault.Disk (D.faults disk.old) (D.faults disk.new) result }
+{
+    let mut out = Vec::new(alloc);
+    for container in p.containers.as_slice() {
+        let found = match ros_container::rows(alloc, disk, container, p) {
+            Ok(found) => found,
+            Err(fault) => return Err(fault),
+        };
+        match add_rows(alloc, &mut out, found) {
+            Ok(()) => {}
+            Err(AllocError) => return Err(StoreFault::Memory),
+        }
+    }
+    Ok(out)
+}
+
+fn columns_of(alloc: Global, columns: &[Column]) -> Result<List<NewColumn>, AllocError>
+    ensures { IfOk result (λ v. v ≡ map column_of columns.now) }
+{
+    let mut copies = Vec::with_capacity(alloc, columns.len())?;
+    for column in columns {
+        copies.push(NewColumn {
+            name: column.name.copy(alloc)?,
+            kind: column.kind,
+            not_null: column.not_null,
+        })?;
+    }
+    Ok(List::new(copies))
+}
+
+/// A table of these rows, with the names and columns of the catalogue.
+fn table_with(
+    alloc: Global,
+    t: &Kept,
+    p: &Projection,
+    rows: Vec<Stamped>,
+) -> Result<Table, AllocError>
+    ensures name { IfOk result (λ u. u.name ≡ t.now.name) }
+    ensures projection { IfOk result (λ u. u.projection ≡ p.now.name) }
+    ensures columns { IfOk result (λ u. u.columns ≡ map column_of t.now.columns) }
+    ensures rows { IfOk result (λ u. u.rows.items ≡ rows.items) }
+    ensures born { IfOk result (λ u. u.born ≡ p.now.lge) }
+{
+    Ok(Table {
+        name: t.name.copy(alloc)?,
+        projection: p.name.copy(alloc)?,
+        columns: columns_of(alloc, t.columns.as_slice())?,
+        rows,
+        born: p.lge,
+    })
+}
