@@ -1,0 +1,76 @@
+-- Which catalogue a disk opens to.
+use Rattle.std.specs.Prelude.{◌≡◌, ◌⊎◌, ◌<◌, ◌≤◌, ◌+◌, ◌*◌, ℕ, [], ◌∷◌, Option, Some, None, IsSome}
+use Rattle.std.specs.FinMap.{get}
+use Rattle.col_base.specs.Maps.{Contents}
+use Rattle.col_disk.specs.declared.disk.StoreFault.{StoreFault}
+use Rattle.col_disk.specs.declared.disk.StoreFault.TheVariants.{Disk, Damaged, Memory}
+use Rattle.catalog_types.specs.declared.catalogue.Catalogue.{Catalogue}
+use Rattle.catalog_types.specs.Valid.{IsValid}
+use Rattle.catalog_bytes.specs.Spelling.{spelling, Fits}
+use Rattle.catalog_root.specs.declared.found.Found.{Found}
+use Rattle.catalog_root.specs.declared.found.Found.TheVariants.{Fresh, Root}
+
+-- the file of data number n, and the two of a catalogue's version
+abbrev pub data_file : ℕ → ℕ
+data_file n = 4 * n
+
+abbrev pub body_file : ℕ → ℕ
+body_file v = 4 * v + 1
+
+abbrev pub gate_file : ℕ → ℕ
+gate_file v = 4 * v + 2
+
+-- a gate is open where its file is exactly the byte 86
+abbrev pub IsOpenGate : Contents → ℕ → Type 0
+IsOpenGate m v = get m (gate_file v) ≡ Some (86 ∷ [])
+
+abbrev pub AllClosed : Contents → Type 0
+AllClosed m = (v : ℕ) → IsOpenGate m v → ⊥
+
+pub record IsGreatestGate (m : Contents) (v : ℕ) : Type 0 where
+  pub is_open : IsOpenGate m v
+  pub greatest : (w : ℕ) → IsOpenGate m w → w ≤ v
+
+-- the disk opens to this version, and its body is this catalogue
+pub record IsRoot (m : Contents) (v : ℕ) (c : Catalogue) : Type 0 where
+  pub gate : IsGreatestGate m v
+  pub body : get m (body_file v) ≡ Some (spelling c)
+  pub valid : IsValid c
+  pub fits : Fits c
+  pub below : v < c.next
+
+-- nothing was ever stored: no gate is open, and no data file is there
+pub record IsFresh (m : Contents) : Type 0 where
+  pub closed : AllClosed m
+  pub blank : (n : ℕ) → get m (data_file n) ≡ None
+
+-- what an opening found
+abbrev pub Opens : Contents → Found → Type 0
+Opens m Fresh = IsFresh m
+Opens m (Root v c) = IsRoot m v c
+
+-- what an opening gives on any disk: a valid catalogue, of which the version is a number that was drawn
+abbrev pub IsUsable : Found → Type 0
+IsUsable Fresh = Unit {0}
+IsUsable (Root v c) = IsValid c × (v < c.next)
+
+-- the body of a version is absent, or is no valid catalogue above the version
+abbrev pub HasNoBody : Contents → ℕ → Type 0
+HasNoBody m v = (c : Catalogue) → IsValid c → Fits c → v < c.next → get m (body_file v) ≡ Some (spelling c) → ⊥
+
+-- the least data file that is there
+pub record IsLeastData (m : Contents) (n : ℕ) : Type 0 where
+  pub there : IsSome (get m (data_file n))
+  pub least : (k : ℕ) → IsSome (get m (data_file k)) → n ≤ k
+
+-- a file that keeps a disk from opening: the body of the greatest open gate, or a data file where no gate is open
+abbrev pub IsDamage : Contents → ℕ → Type 0
+IsDamage m q =
+    ((v : ℕ) × (q ≡ body_file v) × IsGreatestGate m v × HasNoBody m v)
+    ⊎ ((n : ℕ) × (q ≡ data_file n) × AllClosed m × IsLeastData m n)
+
+-- a Damaged names a file that keeps the disk from opening; no other fault says anything
+abbrev pub BlamesRoot : Option Contents → StoreFault → Type 0
+BlamesRoot holds (Damaged q) = (m : Contents) → holds ≡ Some m → IsDamage m q
+BlamesRoot holds Disk = Unit {0}
+BlamesRoot holds Memory = Unit {0}

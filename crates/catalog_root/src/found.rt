@@ -1,0 +1,8 @@
+use catalog_types::Catalogue;
+
+/// What a disk opens to: nothing was ever stored on it, or this version of the catalogue.
+#[derive(Debug, Drop)]
+pub enum Found {
+    Fresh,
+    Root { version: u64, catalogue: Catalogue },
+}
