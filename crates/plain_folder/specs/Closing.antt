@@ -34,28 +34,6 @@ Ends kept old new d = (IsSpent kept × Changed NoName NoName old new) ⊎ EndsAs
 abbrev pub DataFrom : ℕ → ℕ → Type 0
 DataFrom base q = (n : ℕ) × (base ≤ n) × (q ≡ data_file n)
 
--- the containers of the one projection of the table of a name, none where there is none
-abbrev pub containers_of : List Projection → List Container
-containers_of [] = []
-containers_of (p ∷ more) = p.containers
-
-abbrev pub containers_named : List ℕ → List kept.Table → List Container
-containers_named name [] = []
-containers_named name (t ∷ ts) = if bytes_eq t.name name then containers_of t.projections else containers_named name ts
-
--- a catalogue's table whose files hold the rows of a table, in some order, all moved to disk
-pub record IsSaved (m : Contents) (last : ℕ) (t : kept.Table) (u : Table) : Type 0 where
-  pub table : Table
-  pub of : IsTableOf m t table
-  pub like : AreAlikeTables table (moved_table last u)
-
--- the numbers of containers of so many columns are below the next free one
-abbrev pub AreBelow : ℕ → ℕ → List Container → Type 0
-AreBelow next columns ks = All (λ k. k.base + file_count columns ≤ next) ks
-
-abbrev pub IsBelowTable : ℕ → kept.Table → Type 0
-IsBelowTable next t = All (λ p. AreBelow next (length p.columns) p.containers) t.projections
-
 -- no epoch was closed and no table made since the tables were read by this catalogue
 pub record IsUnchanged (kept : Catalogue) (state : State) : Type 0 where
   pub last : state.database.last ≡ kept.last

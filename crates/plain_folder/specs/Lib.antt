@@ -4,3 +4,4 @@ pub mod Faults
 pub mod Loading
 pub mod Opening
 pub mod Closing
+pub mod Saving

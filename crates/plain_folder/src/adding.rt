@@ -6,12 +6,12 @@ ghost use Rattle.col_base.specs.Bags.{SameBag};
 ghost use Rattle.col_base.specs.Causes.{HasCause};
 ghost use Rattle.col_base.specs.Maps.{Contents};
 ghost use Rattle.col_disk.specs.Moved.{Moved, NoName};
-ghost use Rattle.col_value.specs.Order.{IsValue};
 ghost use Rattle.col_value.specs.declared.row.Asked.{Asked as Inserted};
 ghost use Rattle.db_model.specs.Growth.{late};
 ghost use Rattle.ros_container.specs.Files.{IsFileOf};
 ghost use Rattle.ros_container.specs.Held.{HoldsContainer};
 ghost use Rattle.plain_folder.specs.Reopens.{undeleted};
+ghost use Rattle.plain_folder.specs.Saving.{IsWritable, IsOfOne};
 
 use catalog_types::{Container, Projection};
 use col_disk::{Disk, DiskFault};
@@ -44,19 +44,19 @@ pub fn late_rows(
     Ok(Some(out))
 }
 
-fn is_writable(asked: &Asked, columns: usize) -> bool
-    ensures { IsTrue result → (length asked.now.row ≡ columns) × All IsValue asked.now.row × (asked.now.ins < 2 ^ 63) }
+fn is_writable(asked: &Asked) -> bool
+    ensures { IsTrue result → IsWritable asked.now }
 {
     let row = asked.row.as_slice();
-    row.len() == columns && asked.ins < 1 << 63 && row.iter().all(|value| is_value(value))
+    row.len() == 1 && asked.ins < 1 << 63 && row.iter().all(|value| is_value(value))
 }
 
-/// Whether each row can stand in a container of so many columns.
-pub fn are_writable(rows: &[Asked], columns: usize) -> bool
-    ensures { IsTrue result → All (λ a. (length a.row ≡ columns) × All IsValue a.row × (a.ins < 2 ^ 63)) rows.now }
+/// Whether each row can stand in a container of one column.
+pub fn are_writable(rows: &[Asked]) -> bool
+    ensures { IsTrue result → All IsWritable rows.now }
 {
     for asked in rows {
-        if !is_writable(asked, columns) {
+        if !is_writable(asked) {
             return false;
         }
     }
@@ -114,12 +114,12 @@ pub fn write_container<D: Disk>(
     base: u64,
 ) -> Result<Container, DiskFault>
     requires some { 0 < length rows.items }
-    requires sort { All (λ i. i < length shape.now.columns) shape.now.sort }
-    requires numbers { base + 2 * length shape.now.columns + 1 < 2 ^ 62 }
-    requires rows { All (λ a. (length a.row ≡ length shape.now.columns) × All IsValue a.row × (a.ins < 2 ^ 63)) rows.items }
+    requires shape { IsOfOne shape.now }
+    requires numbers { base + 4 ≤ 2 ^ 62 }
+    requires rows { All IsWritable rows.items }
     ensures base { IfOk result (λ k. k.base ≡ base) }
-    ensures held { IfOk result (λ k. (sorted : List Inserted) × SameBag rows.items sorted × ((m : Contents) → D.holds disk.new ≡ Some m → HoldsContainer m (length shape.now.columns) k sorted)) }
-    ensures moved { Moved ⟦<D as Disk>⟧ (IsFileOf base (length shape.now.columns)) NoName disk.old disk.new }
+    ensures held { IfOk result (λ k. (sorted : List Inserted) × SameBag rows.items sorted × ((m : Contents) → D.holds disk.new ≡ Some m → HoldsContainer m 1 k sorted)) }
+    ensures moved { Moved ⟦<D as Disk>⟧ (IsFileOf base 1) NoName disk.old disk.new }
     ensures cause { HasCause DiskFault.Failed (D.faults disk.old) (D.faults disk.new) result }
 {
     let sorted = match sort_rows(shape, rows) {

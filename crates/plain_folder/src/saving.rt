@@ -1,14 +1,38 @@
-//! A table of the catalogue, made of a table and the containers that it had.
+//! A table as one of the catalogue, with its new rows written.
 
-ghost use Rattle.std.specs.Prelude.{◌≡◌, ◌≤◌, ◌<◌, ◌+◌, ◌^◌, ◌×◌, ℕ, [], ◌∷◌, Some, map, length, IsTrue, OnOk, IfOk, IfSome, List};
+ghost use Rattle.std.specs.Prelude.{◌≡◌, ◌≤◌, ◌<◌, ◌+◌, ◌++◌, ℕ, [], ◌∷◌, Some, map, length, IfOk};
+ghost use Rattle.std.specs.List.{All};
+ghost use Rattle.col_base.specs.Causes.{HasCause};
+ghost use Rattle.col_base.specs.Maps.{Contents};
+ghost use Rattle.col_disk.specs.Moved.{Moved, NoName};
+ghost use Rattle.db_model.specs.Growth.{late};
+ghost use Rattle.plain_store.specs.Views.{table_of};
+ghost use Rattle.plain_folder.specs.Reopens.{HoldsRows, undeleted, column_of};
+ghost use Rattle.plain_folder.specs.Closing.{DataFrom};
+ghost use Rattle.plain_folder.specs.Saving.{containers_of, containers_named, whole_projection, IsWritable, IsOfOne, HoldsMore, IsBelowTable, IsSaved, WasHeld};
 
 use crate::adding::{are_writable, late_rows, write_container};
 use catalog_types::{Catalogue, Column, Container, ProjColumn, Projection, Table as Kept};
 use col_disk::{Disk, DiskFault};
-use col_value::{Asked, Encoding, List, Name};
+use col_value::{Asked, Encoding, List, Name, Stamped};
 use plain_store::Table;
 use sql_tree::NewColumn;
 use std::alloc::{AllocError, Global};
+
+// The numbers of a container of one column and its epochs.
+const NUMBERS: u64 = 4;
+
+// Numbers are drawn below this one.
+const MOST_NUMBERS: u64 = 1 << 61;
+
+fn first_containers(projections: &[Projection]) -> &[Container]
+    ensures { result.now ≡ containers_of projections.now }
+{
+    match projections {
+        [p, ..] => p.containers.as_slice(),
+        [] => &[],
+    }
+}
 
 /// The containers of the table of a name.
 fn kept_containers<'a>(tables: &'a [Kept], name: &Name) -> &'a [Container]
@@ -20,4 +44,117 @@ fn kept_containers<'a>(tables: &'a [Kept], name: &Name) -> &'a [Container]
         }
     }
     &[]
+}
+
+fn columns_of(alloc: Global, columns: List<NewColumn>) -> Result<List<Column>, AllocError>
+    ensures { IfOk result (λ v. map column_of v ≡ columns) }
+{
+    let columns = columns.into_vec();
+    let mut kept = Vec::with_capacity(alloc, columns.len())?;
+    for column in columns {
+        kept.push(Column {
+            name: column.name,
+            kind: column.kind,
+            not_null: column.not_null,
+        })?;
+    }
+    Ok(List::new(kept))
+}
+
+/// The projection that CREATE TABLE makes of one column, without rows.
+fn bare_projection(alloc: Global, name: Name, last: u64) -> Result<Projection, AllocError>
+    ensures { IfOk result (λ p. p ≡ whole_projection name last []) }
+{
+    let mut columns = Vec::with_capacity(alloc, 1)?;
+    columns.push(ProjColumn {
+        ordinal: 0,
+        encoding: Encoding::Plain,
+    })?;
+    let mut sort = Vec::with_capacity(alloc, 1)?;
+    sort.push(0)?;
+    Ok(Projection {
+        name,
+        columns: List::new(columns),
+        sort: List::new(sort),
+        fresh: true,
+        lge: last,
+        born: 0,
+        containers: List::new(Vec::new(alloc)),
+    })
+}
+
+/// A table of the catalogue with this one projection.
+fn kept_table(
+    alloc: Global,
+    name: Name,
+    columns: List<NewColumn>,
+    projection: Projection,
+) -> Result<Kept, AllocError>
+    ensures name { IfOk result (λ t. t.name ≡ name) }
+    ensures columns { IfOk result (λ t. map column_of t.columns ≡ columns) }
+    ensures projections { IfOk result (λ t. t.projections ≡ projection ∷ []) }
+{
+    let mut projections = Vec::with_capacity(alloc, 1)?;
+    projections.push(projection)?;
+    Ok(Kept {
+        name,
+        columns: columns_of(alloc, columns)?,
+        projections: List::new(projections),
+    })
+}
+
+/// The new rows of a table, where they can stand in containers of one column. What can't be written is answered as
+/// want of memory: no table of a store has such rows.
+fn new_rows(
+    alloc: Global,
+    rows: Vec<Stamped>,
+    columns: usize,
+    epoch: u64,
+) -> Result<Vec<Asked>, AllocError>
+    ensures late { IfOk result (λ v. map undeleted v.items ≡ late epoch rows.items) }
+    ensures writable { IfOk result (λ v. All IsWritable v.items) }
+    ensures columns { IfOk result (λ v. columns ≡ 1) }
+{
+    match late_rows(alloc, rows, epoch)? {
+        Some(added) => {
+            if columns == 1 && are_writable(added.as_slice()) {
+                Ok(added)
+            } else {
+                Err(AllocError)
+            }
+        }
+        None => Err(AllocError),
+    }
+}
+
+/// Writes the rows, if there are any, as one container more, with numbers from `next` on, and answers the next number
+/// that is free then.
+fn add_container<D: Disk>(
+    alloc: Global,
+    disk: &mut D,
+    shape: &Projection,
+    containers: &mut Vec<Container>,
+    rows: Vec<Asked>,
+    next: u64,
+) -> Result<u64, DiskFault>
+    requires rows { All IsWritable rows.items }
+    requires shape { IsOfOne shape.now }
+    ensures held { IfOk result (λ after. HoldsMore next after containers.old.items containers.new.items rows.items (D.holds disk.old) (D.holds disk.new)) }
+    ensures next { IfOk result (λ after. next ≤ after) }
+    ensures moved { Moved ⟦<D as Disk>⟧ (DataFrom next) NoName disk.old disk.new }
+    ensures cause { HasCause DiskFault.Failed (D.faults disk.old) (D.faults disk.new) result }
+{
+    if rows.is_empty() {
+        return Ok(next);
+    }
+    if next >= MOST_NUMBERS {
+        return Err(DiskFault::Memory);
+    }
+    match write_container(alloc, disk, shape, rows, next) {
+        Ok(container) => match containers.push(container) {
+            Ok(()) => Ok(next + NUMBERS),
+            Err(_) => Err(DiskFault::Memory),
+        },
+        Err(fault) => Err(fault),
+    }
 }

@@ -1,0 +1,76 @@
+-- A table's new rows on disk, and its place in the catalogue.
+use Rattle.std.specs.Prelude.{ℕ, ◌≡◌, ◌≤◌, ◌<◌, ◌^◌, ◌*◌, ◌+◌, ◌++◌, if◌then◌else◌, true, List, [], ◌∷◌, map, length, bytes_eq, Option, Some}
+use Rattle.std.specs.List.{All}
+use Rattle.col_base.specs.Bags.{SameBag}
+use Rattle.col_base.specs.Maps.{Contents}
+use Rattle.col_value.specs.Order.{IsValue}
+use Rattle.col_value.specs.declared.kinds.Encoding.{Encoding}
+use Rattle.col_value.specs.declared.row.Asked.{Asked}
+use Rattle.col_value.specs.declared.row.Stamped.{Stamped}
+use Rattle.catalog_types.specs.declared.catalogue.Container.{Container}
+use Rattle.catalog_types.specs.declared.catalogue.Projection.{Projection}
+use Rattle.catalog_types.specs.declared.catalogue.Table as kept
+use Rattle.catalog_types.specs.declared.catalogue.Catalogue.{Catalogue}
+use Rattle.db_model.specs.Database.{Table}
+use Rattle.db_model.specs.Growth.{early}
+use Rattle.db_model.specs.Kept.{moved_table, AreAlikeTables}
+use Rattle.plain_folder.specs.Reopens.{HoldsRows, undeleted, IsTableOf}
+
+-- the containers of the first of some projections
+abbrev pub containers_of : List Projection → List Container
+containers_of [] = []
+containers_of (p ∷ more) = p.containers
+
+-- those of the table of a name, none where there is none
+abbrev pub containers_named : List ℕ → List kept.Table → List Container
+containers_named name [] = []
+containers_named name (t ∷ ts) = if bytes_eq t.name name then containers_of t.projections else containers_named name ts
+
+-- the projection that CREATE TABLE makes of one column, with containers of level 0
+abbrev pub whole_projection : List ℕ → ℕ → List Container → Projection
+whole_projection name last containers = record {
+  name = name;
+  columns = record { ordinal = 0; encoding = Encoding.Plain } ∷ [];
+  sort = 0 ∷ [];
+  fresh = true;
+  lge = last;
+  born = length containers;
+  containers = containers;
+}
+
+-- a projection of one column, by which its rows are sorted
+pub record IsOfOne (p : Projection) : Type 0 where
+  pub columns : length p.columns ≡ 1
+  pub sort : All (λ i. i < length p.columns) p.sort
+
+-- a row that can stand in a container of one column
+pub record IsWritable (a : Asked) : Type 0 where
+  pub wide : length a.row ≡ 1
+  pub values : All IsValue a.row
+  pub epoch : a.ins < 2 ^ 63
+
+-- the numbers of containers of one column, two for the column and two for the epochs, are below the next free one
+abbrev pub AreBelow : ℕ → List Container → Type 0
+AreBelow next ks = All (λ k. k.base + 4 ≤ next) ks
+
+-- containers that hold rows, with numbers below the next free one
+pub record AreHeld (m : Contents) (next : ℕ) (ks : List Container) (rows : List Stamped) : Type 0 where
+  pub rows : HoldsRows m 1 ks rows
+  pub below : AreBelow next ks
+
+-- the containers that held some rows hold these too now, in some order behind them
+abbrev pub HoldsMore : ℕ → ℕ → List Container → List Container → List Asked → Option Contents → Option Contents → Type 0
+HoldsMore next after old new added found left =
+    (m : Contents) (rows : List Stamped) → found ≡ Some m → AreHeld m next old rows
+    → (n : Contents) × (sorted : List Asked) × (left ≡ Some n) × SameBag added sorted × AreHeld n after new (rows ++ map undeleted sorted)
+
+-- the disk held the early rows of a table, in the containers that the catalogue lists for it
+abbrev pub WasHeld : Contents → Catalogue → ℕ → Table → Type 0
+WasHeld m kept next u = AreHeld m next (containers_named u.name kept.tables) (early kept.last u.rows)
+
+-- a catalogue's table whose files hold the rows of a table, in some order, all moved to disk
+pub record IsSaved (m : Contents) (next last : ℕ) (t : kept.Table) (u : Table) : Type 0 where
+  pub table : Table
+  pub of : IsTableOf m t table
+  pub like : AreAlikeTables table (moved_table last u)
+  pub below : All (λ p. AreBelow next p.containers) t.projections
