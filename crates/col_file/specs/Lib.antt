@@ -3,3 +3,4 @@ pub mod Index
 pub mod Fronts
 pub mod Column
 pub mod Read
+pub mod Held

@@ -16,6 +16,7 @@ mod laws;
 mod part;
 mod plain;
 mod read;
+mod whole;
 
 pub use block::read_block;
 pub use column::{are_values, write_column};
@@ -23,6 +24,7 @@ pub use index::{Entry, PosIndex};
 pub use laws::one_spelling;
 pub use plain::{put_plain, take_plain};
 pub use read::read_index;
+pub use whole::read_column;
 
 #[cfg(test)]
 mod tests;

@@ -1,0 +1,39 @@
+-- The values that the two files of a column hold.
+use Rattle.std.specs.Prelude.{◌≡◌, ◌⊎◌, ℕ, List, [], ◌∷◌, ◌++◌, Option, Some, None}
+use Rattle.std.specs.FinMap.{get}
+use Rattle.col_base.specs.Maps.{Contents}
+use Rattle.col_disk.specs.declared.disk.StoreFault.{StoreFault}
+use Rattle.col_disk.specs.declared.disk.StoreFault.TheVariants.{Disk, Damaged, Memory}
+use Rattle.col_value.specs.declared.value.Value.{Value}
+use Rattle.col_file.specs.declared.index.Entry.{Entry}
+use Rattle.col_file.specs.declared.index.PosIndex.{PosIndex}
+use Rattle.col_file.specs.Plain.{plain}
+use Rattle.col_file.specs.Index.{index_spelling, IsIndex, Fits}
+use Rattle.col_file.specs.Column.{IsNoFile}
+use Rattle.col_file.specs.Read.{SpellsIndex, IsBlock, piece}
+
+abbrev pub first_of : List Entry → Option Entry
+first_of [] = None
+first_of (e ∷ es) = Some e
+
+-- the values of a body's blocks, one block after the other, in a column of so many rows
+abbrev pub HasBlocks : ℕ → List ℕ → List Entry → List Value → Type 0
+HasBlocks rows bytes [] vs = vs ≡ []
+HasBlocks rows bytes (e ∷ es) vs = (block : List Value) × (more : List Value) × IsBlock rows e block × (piece e (first_of es) bytes ≡ plain block) × HasBlocks rows bytes es more × (vs ≡ block ++ more)
+
+-- the two files hold a column of these values
+pub record HoldsColumn (body index rows : ℕ) (m : Contents) (vs : List Value) : Type 0 where
+  pub at : PosIndex
+  pub is_index : IsIndex at
+  pub fits : Fits at
+  pub of_rows : at.rows ≡ rows
+  pub index_file : get m index ≡ Some (index_spelling at)
+  pub bytes : List ℕ
+  pub body_file : get m body ≡ Some bytes
+  pub blocks : HasBlocks rows bytes at.entries vs
+
+-- a Damaged names one of the two files, and that file is absent or not what it has to be; no other fault says anything
+abbrev pub BlamesColumn : ℕ → ℕ → ℕ → Option Contents → StoreFault → Type 0
+BlamesColumn body index rows holds (Damaged n) = ((n ≡ index) × IsNoFile index (SpellsIndex rows) holds) ⊎ ((n ≡ body) × ((m : Contents) → holds ≡ Some m → (vs : List Value) → HoldsColumn body index rows m vs → ⊥))
+BlamesColumn body index rows holds Disk = Unit {0}
+BlamesColumn body index rows holds Memory = Unit {0}
