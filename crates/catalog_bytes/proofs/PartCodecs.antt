@@ -6,14 +6,15 @@ use Rattle.catalog_types.specs.declared.catalogue.Container.{Container}
 use Rattle.catalog_types.specs.declared.catalogue.Projection.{Projection}
 use Rattle.catalog_types.specs.declared.catalogue.Table.{Table}
 use Rattle.catalog_types.specs.declared.catalogue.Catalogue.{Catalogue}
-use Rattle.col_bytes.specs.Spellings.{vint, text}
+use Rattle.col_bytes.specs.Spellings.{vint, text, counted, FitsList}
 use Rattle.col_bytes.specs.Fronts.{vint_at, text_at}
+use Rattle.col_bytes.specs.Parts.{counted_at}
 use Rattle.col_bytes.proofs.Codecs.{IsCodec}
 use Rattle.col_bytes.proofs.Vints.{vint_codec}
 use Rattle.col_bytes.proofs.Texts.{text_codec}
-use Rattle.catalog_bytes.specs.Spelling.{flag, kind, encoding, counted, column, proj_column, marks, container, projection, table, FitsKind, FitsMarks, FitsList, FitsColumn, FitsProjColumn, FitsContainer, FitsProjection, FitsTable, Fits}
-use Rattle.catalog_bytes.specs.Fronts.{flag_at, narrow_at, kind_at, encoding_at, marks_at, counted_at, column_of, column_at, proj_column_of, proj_column_at, container_of, container_at, projection_of, projection_at, table_of, table_at, catalogue_of, catalogue_at}
-use Rattle.catalog_bytes.proofs.Combine.{both_codec, made_codec, counted_codec}
+use Rattle.catalog_bytes.specs.Spelling.{flag, kind, encoding, column, proj_column, marks, container, projection, table, FitsKind, FitsMarks, FitsColumn, FitsProjColumn, FitsContainer, FitsProjection, FitsTable, Fits}
+use Rattle.catalog_bytes.specs.Fronts.{flag_at, narrow_at, kind_at, encoding_at, marks_at, column_of, column_at, proj_column_of, proj_column_at, container_of, container_at, projection_of, projection_at, table_of, table_at, catalogue_of, catalogue_at}
+use Rattle.col_bytes.proofs.Combine.{both_codec, made_codec, counted_codec}
 use Rattle.catalog_bytes.proofs.SmallCodecs.{flag_codec, narrow_codec, kind_codec, encoding_codec, marks_codec}
 
 abbrev none_asked : {A : Type 0} → A → Type 0

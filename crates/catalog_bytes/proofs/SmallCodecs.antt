@@ -12,7 +12,7 @@ use Rattle.col_bytes.proofs.Codecs.{IsBytes, IsBytes-rest, Takes, IsCodec, some_
 use Rattle.col_bytes.proofs.Vints.{vint_codec}
 use Rattle.catalog_bytes.specs.Spelling.{flag, kind, encoding, marks, FitsKind, FitsMarks}
 use Rattle.catalog_bytes.specs.Fronts.{flag_at, narrow, narrow_at, kind_at, encoding_at, marks_of, marks_at}
-use Rattle.catalog_bytes.proofs.Combine.{map_some}
+use Rattle.col_bytes.proofs.Combine.{map_some}
 
 one_byte : (b : ℕ) (rest : List ℕ) → IsBytes (b ∷ rest) → Takes (b ∷ rest) (b ∷ []) rest
 one_byte b rest fits = record { parts = refl; rest_fits = IsBytes-rest b rest fits }

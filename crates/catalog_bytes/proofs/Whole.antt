@@ -7,7 +7,8 @@ use Rattle.std.proofs.lemmas.Option.{option_and_then_some, cond_some}
 use Rattle.catalog_types.specs.declared.catalogue.Catalogue.{Catalogue}
 use Rattle.col_bytes.proofs.Codecs.{IsBytes, IsBytes-rest, Takes, Takes-then, some_is}
 use Rattle.catalog_bytes.specs.Spelling.{head, spelling, Fits}
-use Rattle.catalog_bytes.specs.Fronts.{catalogue_at, ended, after, behind_head, all_of, IfValid}
+use Rattle.col_bytes.specs.Parts.{ended}
+use Rattle.catalog_bytes.specs.Fronts.{catalogue_at, after, behind_head, all_of, IfValid}
 use Rattle.catalog_types.specs.Valid.{IsValid}
 use Rattle.catalog_bytes.proofs.PartCodecs.{fields, catalogue_codec}
 

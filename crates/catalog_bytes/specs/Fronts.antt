@@ -1,5 +1,5 @@
 -- Reading a part of a catalogue from the front of some bytes: the part, and the bytes behind it.
-use Rattle.std.specs.Prelude.{◌≡◌, ℕ, zero, suc, ◌^◌, Bool, true, false, List, [], ◌∷◌, length, Option, Some, None, Result, Ok, Err, option_map, option_and_then, nat_lt, if◌then◌else◌, ◌==◌}
+use Rattle.std.specs.Prelude.{◌≡◌, ℕ, zero, suc, ◌^◌, Bool, true, false, List, [], ◌∷◌, Option, Some, None, option_map, option_and_then, nat_lt, if◌then◌else◌, ◌==◌}
 use Rattle.col_value.specs.declared.kinds.ColType.{ColType}
 use Rattle.col_value.specs.declared.kinds.ColType.TheVariants.{Integer, Varchar, Boolean}
 use Rattle.col_value.specs.declared.kinds.Encoding.{Encoding}
@@ -10,35 +10,9 @@ use Rattle.catalog_types.specs.declared.catalogue.Container.{Container}
 use Rattle.catalog_types.specs.declared.catalogue.Projection.{Projection}
 use Rattle.catalog_types.specs.declared.catalogue.Table.{Table}
 use Rattle.catalog_types.specs.declared.catalogue.Catalogue.{Catalogue}
-use Rattle.catalog_bytes.specs.declared.stop.Stop.{Stop}
-use Rattle.catalog_bytes.specs.declared.stop.Stop.TheVariants.{Memory, Malformed}
 use Rattle.col_bytes.specs.Fronts.{vint_at, text_at}
+use Rattle.col_bytes.specs.Parts.{both, made, counted_at, ended}
 use Rattle.catalog_types.specs.Valid.{IsValid}
-
--- what a function returned, seen by a view, is what reading gives, unless memory ran out
-abbrev pub Stops : {A : Type 0} → Stop → Option A → Type 0
-Stops Memory read = Unit {0}
-Stops Malformed read = read ≡ None
-
-abbrev pub Gives : {X A : Type 0} → (X → A) → Result X Stop → Option A → Type 0
-Gives view (Ok x) read = read ≡ Some (view x)
-Gives view (Err e) read = Stops e read
-
--- one part, and another behind it
-abbrev pub both : {A B : Type 0} → (List ℕ → Option (A × List ℕ)) → (List ℕ → Option (B × List ℕ)) → List ℕ → Option ((A × B) × List ℕ)
-both f g bytes = option_and_then (λ x. option_map (λ y. ((x.0, y.0), y.1)) (g x.1)) (f bytes)
-
--- a part that is made of what is read
-abbrev pub made : {A B : Type 0} → (A → B) → (List ℕ → Option (A × List ℕ)) → List ℕ → Option (B × List ℕ)
-made f read bytes = option_map (λ x. (f x.0, x.1)) (read bytes)
-
--- so many parts
-unfoldable pub many : {A : Type 0} → (List ℕ → Option (A × List ℕ)) → ℕ → List ℕ → Option (List A × List ℕ)
-many read zero bytes = Some ([], bytes)
-many read (suc n) bytes = option_and_then (λ x. option_map (λ y. (x.0 ∷ y.0, y.1)) (many read n x.1)) (read bytes)
-
-abbrev pub counted_at : {A : Type 0} → (List ℕ → Option (A × List ℕ)) → List ℕ → Option (List A × List ℕ)
-counted_at read bytes = option_and_then (λ n. many read n.0 n.1) (vint_at bytes)
 
 abbrev pub flag_at : List ℕ → Option (Bool × List ℕ)
 flag_at [] = None
@@ -113,10 +87,6 @@ catalogue_of x = record { last = x.0; ahm = x.1.0; next = x.1.1.0; tables = x.1.
 -- what stands behind the head
 unfoldable pub catalogue_at : List ℕ → Option (Catalogue × List ℕ)
 catalogue_at bytes = made catalogue_of (both vint_at (both vint_at (both vint_at (counted_at table_at)))) bytes
-
--- all of the bytes behind the head, and no more
-abbrev pub ended : Catalogue × List ℕ → Option Catalogue
-ended x = if length x.1 == 0 then Some x.0 else None
 
 -- the bytes behind the head
 abbrev pub after : ℕ → List ℕ → Option (List ℕ)

@@ -1,6 +1,5 @@
 -- How a catalogue is spelled as bytes, and what has a spelling.
 use Rattle.std.specs.Prelude.{ℕ, ◌<◌, ◌≤◌, ◌^◌, Bool, true, false, List, [], ◌∷◌, ◌++◌, length, Option, Some, None}
-use Rattle.std.specs.List.{AllByRecursion, flat_map}
 use Rattle.col_value.specs.declared.kinds.ColType.{ColType}
 use Rattle.col_value.specs.declared.kinds.ColType.TheVariants.{Integer, Varchar, Boolean}
 use Rattle.col_value.specs.declared.kinds.Encoding.{Encoding}
@@ -11,7 +10,7 @@ use Rattle.catalog_types.specs.declared.catalogue.Container.{Container}
 use Rattle.catalog_types.specs.declared.catalogue.Projection.{Projection}
 use Rattle.catalog_types.specs.declared.catalogue.Table.{Table}
 use Rattle.catalog_types.specs.declared.catalogue.Catalogue.{Catalogue}
-use Rattle.col_bytes.specs.Spellings.{vint, text}
+use Rattle.col_bytes.specs.Spellings.{vint, text, counted, FitsList}
 
 abbrev pub flag : Bool → List ℕ
 flag false = 0 ∷ []
@@ -30,10 +29,6 @@ encoding Rle = 1 ∷ []
 encoding DeltaVal = 2 ∷ []
 encoding BlockDict = 3 ∷ []
 encoding Plain = 4 ∷ []
-
--- how many, and each after the other
-abbrev pub counted : {A : Type 0} → (A → List ℕ) → List A → List ℕ
-counted spell xs = vint (length xs) ++ flat_map spell xs
 
 -- name, kind, whether NULL is refused
 abbrev pub column : Column → List ℕ
@@ -74,9 +69,6 @@ FitsKind Boolean = Unit {0}
 abbrev pub FitsMarks : Option ℕ → Type 0
 FitsMarks None = Unit {0}
 FitsMarks (Some m) = (1 ≤ m) × (m < 2 ^ 64)
-
-abbrev pub FitsList : {A : Type 0} → (A → Type 0) → List A → Type 0
-FitsList fits xs = (length xs < 2 ^ 64) × AllByRecursion fits xs
 
 abbrev pub FitsColumn : Column → Type 0
 FitsColumn k = (length k.name < 2 ^ 64) × (FitsKind k.kind × Unit {0})

@@ -4,13 +4,12 @@ ghost use Rattle.std.specs.Prelude.{◌≡◌, ◌++◌, ◌&&◌, OnOk, IfOk, I
 ghost use Rattle.catalog_types.specs.declared.catalogue.Catalogue.{Catalogue as Logical};
 ghost use Rattle.catalog_types.specs.Valid.{IsValid};
 ghost use Rattle.catalog_bytes.specs.Spelling.{head, spelling, Fits};
-ghost use Rattle.catalog_bytes.specs.Fronts.{Gives, behind_head, catalogue_at, all_of, IfValid};
+ghost use Rattle.col_bytes.specs.Parts.{Gives};
+ghost use Rattle.catalog_bytes.specs.Fronts.{behind_head, catalogue_at, all_of, IfValid};
 
-use crate::leaves::number_of;
 use crate::part::{put_list, read_list};
-use crate::stop::Stop;
 use catalog_types::Catalogue;
-use col_bytes::put_vint;
+use col_bytes::{Stop, put_vint, read_vint};
 use std::alloc::{AllocError, Global};
 
 /// `VCAT`, and the version of the format.
@@ -48,9 +47,9 @@ fn behind(bytes: &[u8]) -> Result<&[u8], Stop>
 fn catalogue_of(alloc: Global, bytes: &[u8]) -> Result<(Catalogue, &[u8]), Stop>
     ensures { Gives (λ x. (x.0, x.1.now)) result (catalogue_at bytes.now) }
 {
-    let (last, rest) = number_of(bytes)?;
-    let (ahm, rest) = number_of(rest)?;
-    let (next, rest) = number_of(rest)?;
+    let (last, rest) = read_vint(bytes)?;
+    let (ahm, rest) = read_vint(rest)?;
+    let (next, rest) = read_vint(rest)?;
     let (tables, rest) = read_list(alloc, rest)?;
     Ok((
         Catalogue {

@@ -4,10 +4,10 @@ ghost use Rattle.std.specs.Prelude.{◌≡◌, ◌++◌, ◌∷◌, [], OnOk};
 ghost use Rattle.col_bytes.specs.Spellings.{vint, text};
 ghost use Rattle.col_bytes.specs.Fronts.{vint_at, text_at};
 ghost use Rattle.catalog_bytes.specs.Spelling.{flag, kind, encoding, marks};
-ghost use Rattle.catalog_bytes.specs.Fronts.{Gives, flag_at, narrow_at, kind_at, encoding_at, marks_at};
+ghost use Rattle.col_bytes.specs.Parts.{Gives};
+ghost use Rattle.catalog_bytes.specs.Fronts.{flag_at, narrow_at, kind_at, encoding_at, marks_at};
 
-use crate::stop::Stop;
-use col_bytes::{put_vint, take_text, take_vint};
+use col_bytes::{Stop, put_vint, read_vint, take_text};
 use col_value::{ColType, Encoding, Name};
 use std::alloc::{AllocError, Global};
 
@@ -70,20 +70,11 @@ pub fn flag_of(bytes: &[u8]) -> Result<(bool, &[u8]), Stop>
     }
 }
 
-pub fn number_of(bytes: &[u8]) -> Result<(u64, &[u8]), Stop>
-    ensures { Gives (λ x. (x.0, x.1.now)) result (vint_at bytes.now) }
-{
-    match take_vint(bytes) {
-        Some((n, len)) => Ok((n, bytes.split_at(len).1)),
-        None => Err(Stop::Malformed),
-    }
-}
-
 #[tactic(auto, unfolding(crate::specs::Fronts::narrow_at))]
 pub fn narrow_of(bytes: &[u8]) -> Result<(u32, &[u8]), Stop>
     ensures { Gives (λ x. (x.0, x.1.now)) result (narrow_at bytes.now) }
 {
-    let (n, rest) = number_of(bytes)?;
+    let (n, rest) = read_vint(bytes)?;
     if n < 1 << 32 {
         Ok((n as u32, rest))
     } else {
@@ -123,7 +114,7 @@ pub fn encoding_of(bytes: &[u8]) -> Result<(Encoding, &[u8]), Stop>
 pub fn marks_of(bytes: &[u8]) -> Result<(Option<u64>, &[u8]), Stop>
     ensures { Gives (λ x. (x.0, x.1.now)) result (marks_at bytes.now) }
 {
-    let (n, rest) = number_of(bytes)?;
+    let (n, rest) = read_vint(bytes)?;
     if n == 0 {
         Ok((None, rest))
     } else {

@@ -8,7 +8,6 @@ mod body;
 mod leaves;
 mod part;
 mod parts;
-mod stop;
 
 pub use body::{from_bytes, one_spelling, to_bytes};
 

@@ -2,12 +2,10 @@
 
 ghost use Rattle.std.specs.Prelude.{◌≡◌, ◌++◌, List, ℕ, Option, OnOk};
 ghost use Rattle.std.specs.List.{flat_map};
-ghost use Rattle.catalog_bytes.specs.Spelling.{counted};
-ghost use Rattle.catalog_bytes.specs.Fronts.{Gives, many, counted_at};
+ghost use Rattle.col_bytes.specs.Spellings.{counted};
+ghost use Rattle.col_bytes.specs.Parts.{Gives, many, counted_at};
 
-use crate::leaves::number_of;
-use crate::stop::Stop;
-use col_bytes::put_vint;
+use col_bytes::{Stop, put_vint, read_vint};
 use col_value::List as Items;
 use std::alloc::{AllocError, Global};
 
@@ -64,7 +62,7 @@ fn read_each<T: Part + Drop>(
 pub fn read_list<T: Part + Drop>(alloc: Global, bytes: &[u8]) -> Result<(Items<T>, &[u8]), Stop>
     ensures { Gives (λ x. (x.0, x.1.now)) result (counted_at T.front bytes.now) }
 {
-    let (count, rest) = number_of(bytes)?;
+    let (count, rest) = read_vint(bytes)?;
     let (parts, rest) = read_each(alloc, count, rest)?;
     Ok((Items::new(parts), rest))
 }

@@ -1,19 +1,18 @@
 //! The parts of a catalogue.
 
 ghost use Rattle.std.specs.Prelude.{◌≡◌, ◌++◌, OnOk};
-ghost use Rattle.col_bytes.specs.Spellings.{vint, text};
+ghost use Rattle.col_bytes.specs.Spellings.{vint, text, counted};
 ghost use Rattle.col_bytes.specs.Fronts.{vint_at};
-ghost use Rattle.catalog_bytes.specs.Spelling.{counted, flag, column, proj_column, container, projection, table};
+ghost use Rattle.catalog_bytes.specs.Spelling.{flag, column, proj_column, container, projection, table};
 ghost use Rattle.catalog_bytes.specs.Fronts.{column_at, proj_column_at, container_at, projection_at, table_at};
 
 use crate::leaves::{
-    encoding_of, flag_of, kind_of, marks_of, name_of, narrow_of, number_of, put_encoding, put_flag,
-    put_kind, put_marks,
+    encoding_of, flag_of, kind_of, marks_of, name_of, narrow_of, put_encoding, put_flag, put_kind,
+    put_marks,
 };
 use crate::part::{Part, put_list, read_list};
-use crate::stop::Stop;
 use catalog_types::{Column, Container, ProjColumn, Projection, Table};
-use col_bytes::{put_text, put_vint};
+use col_bytes::{Stop, put_text, put_vint, read_vint};
 use std::alloc::{AllocError, Global};
 
 impl Part for usize {
@@ -26,7 +25,7 @@ impl Part for usize {
     }
 
     fn read(_alloc: Global, bytes: &[u8]) -> Result<(usize, &[u8]), Stop> {
-        let (n, rest) = number_of(bytes)?;
+        let (n, rest) = read_vint(bytes)?;
         Ok((n as usize, rest))
     }
 }
@@ -70,7 +69,7 @@ impl Part for ProjColumn {
     }
 
     fn read(_alloc: Global, bytes: &[u8]) -> Result<(ProjColumn, &[u8]), Stop> {
-        let (ordinal, rest) = number_of(bytes)?;
+        let (ordinal, rest) = read_vint(bytes)?;
         let (encoding, rest) = encoding_of(rest)?;
         Ok((
             ProjColumn {
@@ -99,13 +98,13 @@ impl Part for Container {
     }
 
     fn read(_alloc: Global, bytes: &[u8]) -> Result<(Container, &[u8]), Stop> {
-        let (base, rest) = number_of(bytes)?;
-        let (rows, rest) = number_of(rest)?;
-        let (least_epoch, rest) = number_of(rest)?;
-        let (greatest_epoch, rest) = number_of(rest)?;
+        let (base, rest) = read_vint(bytes)?;
+        let (rows, rest) = read_vint(rest)?;
+        let (least_epoch, rest) = read_vint(rest)?;
+        let (greatest_epoch, rest) = read_vint(rest)?;
         let (level, rest) = narrow_of(rest)?;
         let (marks, rest) = marks_of(rest)?;
-        let (greatest_mark, rest) = number_of(rest)?;
+        let (greatest_mark, rest) = read_vint(rest)?;
         Ok((
             Container {
                 base,
@@ -154,8 +153,8 @@ impl Part for Projection {
         let (columns, rest) = read_list(alloc, rest)?;
         let (sort, rest) = read_list(alloc, rest)?;
         let (fresh, rest) = flag_of(rest)?;
-        let (lge, rest) = number_of(rest)?;
-        let (born, rest) = number_of(rest)?;
+        let (lge, rest) = read_vint(rest)?;
+        let (born, rest) = read_vint(rest)?;
         let (containers, rest) = read_list(alloc, rest)?;
         Ok((
             Projection {

@@ -1,6 +1,6 @@
 -- What a spelling and a reading of fronts have to be to each other, and how such pairs are put together.
 use Rattle.std.proofs.Common.{◌≡◌, ℕ, suc, ◌+◌, ◌-◌, ◌<◌, ◌≤◌, Bool, true, false, cond, ltb, List, ◌∷◌, ◌++◌, length, get_or, take, drop, Option, Some, None, refl, sym, ap, ◌∙◌, append_assoc, arith, inl, inr}
-use Rattle.std.specs.Prelude.{option_and_then, option_map, IfSome, IfNone}
+use Rattle.std.specs.Prelude.{option_map, IfSome, IfNone}
 use Rattle.std.proofs.lemmas.Bool.{cases_lt, le-ltb}
 use Rattle.std.proofs.lemmas.List.{take_at, drop_at, length-append, length-drop, length-take, get_or-drop, get_or-take, get_or_past}
 use Rattle.col_bytes.specs.Spellings.{Begins}
@@ -76,10 +76,6 @@ reads_by spell fits read codec bytes a rest are e =
     let long : length (spell a) ≡ length bytes - length rest = omega arith in
     let behind : rest ≡ drop (length bytes - length rest) bytes = sym (drop_at (spell a) rest (length bytes - length rest) long) ∙ ap (drop (length bytes - length rest)) (sym t) in
     (omega arith, (omega arith, e ∙ ap (λ (r : List ℕ). Some (a, r)) behind))
-
--- two codecs one after the other
-abbrev pub both : {A B : Type 0} → (List ℕ → Option (A × List ℕ)) → (List ℕ → Option (B × List ℕ)) → List ℕ → Option ((A × B) × List ℕ)
-both f g bytes = option_and_then (λ x. option_map (λ y. ((x.0, y.0), y.1)) (g x.1)) (f bytes)
 
 -- a guard that let through
 pub let_through : {A : Type 0} (b : Bool) (x y : A) → cond b None (Some x) ≡ Some y → (b ≡ false) × (x ≡ y)

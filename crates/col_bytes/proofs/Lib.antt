@@ -3,3 +3,5 @@ pub mod Vints
 pub mod Pushed
 pub mod Texts
 pub mod Widths
+pub mod Combine
+pub mod ReadOn

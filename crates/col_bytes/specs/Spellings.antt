@@ -1,6 +1,7 @@
 -- How numbers and texts are spelled as bytes.
-use Rattle.std.specs.Prelude.{◌≡◌, ℕ, zero, suc, ◌+◌, ◌*◌, ◌/◌, ◌%◌, ◌<◌, ◌≤◌, ℤ, List, [], ◌∷◌, ◌++◌, length, drop, nat_lt, if◌then◌else◌}
+use Rattle.std.specs.Prelude.{◌≡◌, ℕ, zero, suc, ◌+◌, ◌*◌, ◌/◌, ◌%◌, ◌<◌, ◌≤◌, ◌^◌, ℤ, List, [], ◌∷◌, ◌++◌, length, drop, nat_lt, if◌then◌else◌}
 use Rattle.std.specs.Int.{w32, w64, to_be_bytes, cast_unsigned}
+use Rattle.std.specs.List.{AllByRecursion, flat_map}
 
 -- a number in groups of seven bits, the least first, in at most so many bytes: each byte but the last has 128 on top
 unfoldable pub groups : ℕ → ℕ → List ℕ
@@ -29,6 +30,14 @@ be4 n = to_be_bytes w32 n
 -- how many bytes, and these bytes
 abbrev pub text : List ℕ → List ℕ
 text bytes = vint (length bytes) ++ bytes
+
+-- how many, and each after the other
+abbrev pub counted : {A : Type 0} → (A → List ℕ) → List A → List ℕ
+counted spell xs = vint (length xs) ++ flat_map spell xs
+
+-- the lists that have a spelling
+abbrev pub FitsList : {A : Type 0} → (A → Type 0) → List A → Type 0
+FitsList fits xs = (length xs < 2 ^ 64) × AllByRecursion fits xs
 
 -- the bytes begin with this spelling, which is so long
 pub record Begins (bytes spelling : List ℕ) (len : ℕ) : Type 0 where

@@ -13,9 +13,10 @@ use Rattle.col_bytes.proofs.Codecs.{IsBytes, IsBytes-rest, Takes, Takes-then, Is
 use Rattle.col_bytes.proofs.Vints.{vint_codec}
 use Rattle.col_value.specs.declared.value.Value.{Value}
 use Rattle.value_bytes.specs.Spelling.{spelling, IsSpelled}
-use Rattle.value_bytes.specs.Fronts.{many, value_at}
+use Rattle.col_bytes.specs.Parts.{many}
+use Rattle.value_bytes.specs.Fronts.{value_at}
 use Rattle.value_bytes.proofs.Values.{value_codec}
-use Rattle.value_bytes.proofs.Combine.{map_some, both_codec, made_codec, many_takes, many_again}
+use Rattle.col_bytes.proofs.Combine.{map_some, both_codec, made_codec, many_takes, many_again}
 use Rattle.col_file.specs.declared.index.Entry.{Entry}
 use Rattle.col_file.specs.declared.index.PosIndex.{PosIndex}
 use Rattle.col_file.specs.Plain.{plain, IsPlain}

@@ -4,7 +4,8 @@ use Rattle.std.specs.declared.alloc.Global.{Global}
 use Rattle.std.specs.Prelude.{Vec}
 use Rattle.col_bytes.specs.Fronts.{vint_at}
 use Rattle.col_value.specs.declared.value.Value.{Value}
-use Rattle.value_bytes.specs.Fronts.{both, made, many, value_at}
+use Rattle.col_bytes.specs.Parts.{both, made, many}
+use Rattle.value_bytes.specs.Fronts.{value_at}
 use Rattle.col_file.specs.declared.index.Entry.{Entry}
 use Rattle.col_file.specs.declared.index.PosIndex.{PosIndex}
 use Rattle.col_file.specs.Index.{blocks, is_index}

@@ -3,16 +3,16 @@
 ghost use Rattle.std.specs.Prelude.{◌≡◌, ◌++◌, ◌+◌, ◌<◌, List, OnOk, IfOk, IfSome, IfNone};
 ghost use Rattle.std.specs.List.{All};
 ghost use Rattle.col_value.specs.Order.{IsValue};
-ghost use Rattle.value_bytes.specs.Fronts.{Gives};
+ghost use Rattle.col_bytes.specs.Parts.{Gives};
 ghost use Rattle.col_file.specs.Index.{entry_spelling, index_spelling, follows, are_entries, starts_at_zero, blocks, is_index, Fits, IsIndex, HasValues};
 ghost use Rattle.col_file.specs.Fronts.{entry_at, index_at, index_of};
 ghost use Rattle.col_file.specs.declared.index.PosIndex.{PosIndex as Index};
 
 use crate::part::{Part, number_of, put_each, read_each};
-use col_bytes::put_vint;
+use col_bytes::{Stop, put_vint};
 use col_value::{List, Value};
 use std::alloc::{AllocError, Global};
-use value_bytes::{Stop, put_value, read_value};
+use value_bytes::{put_value, read_value};
 
 /// A block of a column: its first row, the place of its first byte in the body, its least and greatest value.
 #[derive(Debug, Drop, PartialEq, Eq)]

@@ -5,12 +5,13 @@ ghost use Rattle.std.specs.List.{All, flat_map};
 ghost use Rattle.col_bytes.specs.Fronts.{vint_at};
 ghost use Rattle.col_value.specs.Order.{IsValue};
 ghost use Rattle.value_bytes.specs.Spelling.{spelling as value_spelling};
-ghost use Rattle.value_bytes.specs.Fronts.{Gives, many, value_at};
+ghost use Rattle.col_bytes.specs.Parts.{Gives, many};
+ghost use Rattle.value_bytes.specs.Fronts.{value_at};
 
-use col_bytes::take_vint;
+use col_bytes::{Stop, take_vint};
 use col_value::Value;
 use std::alloc::{AllocError, Global};
-use value_bytes::{Stop, put_value, read_value};
+use value_bytes::{put_value, read_value};
 
 /// A part of a file: which have a spelling, how it is, and what is read from the front of some bytes.
 pub trait Part: Sized {

@@ -4,15 +4,14 @@ ghost use Rattle.std.specs.Prelude.{◌≡◌, ◌++◌, ◌<◌, List, OnOk, If
 ghost use Rattle.std.specs.List.{All};
 ghost use Rattle.col_value.specs.Order.{IsValue};
 ghost use Rattle.col_value.specs.declared.value.Value.{Value as Worth};
-ghost use Rattle.value_bytes.specs.Fronts.{Gives};
+ghost use Rattle.col_bytes.specs.Parts.{Gives};
 ghost use Rattle.col_file.specs.Plain.{plain, IsPlain};
 ghost use Rattle.col_file.specs.Fronts.{tagged_at, values_at, plain_of, GivesAll};
 
 use crate::part::{number_of, put_each, read_each};
-use col_bytes::put_vint;
+use col_bytes::{Stop, put_vint};
 use col_value::Value;
 use std::alloc::{AllocError, Global};
-use value_bytes::Stop;
 
 /// The most values that a block holds.
 pub const BLOCK: usize = 1024;

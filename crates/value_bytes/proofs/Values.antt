@@ -19,7 +19,7 @@ use Rattle.col_value.specs.declared.value.Value.{Value}
 use Rattle.col_value.specs.declared.value.Value.TheVariants as value
 use Rattle.value_bytes.specs.Spelling.{spelling, IsSpelled}
 use Rattle.value_bytes.specs.Fronts.{table_number, number_at, utf8, short_cut, utf8_text, text_at, value_at}
-use Rattle.value_bytes.proofs.Combine.{map_some}
+use Rattle.col_bytes.proofs.Combine.{map_some}
 
 -- a value behind its tag
 behind : (tag : ℕ) (rest : List ℕ) (front after : List ℕ) → IsBytes (tag ∷ rest) → Takes rest front after → Takes (tag ∷ rest) (tag ∷ front) after

@@ -1,34 +1,10 @@
 -- Reading from the front of some bytes: what stands there, and the bytes behind it.
-use Rattle.std.specs.Prelude.{◌≡◌, ℕ, zero, suc, ◌-◌, ◌^◌, ℤ, negsuc, true, false, List, [], ◌∷◌, Option, Some, None, Result, Ok, Err, option_map, option_and_then, nat_lt, if◌then◌else◌}
+use Rattle.std.specs.Prelude.{ℕ, zero, suc, ◌-◌, ◌^◌, ℤ, negsuc, true, false, List, [], ◌∷◌, Option, Some, None, option_map, option_and_then, nat_lt, if◌then◌else◌}
 use Rattle.std.specs.Ordering.{int_eq}
 use Rattle.std.specs.Str.{is_utf8}
 use Rattle.col_bytes.specs.Fronts.{be4_at, be8_at, cut}
 use Rattle.col_value.specs.declared.value.Value.{Value}
 use Rattle.col_value.specs.declared.value.Value.TheVariants as value
-use Rattle.value_bytes.specs.declared.stop.Stop.{Stop}
-use Rattle.value_bytes.specs.declared.stop.Stop.TheVariants.{Memory, Malformed}
-
--- what a function returned, seen by a view, is what reading gives, unless memory ran out
-abbrev pub Stops : {A : Type 0} → Stop → Option A → Type 0
-Stops Memory read = Unit {0}
-Stops Malformed read = read ≡ None
-
-abbrev pub Gives : {X A : Type 0} → (X → A) → Result X Stop → Option A → Type 0
-Gives view (Ok x) read = read ≡ Some (view x)
-Gives view (Err e) read = Stops e read
-
--- one part, and another behind it
-abbrev pub both : {A B : Type 0} → (List ℕ → Option (A × List ℕ)) → (List ℕ → Option (B × List ℕ)) → List ℕ → Option ((A × B) × List ℕ)
-both f g bytes = option_and_then (λ x. option_map (λ y. ((x.0, y.0), y.1)) (g x.1)) (f bytes)
-
--- a part that is made of what is read
-abbrev pub made : {A B : Type 0} → (A → B) → (List ℕ → Option (A × List ℕ)) → List ℕ → Option (B × List ℕ)
-made f read bytes = option_map (λ x. (f x.0, x.1)) (read bytes)
-
--- so many parts
-unfoldable pub many : {A : Type 0} → (List ℕ → Option (A × List ℕ)) → ℕ → List ℕ → Option (List A × List ℕ)
-many read zero bytes = Some ([], bytes)
-many read (suc n) bytes = option_and_then (λ x. option_map (λ y. (x.0 ∷ y.0, y.1)) (many read n x.1)) (read bytes)
 
 -- -2^63 is no number of a table
 abbrev pub table_number : ℤ × List ℕ → Option (Value × List ℕ)

@@ -1,12 +1,12 @@
 ghost use Rattle.std.specs.Prelude.{◌≡◌, ◌++◌, ℕ, List, IfOk, IfSome, IfNone, option_and_then};
 ghost use Rattle.col_bytes.specs.Spellings.{Begins};
 ghost use Rattle.col_bytes.specs.Fronts.{be4_at, be8_at, Reads};
+ghost use Rattle.col_bytes.specs.Parts.{Gives};
 ghost use Rattle.col_value.specs.declared.value.Value.{Value as Worth};
 ghost use Rattle.value_bytes.specs.Spelling.{spelling, IsSpelled};
-ghost use Rattle.value_bytes.specs.Fronts.{Gives, number_at, utf8, short_cut, text_at, value_at};
+ghost use Rattle.value_bytes.specs.Fronts.{number_at, utf8, short_cut, text_at, value_at};
 
-use crate::stop::Stop;
-use col_bytes::{take_be4, take_be8};
+use col_bytes::{Stop, take_be4, take_be8};
 use col_value::{Text, Value};
 use std::alloc::{AllocError, Global};
 

@@ -1,7 +1,7 @@
 use Rattle.std.proofs.Common.{◌≡◌, ◌++◌, ◌∷◌, []}
 use Rattle.std.proofs.lemmas.Result.{err_from_is_err_and}
-use Rattle.catalog_bytes.specs.Fronts.{many}
-use Rattle.catalog_bytes.proofs.ReadOn.{goes_on, stops, is_done}
+use Rattle.col_bytes.specs.Parts.{many}
+use Rattle.col_bytes.proofs.ReadOn.{goes_on, stops, is_done}
 use Rattle.catalog_bytes.proofs.part.read_each.Goals as goal
 
 pub returns-in_err-part : goal.returns-in_err-part

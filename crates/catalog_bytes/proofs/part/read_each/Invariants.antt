@@ -1,6 +1,6 @@
 use Rattle.std.proofs.Common.{◌≡◌, ◌-◌}
-use Rattle.catalog_bytes.specs.Fronts.{many}
-use Rattle.catalog_bytes.proofs.ReadOn.{with_front}
+use Rattle.col_bytes.specs.Parts.{many}
+use Rattle.col_bytes.proofs.ReadOn.{with_front}
 use Rattle.catalog_bytes.proofs.part.read_each.Given as goal
 
 abbrev pub invariant-loop : goal.invariant-loop

@@ -1,6 +1,6 @@
 use Rattle.std.proofs.Common.{◌≡◌, ◌++◌, ◌∷◌, []}
 use Rattle.std.proofs.lemmas.Result.{err_from_is_err_and}
-use Rattle.value_bytes.specs.Fronts.{many}
+use Rattle.col_bytes.specs.Parts.{many}
 use Rattle.col_file.proofs.ReadOn.{goes_on, stops, is_done}
 use Rattle.col_file.proofs.part.read_each.Goals as goal
 

@@ -1,5 +1,5 @@
 use Rattle.std.proofs.Common.{◌≡◌, ◌-◌}
-use Rattle.value_bytes.specs.Fronts.{many}
+use Rattle.col_bytes.specs.Parts.{many}
 use Rattle.col_file.proofs.ReadOn.{with_front}
 use Rattle.col_file.proofs.part.read_each.Given as goal
 

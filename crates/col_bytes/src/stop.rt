@@ -1,12 +1,12 @@
-//! Why a catalogue could not be read.
+//! Why a reader stopped.
 
 ghost use Rattle.std.specs.Prelude.{◌≡◌};
-ghost use Rattle.catalog_bytes.specs.declared.stop.Stop.TheVariants.{Memory};
+ghost use Rattle.col_bytes.specs.declared.stop.Stop.TheVariants.{Memory};
 
 use std::alloc::{AllocError, AllocFailed};
 
-/// Why reading stopped: memory ran out, or nothing is spelled so.
-#[derive(Debug, Drop)]
+/// Why a reader of bytes stopped: memory ran out, or the bytes don't begin with what it reads.
+#[derive(Debug, Drop, PartialEq, Eq)]
 pub enum Stop {
     Memory,
     Malformed,
@@ -15,7 +15,7 @@ pub enum Stop {
 impl From<AllocError> for Stop {
     ghost from_gives = { λ _ e. e ≡ Memory };
 
-    fn from(_e: AllocError) -> Stop {
+    fn from(_: AllocError) -> Stop {
         Stop::Memory
     }
 }
@@ -23,7 +23,7 @@ impl From<AllocError> for Stop {
 impl<T: Drop> From<AllocFailed<T>> for Stop {
     ghost from_gives = { λ _ e. e ≡ Memory };
 
-    fn from(_e: AllocFailed<T>) -> Stop {
+    fn from(_: AllocFailed<T>) -> Stop {
         Stop::Memory
     }
 }

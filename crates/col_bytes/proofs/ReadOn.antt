@@ -2,9 +2,9 @@
 use Rattle.std.proofs.Common.{◌≡◌, ℕ, suc, ◌-◌, ◌+◌, ◌≤◌, ◌<◌, List, [], ◌∷◌, ◌++◌, Option, Some, None, refl, sym, ap, ◌∙◌, append_assoc, arith}
 use Rattle.std.specs.Prelude.{option_map}
 use Rattle.std.proofs.lemmas.List.{append-nil}
-use Rattle.catalog_bytes.specs.declared.stop.Stop.{Stop}
-use Rattle.catalog_bytes.specs.declared.stop.Stop.TheVariants.{Memory, Malformed}
-use Rattle.catalog_bytes.specs.Fronts.{Stops, many}
+use Rattle.col_bytes.specs.declared.stop.Stop.{Stop}
+use Rattle.col_bytes.specs.declared.stop.Stop.TheVariants.{Memory, Malformed}
+use Rattle.col_bytes.specs.Parts.{Stops, many}
 
 -- what was read before, and what is still read
 abbrev pub with_front : {A : Type 0} → List A → Option (List A × List ℕ) → Option (List A × List ℕ)

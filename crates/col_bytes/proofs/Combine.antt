@@ -3,12 +3,11 @@ use Rattle.std.proofs.Common.{◌≡◌, ℕ, zero, suc, List, [], ◌∷◌, �
 use Rattle.std.specs.Prelude.{option_map}
 use Rattle.std.specs.List.{AllByRecursion, flat_map}
 use Rattle.std.proofs.lemmas.Option.{option_and_then_some}
-use Rattle.col_bytes.specs.Spellings.{vint}
+use Rattle.col_bytes.specs.Spellings.{vint, counted, FitsList}
 use Rattle.col_bytes.specs.Fronts.{vint_at}
 use Rattle.col_bytes.proofs.Codecs.{IsBytes, Takes, Takes-then, IsCodec, some_is}
 use Rattle.col_bytes.proofs.Vints.{vint_codec}
-use Rattle.catalog_bytes.specs.Spelling.{counted, FitsList}
-use Rattle.catalog_bytes.specs.Fronts.{both, made, many, counted_at}
+use Rattle.col_bytes.specs.Parts.{both, made, many, counted_at}
 
 pub map_some : {A B : Type 0} (f : A → B) (o : Option A) (y : B) → option_map f o ≡ Some y → (x : A) × (o ≡ Some x) × (f x ≡ y)
 map_some f None y e = absurd cc
@@ -37,7 +36,7 @@ made_codec {A} {B} to from there back sa fa ra ca = record {
   again = λ b rest fit. rw (ca.again (from b) rest fit) (ap (λ (c : B). Some (c, rest)) (there b));
 }
 
-many_takes : {A : Type 0} (sa : A → List ℕ) (fa : A → Type 0) (ra : List ℕ → Option (A × List ℕ)) → IsCodec sa fa ra → (n : ℕ) (bytes : List ℕ) (x : List A × List ℕ) → IsBytes bytes
+pub many_takes : {A : Type 0} (sa : A → List ℕ) (fa : A → Type 0) (ra : List ℕ → Option (A × List ℕ)) → IsCodec sa fa ra → (n : ℕ) (bytes : List ℕ) (x : List A × List ℕ) → IsBytes bytes
     → many ra n bytes ≡ Some x → Takes bytes (flat_map sa x.0) x.1 × (length x.0 ≡ n) × AllByRecursion fa x.0
 unfolding many
 many_takes {A} sa fa ra ca zero bytes x fits e =
@@ -51,7 +50,7 @@ many_takes {A} sa fa ra ca (suc n) bytes x fits e =
     let whole = Takes-then bytes (sa a.0) a.1 (flat_map sa m.0.0) m.0.1 first.0 second.0 in
     subst (λ (z : List A × List ℕ). Takes bytes (flat_map sa z.0) z.1 × (length z.0 ≡ suc n) × AllByRecursion fa z.0) m.2 (whole, ap suc second.1, (first.1, second.2)))
 
-many_again : {A : Type 0} (sa : A → List ℕ) (fa : A → Type 0) (ra : List ℕ → Option (A × List ℕ)) → IsCodec sa fa ra → (xs : List A) (rest : List ℕ) → AllByRecursion fa xs
+pub many_again : {A : Type 0} (sa : A → List ℕ) (fa : A → Type 0) (ra : List ℕ → Option (A × List ℕ)) → IsCodec sa fa ra → (xs : List A) (rest : List ℕ) → AllByRecursion fa xs
     → many ra (length xs) (flat_map sa xs ++ rest) ≡ Some (xs, rest)
 unfolding many
 many_again sa fa ra ca [] rest fits = refl
