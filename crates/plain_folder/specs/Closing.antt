@@ -1,19 +1,18 @@
 -- What a clean end leaves.
-use Rattle.std.specs.Prelude.{ℕ, ◌≡◌, ◌⊎◌, ◌≤◌, ◌^◌, ◌*◌, ◌+◌, if◌then◌else◌, List, [], ◌∷◌, length, bytes_eq, Option, Some}
+use Rattle.std.specs.Prelude.{ℕ, ◌≡◌, ◌⊎◌, ◌≤◌, ◌<◌, ◌^◌, ◌*◌, ◌+◌, if◌then◌else◌, List, [], ◌∷◌, true, length, Option, Some}
 use Rattle.std.specs.List.{All}
 use Rattle.col_base.specs.Maps.{Contents}
-use Rattle.col_disk.specs.Moved.{Changed, NoName}
-use Rattle.catalog_types.specs.declared.catalogue.Container.{Container}
-use Rattle.catalog_types.specs.declared.catalogue.Projection.{Projection}
-use Rattle.catalog_types.specs.declared.catalogue.Table as kept
+use Rattle.col_disk.specs.Moved.{Changed, NoName, Named, Either}
 use Rattle.catalog_types.specs.declared.catalogue.Catalogue.{Catalogue}
-use Rattle.catalog_types.specs.Numbers.{file_count}
-use Rattle.catalog_root.specs.Root.{data_file}
+use Rattle.catalog_root.specs.Root.{data_file, body_file, gate_file, IsOpenGate, IsRoot}
+use Rattle.catalog_root.specs.Listed.{IsUnlisted}
 use Rattle.db_model.specs.Database.{Database, Table}
 use Rattle.db_model.specs.State.{State}
 use Rattle.db_model.specs.Growth.{IsOpened, HasGrown}
-use Rattle.db_model.specs.Kept.{moved_table, moved_out, AreAlikeTables, AreAlike}
-use Rattle.plain_folder.specs.Reopens.{IsTableOf, Reopens}
+use Rattle.db_model.specs.Kept.{moved_out, AreAlike}
+use Rattle.plain_folder.specs.Served.{is_served}
+use Rattle.plain_folder.specs.Reopens.{OpensTo, Reopens}
+use Rattle.plain_folder.specs.Saving.{WasHeld}
 use Rattle.plain_folder.specs.Opening.{IsTold}
 
 -- the folder opens to this database, with all rows moved to disk, in some order
@@ -43,3 +42,16 @@ pub record IsUnchanged (kept : Catalogue) (state : State) : Type 0 where
 abbrev pub LeavesTables : Catalogue → State → Option Contents → Option Contents → Type 0
 LeavesTables kept state found left =
     (d : Database) (m : Contents) → found ≡ Some m → IsOpened d → IsTold m kept d → HasGrown d state → (n : Contents) × (left ≡ Some n) × Ends kept m n state.database
+
+-- where the early rows of all these tables were on disk, the folder opens to them now, with all rows moved out
+abbrev pub LeavesAll : Catalogue → ℕ → List Table → Option Contents → Option Contents → Type 0
+LeavesAll kept last us found left =
+    (m : Contents) → found ≡ Some m → OpensTo m kept → All (WasHeld m kept kept.next) us
+    → (n : Contents) × (left ≡ Some n) × EndsAs n (record { tables = us; last = last; ahm = 0 })
+
+-- where no gate of this version or a later one was open, the folder opens to this version now, and what it lists stayed
+abbrev pub Installs : ℕ → Catalogue → Option Contents → Option Contents → Type 0
+Installs version c found left =
+    (m : Contents) → found ≡ Some m → ((w : ℕ) → IsOpenGate m w → w < version)
+    → (n : Contents) × (left ≡ Some n) × IsRoot n version c × (is_served c ≡ true)
+    × Changed (Either (Named (body_file version)) (Named (gate_file version))) (IsUnlisted version c) m n

@@ -41,3 +41,7 @@ abbrev pub BlamesFolder : Option Contents → StoreFault → Type 0
 BlamesFolder holds (StoreFault.Damaged q) = (m : Contents) → holds ≡ Some m → IsDamaged m q × ((d : Database) → Reopens m d → ⊥)
 BlamesFolder holds StoreFault.Disk = Unit {0}
 BlamesFolder holds StoreFault.Memory = Unit {0}
+
+-- the same where the disk opens to this version of the catalogue
+abbrev pub BlamesRootFolder : ℕ → Catalogue → Option Contents → StoreFault → Type 0
+BlamesRootFolder version c holds fault = ((m : Contents) → holds ≡ Some m → IsRoot m version c) → BlamesFolder holds fault

@@ -3,5 +3,5 @@ pub mod Reopens
 pub mod Faults
 pub mod Loading
 pub mod Opening
-pub mod Closing
 pub mod Saving
+pub mod Closing

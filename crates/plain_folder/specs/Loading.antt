@@ -23,6 +23,13 @@ AreLoadable p = All (IsLoadable (length p.columns) p.lge) p.containers
 abbrev pub HoldsAll : Projection → Option Contents → List Stamped → Type 0
 HoldsAll p holds rows = (m : Contents) → holds ≡ Some m → HoldsRows m (length p.columns) p.containers rows
 
+-- and this table is that of the catalogue, and these tables are those
+abbrev pub ToldTable : Table → Option Contents → model.Table → Type 0
+ToldTable t holds u = (m : Contents) → holds ≡ Some m → IsTableOf m t u
+
+abbrev pub ToldTables : List Table → Option Contents → List model.Table → Type 0
+ToldTables ts holds us = (m : Contents) → holds ≡ Some m → AllZip (IsTableOf m) ts us
+
 -- a container of the projection has a broken file, and so the projection holds no rows at all
 pub record IsBroken (p : Projection) (holds : Option Contents) (q : ℕ) : Type 0 where
   pub container : Container

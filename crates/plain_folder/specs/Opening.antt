@@ -4,6 +4,7 @@ use Rattle.std.specs.List.{All}
 use Rattle.col_base.specs.Maps.{Contents}
 use Rattle.catalog_types.specs.declared.catalogue.Container.{Container}
 use Rattle.catalog_types.specs.declared.catalogue.Catalogue.{Catalogue}
+use Rattle.catalog_root.specs.Root.{IsRoot}
 use Rattle.db_model.specs.Database.{Database}
 use Rattle.db_model.specs.State.{State, opened_state}
 use Rattle.db_model.specs.Growth.{IsOpened}
@@ -22,3 +23,7 @@ pub record IsRead (holds : Option Contents) (kept : Catalogue) (d : Database) : 
   pub last : d.last ≡ kept.last
   pub tables : length d.tables ≡ length kept.tables
   pub told : (m : Contents) → holds ≡ Some m → IsTold m kept d
+
+-- the same where the disk opens to this version of the catalogue
+abbrev pub IsReadBy : ℕ → Catalogue → Option Contents → Catalogue → Database → Type 0
+IsReadBy version c holds kept d = ((m : Contents) → holds ≡ Some m → IsRoot m version c) → IsRead holds kept d

@@ -1,6 +1,6 @@
 -- A table's new rows on disk, and its place in the catalogue.
 use Rattle.std.specs.Prelude.{ℕ, ◌≡◌, ◌≤◌, ◌<◌, ◌^◌, ◌*◌, ◌+◌, ◌++◌, if◌then◌else◌, true, List, [], ◌∷◌, map, length, bytes_eq, Option, Some}
-use Rattle.std.specs.List.{All}
+use Rattle.std.specs.List.{All, AllZip}
 use Rattle.col_base.specs.Bags.{SameBag}
 use Rattle.col_base.specs.Maps.{Contents}
 use Rattle.col_value.specs.Order.{IsValue}
@@ -13,8 +13,8 @@ use Rattle.catalog_types.specs.declared.catalogue.Table as kept
 use Rattle.catalog_types.specs.declared.catalogue.Catalogue.{Catalogue}
 use Rattle.db_model.specs.Database.{Table}
 use Rattle.db_model.specs.Growth.{early}
-use Rattle.db_model.specs.Kept.{moved_table, AreAlikeTables}
-use Rattle.plain_folder.specs.Reopens.{HoldsRows, undeleted, IsTableOf}
+use Rattle.db_model.specs.Kept.{moved_shape}
+use Rattle.plain_folder.specs.Reopens.{HoldsRows, undeleted, column_of, shape_of}
 
 -- the containers of the first of some projections
 abbrev pub containers_of : List Projection → List Container
@@ -68,9 +68,24 @@ HoldsMore next after old new added found left =
 abbrev pub WasHeld : Contents → Catalogue → ℕ → Table → Type 0
 WasHeld m kept next u = AreHeld m next (containers_named u.name kept.tables) (early kept.last u.rows)
 
--- a catalogue's table whose files hold the rows of a table, in some order, all moved to disk
+-- A catalogue's table whose one projection holds the rows of a table, in some order, all moved to disk.
 pub record IsSaved (m : Contents) (next last : ℕ) (t : kept.Table) (u : Table) : Type 0 where
-  pub table : Table
-  pub of : IsTableOf m t table
-  pub like : AreAlikeTables table (moved_table last u)
-  pub below : All (λ p. AreBelow next p.containers) t.projections
+  pub containers : List Container
+  pub rows : List Stamped
+  pub projection : List ℕ
+  pub name : t.name ≡ u.name
+  pub columns : map column_of t.columns ≡ u.columns
+  pub projections : t.projections ≡ whole_projection projection last containers ∷ []
+  pub shapes : map shape_of t.projections ≡ map (moved_shape last) u.shapes
+  pub held : AreHeld m next containers rows
+  pub same : SameBag rows u.rows
+
+-- where the disk held the early rows of a table, it holds all of them now
+abbrev pub SavesTable : ℕ → ℕ → Catalogue → ℕ → kept.Table → Table → Option Contents → Option Contents → Type 0
+SavesTable next after kept last t u found left =
+    (m : Contents) → found ≡ Some m → WasHeld m kept next u → (n : Contents) × (left ≡ Some n) × IsSaved n after last t u
+
+-- the same of all tables
+abbrev pub SavesTables : ℕ → Catalogue → ℕ → List kept.Table → List Table → Option Contents → Option Contents → Type 0
+SavesTables after kept last ts us found left =
+    (m : Contents) → found ≡ Some m → All (WasHeld m kept kept.next) us → (n : Contents) × (left ≡ Some n) × AllZip (IsSaved n after last) ts us

@@ -9,10 +9,8 @@ mod adding;
 mod closing;
 mod loading;
 mod opening;
+mod saving;
 mod served;
 
 pub use closing::close_tables;
 pub use opening::{Opened, open_tables};
-
-#[cfg(test)]
-mod tests;

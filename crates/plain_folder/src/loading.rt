@@ -1,14 +1,13 @@
 //! The tables of a catalogue, with their rows.
 
-ghost use Rattle.std.specs.Prelude.{◌≡◌, ◌≤◌, ◌++◌, ℕ, Some, map, OnOk, IfOk, IfErr, true};
-ghost use Rattle.std.specs.List.{All, AllZip};
+ghost use Rattle.std.specs.Prelude.{◌≡◌, ◌≤◌, ◌++◌, ℕ, [], ◌∷◌, Some, map, OnOk, IfOk, IfErr, true};
+ghost use Rattle.std.specs.List.{All};
 ghost use Rattle.col_base.specs.Causes.{HasCause};
-ghost use Rattle.col_base.specs.Maps.{Contents};
 ghost use Rattle.col_disk.specs.Moved.{Moved, NoName};
 ghost use Rattle.plain_store.specs.Views as view;
 ghost use Rattle.plain_folder.specs.Served.{is_served_table};
-ghost use Rattle.plain_folder.specs.Reopens.{undeleted, column_of, IsTableOf};
-ghost use Rattle.plain_folder.specs.Loading.{AreLoadable, HoldsAll, BlamesProjection, BlamesTable, BlamesTables};
+ghost use Rattle.plain_folder.specs.Reopens.{undeleted, column_of};
+ghost use Rattle.plain_folder.specs.Loading.{AreLoadable, HoldsAll, ToldTable, ToldTables, BlamesProjection, BlamesTable, BlamesTables};
 
 use catalog_types::{Column, Projection, Table as Kept};
 use col_disk::{Disk, StoreFault};
@@ -93,4 +92,71 @@ fn table_with(
         rows,
         born: p.lge,
     })
+}
+
+/// A table of the catalogue, with its rows.
+fn load_table<D: Disk>(
+    alloc: Global,
+    disk: &mut D,
+    last: u64,
+    t: &Kept,
+) -> Result<Table, StoreFault>
+    requires served { is_served_table last t.now ≡ true }
+    requires loadable { All AreLoadable t.now.projections }
+    ensures found { IfOk result (λ u. ToldTable t.now (D.holds disk.old) (view.table_of u)) }
+    ensures name { IfOk result (λ u. u.name ≡ t.now.name) }
+    ensures epochs { IfOk result (λ u. All (λ s. s.ins ≤ last) u.rows.items) }
+    ensures blamed { IfErr result (BlamesTable t.now (D.holds disk.old)) }
+    ensures kept { D.holds disk.new ≡ D.holds disk.old }
+    ensures moved { Moved ⟦<D as Disk>⟧ NoName NoName disk.old disk.new }
+    ensures cause { HasCause StoreFault.Disk (D.faults disk.old) (D.faults disk.new) result }
+{
+    match t.projections.as_slice() {
+        [p] => match load_rows(alloc, disk, p) {
+            Ok(rows) => match table_with(alloc, t, p, rows) {
+                Ok(table) => Ok(table),
+                Err(AllocError) => Err(StoreFault::Memory),
+            },
+            Err(fault) => Err(fault),
+        },
+        _ => unreachable!(),
+    }
+}
+
+/// The tables of a catalogue that is served, with their rows.
+pub fn load_tables<D: Disk>(
+    alloc: Global,
+    disk: &mut D,
+    last: u64,
+    tables: &[Kept],
+) -> Result<Vec<Table>, StoreFault>
+    requires served { All (λ t. is_served_table last t ≡ true) tables.now }
+    requires loadable { All (λ t. All AreLoadable t.projections) tables.now }
+    ensures found { IfOk result (λ v. ToldTables tables.now (D.holds disk.old) (map view.table_of v.items)) }
+    ensures names { IfOk result (λ v. map (λ u. u.name) v.items ≡ map (λ t. t.name) tables.now) }
+    ensures epochs { IfOk result (λ v. All (λ u. All (λ s. s.ins ≤ last) u.rows.items) v.items) }
+    ensures blamed { IfErr result (BlamesTables tables.now (D.holds disk.old)) }
+    ensures kept { D.holds disk.new ≡ D.holds disk.old }
+    ensures moved { Moved ⟦<D as Disk>⟧ NoName NoName disk.old disk.new }
+    ensures cause { HasCause StoreFault.Disk (D.faults disk.old) (D.faults disk.new) result }
+{
+    let mut loaded = Vec::new(alloc);
+    for t in tables {
+        let table = match load_table(alloc, disk, last, t) {
+            Ok(table) => table,
+            Err(fault) => return Err(fault),
+        };
+        match add(&mut loaded, table) {
+            Ok(()) => {}
+            Err(AllocError) => return Err(StoreFault::Memory),
+        }
+    }
+    Ok(loaded)
+}
+
+fn add(loaded: &mut Vec<Table>, table: Table) -> Result<(), AllocError>
+    ensures { OnOk result (loaded.new.items ≡ loaded.old.items ++ table ∷ []) }
+{
+    loaded.push(table)?;
+    Ok(())
 }

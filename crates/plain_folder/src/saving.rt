@@ -1,6 +1,6 @@
 //! A table as one of the catalogue, with its new rows written.
 
-ghost use Rattle.std.specs.Prelude.{◌≡◌, ◌≤◌, ◌<◌, ◌+◌, ◌++◌, ℕ, [], ◌∷◌, Some, map, length, IfOk};
+ghost use Rattle.std.specs.Prelude.{◌≡◌, ◌≤◌, ◌<◌, ◌+◌, ◌++◌, ℕ, [], ◌∷◌, Some, map, length, IfOk, OnOk};
 ghost use Rattle.std.specs.List.{All};
 ghost use Rattle.col_base.specs.Causes.{HasCause};
 ghost use Rattle.col_base.specs.Maps.{Contents};
@@ -9,7 +9,7 @@ ghost use Rattle.db_model.specs.Growth.{late};
 ghost use Rattle.plain_store.specs.Views.{table_of};
 ghost use Rattle.plain_folder.specs.Reopens.{HoldsRows, undeleted, column_of};
 ghost use Rattle.plain_folder.specs.Closing.{DataFrom};
-ghost use Rattle.plain_folder.specs.Saving.{containers_of, containers_named, whole_projection, IsWritable, IsOfOne, HoldsMore, IsBelowTable, IsSaved, WasHeld};
+ghost use Rattle.plain_folder.specs.Saving.{containers_of, containers_named, whole_projection, IsWritable, IsOfOne, HoldsMore, SavesTable, SavesTables};
 
 use crate::adding::{are_writable, late_rows, write_container};
 use catalog_types::{Catalogue, Column, Container, ProjColumn, Projection, Table as Kept};
@@ -157,4 +157,102 @@ fn add_container<D: Disk>(
         },
         Err(fault) => Err(fault),
     }
+}
+
+/// The projection with these containers, each of which came from memory.
+fn filled(shape: Projection, containers: Vec<Container>) -> Projection
+    ensures { result ≡ record shape { born = length containers.items; containers = containers.items } }
+{
+    Projection {
+        born: containers.len() as u64,
+        containers: List::new(containers),
+        ..shape
+    }
+}
+
+/// A table of the catalogue, and the next number that is free.
+pub struct Saved {
+    pub table: Kept,
+    pub next: u64,
+}
+
+/// Writes the rows of a table that are later than the catalogue, with numbers from `next` on.
+fn save_table<D: Disk>(
+    alloc: Global,
+    disk: &mut D,
+    table: Table,
+    last: u64,
+    kept: &Catalogue,
+    next: u64,
+) -> Result<Saved, DiskFault>
+    ensures saved { IfOk result (λ s. SavesTable next s.next kept.now last s.table (table_of table) (D.holds disk.old) (D.holds disk.new)) }
+    ensures next { IfOk result (λ s. next ≤ s.next) }
+    ensures moved { Moved ⟦<D as Disk>⟧ (DataFrom next) NoName disk.old disk.new }
+    ensures cause { HasCause DiskFault.Failed (D.faults disk.old) (D.faults disk.new) result }
+{
+    let Table {
+        name,
+        projection,
+        columns,
+        rows,
+        ..
+    } = table;
+    let added = match new_rows(alloc, rows, columns.as_slice().len(), kept.last) {
+        Ok(added) => added,
+        Err(AllocError) => return Err(DiskFault::Memory),
+    };
+    let mut containers =
+        match Vec::from_slice(alloc, kept_containers(kept.tables.as_slice(), &name)) {
+            Ok(containers) => containers,
+            Err(AllocError) => return Err(DiskFault::Memory),
+        };
+    let shape = match bare_projection(alloc, projection, last) {
+        Ok(shape) => shape,
+        Err(AllocError) => return Err(DiskFault::Memory),
+    };
+    let after = match add_container(alloc, disk, &shape, &mut containers, added, next) {
+        Ok(after) => after,
+        Err(fault) => return Err(fault),
+    };
+    match kept_table(alloc, name, columns, filled(shape, containers)) {
+        Ok(table) => Ok(Saved { table, next: after }),
+        Err(AllocError) => Err(DiskFault::Memory),
+    }
+}
+
+/// Writes the rows of all tables that are later than the catalogue, and answers the tables of the new one and the next
+/// number that is free.
+pub fn save_tables<D: Disk>(
+    alloc: Global,
+    disk: &mut D,
+    tables: Vec<Table>,
+    last: u64,
+    kept: &Catalogue,
+) -> Result<(Vec<Kept>, u64), DiskFault>
+    ensures saved { IfOk result (λ r. SavesTables r.1 kept.now last r.0.items (map table_of tables.items) (D.holds disk.old) (D.holds disk.new)) }
+    ensures next { IfOk result (λ r. kept.now.next ≤ r.1) }
+    ensures moved { Moved ⟦<D as Disk>⟧ (DataFrom kept.now.next) NoName disk.old disk.new }
+    ensures cause { HasCause DiskFault.Failed (D.faults disk.old) (D.faults disk.new) result }
+{
+    let mut saved = Vec::new(alloc);
+    let mut next = kept.next;
+    for table in tables {
+        let done = match save_table(alloc, disk, table, last, kept, next) {
+            Ok(done) => done,
+            Err(fault) => return Err(fault),
+        };
+        next = done.next;
+        match add(&mut saved, done.table) {
+            Ok(()) => {}
+            Err(AllocError) => return Err(DiskFault::Memory),
+        }
+    }
+    Ok((saved, next))
+}
+
+fn add(saved: &mut Vec<Kept>, table: Kept) -> Result<(), AllocError>
+    ensures { OnOk result (saved.new.items ≡ saved.old.items ++ table ∷ []) }
+{
+    saved.push(table)?;
+    Ok(())
 }

@@ -9,7 +9,7 @@ use Rattle.sql_words.specs.Symbols.{Symbol, symbols_of}
 use Rattle.sql_tree.specs.declared.statement.Statement.{Statement}
 use Rattle.sql_tree.specs.declared.refusal.Refusal.{Refusal}
 use Rattle.sql_tree.specs.Spells.{Spells}
-use Rattle.db_model.specs.State.{State, empty_state}
+use Rattle.db_model.specs.State.{State, opened_state}
 use Rattle.db_model.specs.Answers.{IsListing, listing_text}
 use Rattle.db_model.specs.Step.{Step, Reads, Prints, Effect, refusal_of}
 use Rattle.db_model.specs.Run.{RunTexts}
@@ -67,8 +67,8 @@ step_once reading listing old text p q why also m n first second =
     (both.0, refused, both.1)
 
 pub texts_once : OneReading → HasOneListing wide_row_cmp → (texts : List (List ℕ)) (old : State) (p q : List ℕ) (r s : Bool) (m n : State)
-    → RunTexts old texts p r m → RunTexts old texts q s n → (p ≡ q) × (r ≡ s)
-texts_once reading listing [] old p q r s m n (p_is, r_is, m_is) (q_is, s_is, n_is) = (p_is ∙ sym q_is, r_is ∙ sym s_is)
+    → RunTexts old texts p r m → RunTexts old texts q s n → (p ≡ q) × (r ≡ s) × (m ≡ n)
+texts_once reading listing [] old p q r s m n (p_is, r_is, m_is) (q_is, s_is, n_is) = (p_is ∙ sym q_is, r_is ∙ sym s_is, m_is ∙ sym n_is)
 texts_once reading listing (text ∷ more) old p q r s m n (first, why, mid, rest, later, step, ran, p_is, r_is) (first', why', mid', rest', later', step', ran', q_is, s_is) =
     let here = step_once reading listing old text first first' why why' mid mid' step step' in
     let ran_here : RunTexts mid' more rest later m = subst (λ (state : State). RunTexts state more rest later m) here.2 ran in
@@ -76,7 +76,7 @@ texts_once reading listing (text ∷ more) old p q r s m n (first, why, mid, res
     let texts : first ++ rest ≡ first' ++ rest' = ap (λ (x : List ℕ). x ++ rest) here.0 ∙ ap (λ (x : List ℕ). first' ++ x) behind.0 in
     let flags : (is_some why || later) ≡ (is_some why' || later') =
     ap (λ (x : Option Refusal). is_some x || later) here.1 ∙ ap (λ (x : Bool). is_some why' || x) behind.1 in
-    (p_is ∙ texts ∙ sym q_is, r_is ∙ flags ∙ sym s_is)
+    (p_is ∙ texts ∙ sym q_is, r_is ∙ flags ∙ sym s_is, behind.2)
 
 pub script_once : OneReading → HasOneListing wide_row_cmp → HasOneText
-script_once reading listing script p q r s (m, first) (n, second) = texts_once reading listing (statement_texts script) empty_state p q r s m n first second
+script_once reading listing d script p q r s m n first second = texts_once reading listing (statement_texts script) (opened_state d) p q r s m n first second
