@@ -1,0 +1,62 @@
+//! The order of a container's rows.
+
+ghost use Rattle.std.specs.Prelude.{◌≡◌, slice_index_or, IfOk};
+ghost use Rattle.std.specs.List.Sorted.{IsSorted};
+ghost use Rattle.col_base.specs.Bags.{SameBag};
+ghost use Rattle.col_value.specs.Order.{value_cmp, row_cmp, projected};
+ghost use Rattle.col_value.specs.declared.value.Value.TheVariants.{Null};
+ghost use Rattle.ros_container.specs.Order.{container_cmp};
+
+use catalog_types::Projection;
+use col_value::{Asked, Row, Value};
+use std::alloc::AllocError;
+use std::cmp::Ordering;
+
+/// The order of two rows by one column; a value that is not there is NULL.
+fn order_at(a: &Row, b: &Row, column: usize) -> Ordering
+    ensures { result ≡ value_cmp (slice_index_or a.now column Null) (slice_index_or b.now column Null) }
+{
+    match (a.as_slice().get(column), b.as_slice().get(column)) {
+        (Some(a), Some(b)) => a.order(b),
+        (Some(a), None) => a.order(&Value::Null),
+        (None, Some(b)) => Value::Null.order(b),
+        (None, None) => Ordering::Equal,
+    }
+}
+
+/// The order of two rows by some columns, the first of them first.
+fn order_on(a: &Row, b: &Row, columns: &[usize]) -> Ordering
+    ensures { result ≡ row_cmp (projected a.now columns.now) (projected b.now columns.now) }
+{
+    for column in columns {
+        match order_at(a, b, *column) {
+            Ordering::Equal => {}
+            order => return order,
+        }
+    }
+    Ordering::Equal
+}
+
+fn order(shape: &Projection, a: &Asked, b: &Asked) -> Ordering
+    ensures { result ≡ container_cmp shape.now a.now b.now }
+{
+    match order_on(&a.row, &b.row, shape.sort.as_slice()) {
+        Ordering::Equal => match a.row.order(&b.row) {
+            Ordering::Equal => a.ins.cmp(&b.ins),
+            order => order,
+        },
+        order => order,
+    }
+}
+
+#[tactic(auto, using(col_base::proofs::BagLaws::bag_of_permutation))]
+/// The same rows in the order of a container: by the sort columns, then by the other columns, then by epoch. A value
+/// that a row lacks is NULL there.
+pub fn sort_rows(shape: &Projection, rows: Vec<Asked>) -> Result<Vec<Asked>, AllocError>
+    ensures same { IfOk result (λ v. SameBag rows.items v.items) }
+    ensures ascending { IfOk result (λ v. IsSorted (container_cmp shape.now) v.items) }
+{
+    let mut rows = rows;
+    rows.sort_by(|a, b| order(shape, a, b))?;
+    Ok(rows)
+}
