@@ -15,6 +15,7 @@ mod table;
 
 pub use answering::Answer;
 pub use store::PlainStore;
+pub use table::Table;
 
 #[cfg(test)]
 mod tests;

@@ -1,8 +1,8 @@
-ghost use Rattle.std.specs.Prelude.{◌≡◌, ◌+◌, ◌++◌, [], ◌∷◌, map, OnOk, IfSome, IfNone};
+ghost use Rattle.std.specs.Prelude.{◌≡◌, ◌+◌, ◌++◌, [], ◌∷◌, map, take, drop, length, ◌≤◌, OnOk, IfSome, IfNone};
 ghost use Rattle.std.specs.Str.{bytes_eq};
 ghost use Rattle.std.specs.Option.{option_map, option_copied};
 ghost use Rattle.std.specs.List.{flat_map};
-ghost use Rattle.db_model.specs.Database.{table_named, is_taken};
+ghost use Rattle.db_model.specs.Database.{table_named, is_taken, put_table};
 ghost use Rattle.db_model.specs.State.{has_changes, with_rows, joined, change_named, commit_changes};
 ghost use Rattle.plain_store.specs.Views.{table_of, changes_of, with_committed};
 ghost use Rattle.plain_store.specs.Places.{StandsAt, StandsNowhere, IsTableAt, IsNoTable};
@@ -22,6 +22,28 @@ pub fn find_table<'a>(tables: &'a [Table], name: &[u8]) -> Option<&'a Table>
         }
     }
     None
+}
+
+/// Where a table stands by its name: before the first table of a greater one.
+fn place_for(tables: &[Table], table: &Table) -> usize
+    ensures within { result ≤ length tables.now }
+    ensures split { map table_of (take result tables.now) ++ table_of table.now ∷ map table_of (drop result tables.now) ≡ put_table (table_of table.now) (map table_of tables.now) }
+{
+    for (place, other) in tables.iter().enumerate() {
+        if table.name.cmp(&other.name).is_lt() {
+            return place;
+        }
+    }
+    tables.len()
+}
+
+/// A table takes its place by name.
+pub fn put(tables: &mut Vec<Table>, table: Table) -> Result<(), AllocError>
+    ensures { OnOk result (map table_of tables.new.items ≡ put_table (table_of table) (map table_of tables.old.items)) }
+{
+    let place = place_for(tables.as_slice(), &table);
+    tables.insert(place, table)?;
+    Ok(())
 }
 
 fn is_called(table: &Table, name: &[u8]) -> bool

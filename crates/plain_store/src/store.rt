@@ -1,7 +1,7 @@
 ghost use Rattle.std.specs.Prelude.{◌≡◌, map, IfOk, OnOk, true};
 ghost use Rattle.std.specs.List.{list_all};
 ghost use Rattle.db_model.specs.Database.{visible};
-ghost use Rattle.db_model.specs.State.{empty_state, own_changes};
+ghost use Rattle.db_model.specs.State.{empty_state, opened_state, own_changes};
 ghost use Rattle.db_model.specs.Forms as form;
 ghost use Rattle.db_model.specs.Answers.{output_rows, rows_at, column_rows};
 ghost use Rattle.db_model.specs.Step.{Reads, Step, Prints, refusal_of, served_refusal, after, inserted_rows, narrowed};
@@ -10,7 +10,7 @@ ghost use Rattle.sql_tree.specs.Lines.{refusal_text};
 
 use crate::forms::{are_number_rows, is_served_epoch};
 use crate::listing::{add_view, add_visible, commit_text, insert_text, listing, sorted};
-use crate::lists::{add_rows, commit_all, find_table, has_rows};
+use crate::lists::{add_rows, commit_all, find_table, has_rows, put};
 use crate::refusing::{may_create, plain_place, projection_name, source_table};
 use crate::table::{Pending, Table};
 use col_value::{List, Name, Row, Value, Wide, WideRow};
@@ -73,6 +73,39 @@ impl PlainStore {
             last: 0,
             pending: Vec::new(alloc),
         }
+    }
+
+    /// A store over these tables, with the newest closed epoch; nothing is pending. It takes no memory.
+    pub fn of_tables(alloc: Global, tables: Vec<Table>, last: u64) -> PlainStore
+        ensures { result ≡ opened_state (record { tables = map table_of tables.items; last = last; ahm = 0 }) }
+    {
+        PlainStore {
+            tables,
+            last,
+            pending: Vec::new(alloc),
+        }
+    }
+
+    /// The tables, and the newest closed epoch. What waits for COMMIT is dropped.
+    pub fn into_tables(self) -> (Vec<Table>, u64)
+        ensures { self.database ≡ record { tables = map table_of result.0.items; last = result.1; ahm = 0 } }
+    {
+        let PlainStore { tables, last, .. } = self;
+        (tables, last)
+    }
+
+    /// The tables, in the order of their names.
+    pub fn tables(&self) -> &[Table]
+        ensures { self.now.database.tables ≡ map table_of result.now }
+    {
+        self.tables.as_slice()
+    }
+
+    /// The newest closed epoch.
+    pub fn last(&self) -> u64
+        ensures { result ≡ self.now.database.last }
+    {
+        self.last
     }
 
     fn is_in_form(&self, alloc: Global, statement: &Statement) -> Result<bool, AllocError>
@@ -232,8 +265,7 @@ impl PlainStore {
             rows: Vec::new(alloc),
             born: self.last,
         };
-        self.tables.push(table)?;
-        Ok(())
+        put(&mut self.tables, table)
     }
 
     fn insert(&mut self, alloc: Global, insert: &Insert) -> Result<(), AllocError>

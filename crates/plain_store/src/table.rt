@@ -1,7 +1,8 @@
 use col_value::{List, Name, Row, Stamped};
 use sql_tree::NewColumn;
 
-/// A table as one list of rows, with the name of its one projection and the epoch at which it was made.
+/// A table as one list of rows, with the name of its one projection and the epoch up to which that has its rows on
+/// disk: where it was never moved, the epoch at which the table was made.
 #[derive(Debug, Drop)]
 pub struct Table {
     pub name: Name,
