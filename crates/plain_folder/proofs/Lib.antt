@@ -1,1 +1,4 @@
-
+pub mod Rows
+pub mod Epochs
+pub mod Blames
+pub mod Found

@@ -7,6 +7,8 @@ use Rattle.col_value.specs.Order.{IsValue}
 use Rattle.col_value.specs.declared.kinds.Encoding.{Encoding}
 use Rattle.col_value.specs.declared.row.Asked.{Asked}
 use Rattle.col_value.specs.declared.row.Stamped.{Stamped}
+use Rattle.sql_tree.specs.declared.statement.NewColumn.{NewColumn}
+use Rattle.catalog_types.specs.declared.catalogue.Column.{Column}
 use Rattle.catalog_types.specs.declared.catalogue.Container.{Container}
 use Rattle.catalog_types.specs.declared.catalogue.Projection.{Projection}
 use Rattle.catalog_types.specs.declared.catalogue.Table as kept
@@ -14,7 +16,7 @@ use Rattle.catalog_types.specs.declared.catalogue.Catalogue.{Catalogue}
 use Rattle.db_model.specs.Database.{Table}
 use Rattle.db_model.specs.Growth.{early}
 use Rattle.db_model.specs.Kept.{moved_shape}
-use Rattle.plain_folder.specs.Reopens.{HoldsRows, undeleted, column_of, shape_of}
+use Rattle.plain_folder.specs.Reopens.{HoldsRows, undeleted, shape_of}
 
 -- the containers of the first of some projections
 abbrev pub containers_of : List Projection → List Container
@@ -38,6 +40,10 @@ whole_projection name last containers = record {
   containers = containers;
 }
 
+-- a column as one of the catalogue
+abbrev pub kept_column : NewColumn → Column
+kept_column c = record { name = c.name; kind = c.kind; not_null = c.not_null }
+
 -- a projection of one column, by which its rows are sorted
 pub record IsOfOne (p : Projection) : Type 0 where
   pub columns : length p.columns ≡ 1
@@ -55,7 +61,7 @@ AreBelow next ks = All (λ k. k.base + 4 ≤ next) ks
 
 -- containers that hold rows, with numbers below the next free one
 pub record AreHeld (m : Contents) (next : ℕ) (ks : List Container) (rows : List Stamped) : Type 0 where
-  pub rows : HoldsRows m 1 ks rows
+  pub held : HoldsRows m 1 ks rows
   pub below : AreBelow next ks
 
 -- the containers that held some rows hold these too now, in some order behind them
@@ -74,7 +80,7 @@ pub record IsSaved (m : Contents) (next last : ℕ) (t : kept.Table) (u : Table)
   pub rows : List Stamped
   pub projection : List ℕ
   pub name : t.name ≡ u.name
-  pub columns : map column_of t.columns ≡ u.columns
+  pub columns : t.columns ≡ map kept_column u.columns
   pub projections : t.projections ≡ whole_projection projection last containers ∷ []
   pub shapes : map shape_of t.projections ≡ map (moved_shape last) u.shapes
   pub held : AreHeld m next containers rows

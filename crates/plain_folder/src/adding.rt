@@ -1,6 +1,6 @@
 //! The rows that are new in a table, as a container.
 
-ghost use Rattle.std.specs.Prelude.{◌≡◌, ◌≤◌, ◌<◌, ◌+◌, ◌^◌, ◌×◌, ℕ, Some, map, length, filter, IsTrue, OnOk, IfOk, IfSome, List};
+ghost use Rattle.std.specs.Prelude.{◌≡◌, ◌≤◌, ◌<◌, ◌+◌, ◌^◌, ℕ, Some, map, length, filter, IsTrue, OnOk, IfOk, IfSome, List};
 ghost use Rattle.std.specs.List.{All};
 ghost use Rattle.col_base.specs.Bags.{SameBag};
 ghost use Rattle.col_base.specs.Causes.{HasCause};
@@ -63,26 +63,24 @@ pub fn are_writable(rows: &[Asked]) -> bool
     true
 }
 
+#[tactic(auto, using(crate::proofs::Epochs::lesser_more))]
 fn least_epoch(rows: &[Asked]) -> u64
     ensures { All (λ a. result ≤ a.ins) rows.now }
 {
     let mut least = u64::MAX;
     for asked in rows {
-        if asked.ins < least {
-            least = asked.ins;
-        }
+        least = least.min(asked.ins);
     }
     least
 }
 
+#[tactic(auto, using(crate::proofs::Epochs::greater_more))]
 fn greatest_epoch(rows: &[Asked]) -> u64
     ensures { All (λ a. a.ins ≤ result) rows.now }
 {
-    let mut greatest = 0;
+    let mut greatest: u64 = 0;
     for asked in rows {
-        if asked.ins > greatest {
-            greatest = asked.ins;
-        }
+        greatest = greatest.max(asked.ins);
     }
     greatest
 }

@@ -7,9 +7,9 @@ ghost use Rattle.col_base.specs.Maps.{Contents};
 ghost use Rattle.col_disk.specs.Moved.{Moved, NoName};
 ghost use Rattle.db_model.specs.Growth.{late};
 ghost use Rattle.plain_store.specs.Views.{table_of};
-ghost use Rattle.plain_folder.specs.Reopens.{HoldsRows, undeleted, column_of};
+ghost use Rattle.plain_folder.specs.Reopens.{undeleted};
 ghost use Rattle.plain_folder.specs.Closing.{DataFrom};
-ghost use Rattle.plain_folder.specs.Saving.{containers_of, containers_named, whole_projection, IsWritable, IsOfOne, HoldsMore, SavesTable, SavesTables};
+ghost use Rattle.plain_folder.specs.Saving.{containers_of, containers_named, whole_projection, kept_column, IsWritable, IsOfOne, HoldsMore, SavesTable, SavesTables};
 
 use crate::adding::{are_writable, late_rows, write_container};
 use catalog_types::{Catalogue, Column, Container, ProjColumn, Projection, Table as Kept};
@@ -47,17 +47,17 @@ fn kept_containers<'a>(tables: &'a [Kept], name: &Name) -> &'a [Container]
 }
 
 fn columns_of(alloc: Global, columns: List<NewColumn>) -> Result<List<Column>, AllocError>
-    ensures { IfOk result (λ v. map column_of v ≡ columns) }
+    ensures { IfOk result (λ v. v ≡ map kept_column columns) }
 {
-    let columns = columns.into_vec();
-    let mut kept = Vec::with_capacity(alloc, columns.len())?;
-    for column in columns {
-        kept.push(Column {
+    let kept: Vec<Column> = columns
+        .into_vec()
+        .into_iter()
+        .map(|column| Column {
             name: column.name,
             kind: column.kind,
             not_null: column.not_null,
-        })?;
-    }
+        })
+        .collect(alloc)?;
     Ok(List::new(kept))
 }
 
@@ -91,7 +91,7 @@ fn kept_table(
     projection: Projection,
 ) -> Result<Kept, AllocError>
     ensures name { IfOk result (λ t. t.name ≡ name) }
-    ensures columns { IfOk result (λ t. map column_of t.columns ≡ columns) }
+    ensures columns { IfOk result (λ t. t.columns ≡ map kept_column columns) }
     ensures projections { IfOk result (λ t. t.projections ≡ projection ∷ []) }
 {
     let mut projections = Vec::with_capacity(alloc, 1)?;
@@ -171,6 +171,7 @@ fn filled(shape: Projection, containers: Vec<Container>) -> Projection
 }
 
 /// A table of the catalogue, and the next number that is free.
+#[derive(Drop)]
 pub struct Saved {
     pub table: Kept,
     pub next: u64,
