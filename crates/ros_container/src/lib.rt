@@ -7,10 +7,12 @@
 //! change (`container_kept`).
 #![tactic(auto)]
 
+mod laws;
 mod order;
 mod read;
 mod write;
 
+pub use laws::container_kept;
 pub use order::sort_rows;
 pub use read::rows;
 pub use write::{write_one, write_rows};
