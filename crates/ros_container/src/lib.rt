@@ -7,9 +7,11 @@
 //! change (`container_kept`).
 #![tactic(auto)]
 
+mod files;
 mod laws;
 mod order;
 mod read;
+mod transpose;
 mod write;
 
 pub use laws::container_kept;
