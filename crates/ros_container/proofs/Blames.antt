@@ -48,6 +48,7 @@ a_column columns k m rows i lt held = there (lt_or_last i columns lt)
   where
     lt_or_last : (i columns : ℕ) → i < columns + 1 → (i < columns) ⊎ (i ≡ columns)
     lt_or_last i columns lt = grind arith
+
     there : (i < columns) ⊎ (i ≡ columns) → (vs : List Value) × HoldsColumn (body_of k.base i) (index_of k.base i) k.rows m vs
     there (inl less) = (column_values i rows, held.each i less)
     there (inr last) = (epoch_values rows, subst (λ (j : ℕ). HoldsColumn (body_of k.base j) (index_of k.base j) k.rows m (epoch_values rows)) (sym last) held.epochs)

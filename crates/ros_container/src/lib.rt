@@ -14,7 +14,7 @@ mod read;
 mod transpose;
 mod write;
 
-pub use laws::container_kept;
+pub use laws::{container_kept, one_container};
 pub use order::sort_rows;
 pub use read::rows;
 pub use write::{write_one, write_rows};

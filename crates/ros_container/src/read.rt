@@ -13,7 +13,7 @@ use crate::files::{body_of, index_of};
 use crate::transpose::{blank_rows, with_values};
 use catalog_types::{Container, Projection};
 use col_disk::{Disk, StoreFault};
-use col_file::read_column;
+use col_file::{one_column, read_column};
 use col_value::{Asked, Encoding, Value};
 use std::alloc::{AllocError, Global};
 
@@ -60,7 +60,10 @@ fn rows_of<D: Disk>(
     match read_one(alloc, disk, entry, columns, columns, Encoding::Auto) {
         Ok(epochs) => match blank_rows(alloc, columns, entry, epochs.as_slice()) {
             Ok(Some(rows)) => Ok(rows),
-            Ok(None) => Err(StoreFault::Damaged(body_of(entry.base, columns))),
+            Ok(None) => {
+                one_column();
+                Err(StoreFault::Damaged(body_of(entry.base, columns)))
+            }
             Err(AllocError) => Err(StoreFault::Memory),
         },
         Err(fault) => Err(fault),

@@ -25,7 +25,7 @@ loop-i-preserved g c =
     let long : length c.loop-i.rows.items ≡ length c.in-Ok-read_one.values.items = now.long ∙ sym c.in-Ok-read_one.ensures.long in
     record {
       each = each_more c.args.entry.now.base c.loop-i.i c.args.entry.now.rows (g.D.Disk.holds c.args.disk.now) (g.D.Disk.holds c.loop-i.disk) c.loop-i.rows.items c.in-Ok-with_values.rows.items c.in-Ok-read_one.values.items now.kept is long now.wide now.each
-      c.in-Ok-read_one.ensures.found;
+          c.in-Ok-read_one.ensures.found;
       epochs = epochs_more c.args.entry.now.base (length c.as_slice-columns.result.now) c.args.entry.now.rows (g.D.Disk.holds c.args.disk.now) c.loop-i.rows.items c.in-Ok-with_values.rows.items c.in-Ok-read_one.values.items is long now.epochs;
       long = ap length is ∙ with_length c.loop-i.rows.items c.in-Ok-read_one.values.items long ∙ now.long;
       wide = subst (AreWide (c.loop-i.i + 1)) (sym is) (with_wide c.loop-i.i c.loop-i.rows.items c.in-Ok-read_one.values.items long now.wide);
