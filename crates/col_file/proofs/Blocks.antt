@@ -15,7 +15,7 @@ use Rattle.col_value.specs.declared.value.Value.{Value}
 use Rattle.col_file.specs.declared.index.Entry.{Entry}
 use Rattle.col_file.specs.Plain.{plain, IsPlain}
 use Rattle.col_file.specs.Fronts.{plain_of}
-use Rattle.col_file.specs.Read.{Blames, SpellsBlock, IsBlock, piece, is_between, flattened, HaveCounts, AnswersPiece, IsNoPiece, AreRuns}
+use Rattle.col_file.specs.Read.{Blames, SpellsBlock, IsBlock, piece, is_between, flattened, HaveCounts, AnswersPiece, IsNoPiece, AreValues, AreRuns}
 use Rattle.col_file.proofs.Parts.{and_true, plain_again}
 
 abbrev pub test : ℕ → Entry → List Value → Bool
@@ -51,13 +51,19 @@ some_items : (name : ℕ) (e : Entry) (next : Option Entry) (holds : Option Cont
     → (m : Contents) → holds ≡ Some m → ◌≡◌ {A = Option (List ℕ)} (Some v.items) (option_map (piece e next) (get m name))
 some_items name e next holds v answer m told = answer m told
 
-pub runs_there : (name rows : ℕ) (e : Entry) (next : Option Entry) (holds : Option Contents) (v : Vec ℕ Global) (bytes : List ℕ) (r : Result (Vec Run Global) StoreFault) → AnswersPiece name e next holds (Some v) → bytes ≡ v.items
-    → IfOk r (λ w. HaveCounts w.items × IsBlock rows e (flattened w.items) × (bytes ≡ plain (flattened w.items))) → IfOk r (λ w. AreRuns name rows e next holds w.items)
-runs_there name rows e next holds v bytes (Err fault) answer is given = tt
-runs_there name rows e next holds v bytes (Ok w) answer is given = record {
-  counts = given.0;
-  values = given.1;
-  spelled = λ m told. sym (some_items name e next holds v answer m told) ∙ ap (λ (b : List ℕ). Some b) (sym is ∙ given.2);
+pub values_there : (name rows : ℕ) (e : Entry) (next : Option Entry) (holds : Option Contents) (v : Vec ℕ Global) (bytes : List ℕ) (r : Result (Vec Value Global) StoreFault) → AnswersPiece name e next holds (Some v) → bytes ≡ v.items
+    → IfOk r (λ w. IsBlock rows e w.items × (bytes ≡ plain w.items)) → IfOk r (λ w. AreValues name rows e next holds w.items)
+values_there name rows e next holds v bytes (Err fault) answer is given = tt
+values_there name rows e next holds v bytes (Ok w) answer is given = record {
+  values = given.0;
+  spelled = λ m told. sym (some_items name e next holds v answer m told) ∙ ap (λ (b : List ℕ). Some b) (sym is ∙ given.1);
+}
+
+pub runs_there : (name rows : ℕ) (e : Entry) (next : Option Entry) (holds : Option Contents) (vs : List Value) (runs : List Run) → AreValues name rows e next holds vs → HaveCounts runs → flattened runs ≡ vs → AreRuns name rows e next holds runs
+runs_there name rows e next holds vs runs are counts flat = record {
+  counts = counts;
+  values = subst (IsBlock rows e) (sym flat) are.values;
+  spelled = λ m told. are.spelled m told ∙ ap (λ (ws : List Value). Some (plain ws)) (sym flat);
 }
 
 not_there : (name rows : ℕ) (e : Entry) (next : Option Entry) (holds : Option Contents) (v : Vec ℕ Global) (bytes : List ℕ) → AnswersPiece name e next holds (Some v) → bytes ≡ v.items
@@ -67,12 +73,12 @@ not_there name rows e next holds v bytes answer is unspelled m told file there s
     let same : bytes ≡ piece e next file = is ∙ some_is v.items (piece e next file) here in
     unspelled (subst (SpellsBlock rows e) (sym same) spells)
 
-blames : (name : ℕ) (P Q : Type 0) (fault : StoreFault) → (P → Q) → Blames name P fault → Blames name Q fault
+pub blames : (name : ℕ) (P Q : Type 0) (fault : StoreFault) → (P → Q) → Blames name P fault → Blames name Q fault
 blames name P Q (Damaged n) h given = (given.0, h given.1)
 blames name P Q Disk h given = tt
 blames name P Q Memory h given = tt
 
-pub blamed_there : (name rows : ℕ) (e : Entry) (next : Option Entry) (holds : Option Contents) (v : Vec ℕ Global) (bytes : List ℕ) (r : Result (Vec Run Global) StoreFault) → AnswersPiece name e next holds (Some v) → bytes ≡ v.items
+pub blamed_there : (name rows : ℕ) (e : Entry) (next : Option Entry) (holds : Option Contents) (v : Vec ℕ Global) (bytes : List ℕ) (r : Result (Vec Value Global) StoreFault) → AnswersPiece name e next holds (Some v) → bytes ≡ v.items
     → IfErr r (Blames name (SpellsBlock rows e bytes → ⊥)) → IfErr r (Blames name (IsNoPiece name rows e next holds))
 blamed_there name rows e next holds v bytes (Ok w) answer is given = tt
 blamed_there name rows e next holds v bytes (Err fault) answer is given = blames name (SpellsBlock rows e bytes → ⊥) (IsNoPiece name rows e next holds) fault (not_there name rows e next holds v bytes answer is) given

@@ -3,3 +3,5 @@ pub mod Parts
 pub mod Written
 pub mod Found
 pub mod Blocks
+pub mod ByBlocks
+pub mod OneColumn

@@ -157,10 +157,10 @@ pub index_again : (x : PosIndex) → IsIndex x → Fits x → index_of (index_sp
 unfolding index_of
 index_again x is fit = rw (index_front_again x fit (index_long x is), is) refl
 
-pub index_found : (bytes : List ℕ) (r : Result (Option PosIndex) AllocError) → IsBytes bytes → IfOk r (λ o. index_of bytes ≡ o) → IfOk r (λ o. IfSome o (λ x. IsIndex x × (bytes ≡ index_spelling x)))
+pub index_found : (bytes : List ℕ) (r : Result (Option PosIndex) AllocError) → IsBytes bytes → IfOk r (λ o. index_of bytes ≡ o) → IfOk r (λ o. IfSome o (λ x. IsIndex x × Fits x × (bytes ≡ index_spelling x)))
 index_found bytes (Err e) fits given = tt
 index_found bytes (Ok None) fits given = tt
-index_found bytes (Ok (Some x)) fits given = (index_takes bytes x fits given).0
+index_found bytes (Ok (Some x)) fits given = let all = index_takes bytes x fits given in (all.0.0, all.1, all.0.1)
 
 pub index_none : (bytes : List ℕ) (r : Result (Option PosIndex) AllocError) → IfOk r (λ o. index_of bytes ≡ o) → IfOk r (λ o. IfNone o ((x : PosIndex) → IsIndex x → Fits x → bytes ≡ index_spelling x → ⊥))
 index_none bytes (Err e) given = tt

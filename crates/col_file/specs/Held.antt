@@ -10,7 +10,7 @@ use Rattle.col_file.specs.declared.index.PosIndex.{PosIndex}
 use Rattle.col_file.specs.Plain.{plain}
 use Rattle.col_file.specs.Index.{index_spelling, IsIndex, Fits}
 use Rattle.col_file.specs.Column.{IsNoFile}
-use Rattle.col_file.specs.Read.{SpellsIndex, IsBlock, piece}
+use Rattle.col_file.specs.Read.{SpellsIndex, IsBlock, piece, AreValues}
 
 abbrev pub first_of : List Entry → Option Entry
 first_of [] = None
@@ -20,6 +20,18 @@ first_of (e ∷ es) = Some e
 abbrev pub HasBlocks : ℕ → List ℕ → List Entry → List Value → Type 0
 HasBlocks rows bytes [] vs = vs ≡ []
 HasBlocks rows bytes (e ∷ es) vs = (block : List Value) × (more : List Value) × IsBlock rows e block × (piece e (first_of es) bytes ≡ plain block) × HasBlocks rows bytes es more × (vs ≡ block ++ more)
+
+-- where a disk tells its contents, the body has these values in the blocks of the index
+abbrev pub HoldsBlocks : ℕ → PosIndex → Option Contents → List Value → Type 0
+HoldsBlocks body at holds vs = (m : Contents) → holds ≡ Some m → (bytes : List ℕ) × (get m body ≡ Some bytes) × HasBlocks at.rows bytes at.entries vs
+
+-- where a disk tells its contents, the body is absent or has no values in the blocks of the index
+abbrev pub HoldsNoBlocks : ℕ → PosIndex → Option Contents → Type 0
+HoldsNoBlocks body at holds = IsNoFile body (λ bytes. (vs : List Value) × HasBlocks at.rows bytes at.entries vs) holds
+
+-- what was read goes on with the values of the block
+abbrev pub GoesOn : ℕ → ℕ → Entry → Option Entry → Option Contents → List Value → List Value → Type 0
+GoesOn body rows e next holds old new = (block : List Value) × AreValues body rows e next holds block × (new ≡ old ++ block)
 
 -- the two files hold a column of these values
 pub record HoldsColumn (body index rows : ℕ) (m : Contents) (vs : List Value) : Type 0 where

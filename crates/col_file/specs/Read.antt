@@ -48,6 +48,11 @@ pub record IsBlock (rows : ℕ) (e : Entry) (vs : List Value) : Type 0 where
 abbrev pub SpellsBlock : ℕ → Entry → List ℕ → Type 0
 SpellsBlock rows e bytes = (vs : List Value) × IsBlock rows e vs × (bytes ≡ plain vs)
 
+-- the values of the block that stands in the file
+pub record AreValues (name rows : ℕ) (e : Entry) (next : Option Entry) (holds : Option Contents) (vs : List Value) : Type 0 where
+  pub values : IsBlock rows e vs
+  pub spelled : (m : Contents) → holds ≡ Some m → option_map (piece e next) (get m name) ≡ Some (plain vs)
+
 -- a run stands for its value, so many times
 abbrev pub flattened : List Run → List Value
 flattened runs = flat_map (λ r. repeat r.count (r.value ∷ [])) runs

@@ -6,7 +6,7 @@ ghost use Rattle.col_base.specs.Causes.{HasCause};
 ghost use Rattle.col_disk.specs.Calls.{AnswersPart};
 ghost use Rattle.col_disk.specs.Moved.{Moved, NoName};
 ghost use Rattle.col_file.specs.Plain.{plain};
-ghost use Rattle.col_file.specs.Read.{Blames, SpellsBlock, IsBlock, AnswersPiece, IsNoPiece, is_between, flattened, HaveCounts, AreRuns};
+ghost use Rattle.col_file.specs.Read.{Blames, SpellsBlock, IsBlock, AnswersPiece, IsNoPiece, is_between, flattened, HaveCounts, AreValues, AreRuns};
 
 use crate::index::{Entry, PosIndex};
 use crate::plain::take_plain;
@@ -111,6 +111,28 @@ fn values_in(
     }
 }
 
+/// The values of the block of this entry, which ends where the next begins.
+pub fn block_values<D: Disk>(
+    alloc: Global,
+    disk: &mut D,
+    name: u64,
+    rows: u64,
+    entry: &Entry,
+    next: Option<&Entry>,
+) -> Result<Vec<Value>, StoreFault>
+    ensures found { IfOk result (λ v. AreValues name rows entry.now (option_map (λ n. n.now) next.entry) (D.holds disk.old) v.items) }
+    ensures blamed { IfErr result (Blames name (IsNoPiece name rows entry.now (option_map (λ n. n.now) next.entry) (D.holds disk.old))) }
+    ensures kept { D.holds disk.new ≡ D.holds disk.old }
+    ensures moved { Moved ⟦<D as Disk>⟧ NoName NoName disk.old disk.new }
+    ensures cause { HasCause StoreFault.Disk (D.faults disk.old) (D.faults disk.new) result }
+{
+    match piece_of(alloc, disk, name, entry, next) {
+        Ok(Some(bytes)) => values_in(alloc, bytes.as_slice(), name, rows, entry),
+        Ok(None) => Err(StoreFault::Damaged(name)),
+        Err(fault) => Err(fault),
+    }
+}
+
 /// A run for each value.
 fn runs_of(alloc: Global, values: Vec<Value>) -> Result<Vec<Run>, AllocError>
     ensures { IfOk result (λ v. HaveCounts v.items × (flattened v.items ≡ values.items)) }
@@ -120,27 +142,6 @@ fn runs_of(alloc: Global, values: Vec<Value>) -> Result<Vec<Run>, AllocError>
         runs.push(Run { value, count: 1 })?;
     }
     Ok(runs)
-}
-
-/// The runs of the block that the bytes are.
-fn runs_in(
-    alloc: Global,
-    bytes: &[u8],
-    name: u64,
-    rows: u64,
-    entry: &Entry,
-) -> Result<Vec<Run>, StoreFault>
-    ensures found { IfOk result (λ v. HaveCounts v.items × IsBlock rows entry.now (flattened v.items) × (bytes.now ≡ plain (flattened v.items))) }
-    ensures blamed { IfErr result (Blames name (SpellsBlock rows entry.now bytes.now → ⊥)) }
-    ensures no_cause { result ≢ Err StoreFault.Disk }
-{
-    match values_in(alloc, bytes, name, rows, entry) {
-        Ok(values) => match runs_of(alloc, values) {
-            Ok(runs) => Ok(runs),
-            Err(AllocError) => Err(StoreFault::Memory),
-        },
-        Err(fault) => Err(fault),
-    }
 }
 
 /// The runs of the block of this entry, which ends where the next begins.
@@ -158,9 +159,11 @@ pub fn block_runs<D: Disk>(
     ensures moved { Moved ⟦<D as Disk>⟧ NoName NoName disk.old disk.new }
     ensures cause { HasCause StoreFault.Disk (D.faults disk.old) (D.faults disk.new) result }
 {
-    match piece_of(alloc, disk, name, entry, next) {
-        Ok(Some(bytes)) => runs_in(alloc, bytes.as_slice(), name, rows, entry),
-        Ok(None) => Err(StoreFault::Damaged(name)),
+    match block_values(alloc, disk, name, rows, entry, next) {
+        Ok(values) => match runs_of(alloc, values) {
+            Ok(runs) => Ok(runs),
+            Err(AllocError) => Err(StoreFault::Memory),
+        },
         Err(fault) => Err(fault),
     }
 }

@@ -155,7 +155,7 @@ impl PosIndex {
 
     /// The index that all of the bytes are. None exactly where they are no index whose numbers fit their types.
     pub fn from_bytes(alloc: Global, bytes: &[u8]) -> Result<Option<PosIndex>, AllocError>
-        ensures found { IfOk result (λ o. IfSome o (λ x. IsIndex x × (bytes.now ≡ index_spelling x))) }
+        ensures found { IfOk result (λ o. IfSome o (λ x. IsIndex x × Fits x × (bytes.now ≡ index_spelling x))) }
         ensures none { IfOk result (λ o. IfNone o ((x : Index) → IsIndex x → Fits x → bytes.now ≡ index_spelling x → ⊥)) }
         ensures exact { IfOk result (λ o. index_of bytes.now ≡ o) }
     {

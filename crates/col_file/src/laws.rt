@@ -1,13 +1,20 @@
 //! Laws of the spellings.
 
-ghost use Rattle.std.specs.Prelude.{◌≡◌, List};
+ghost use Rattle.std.specs.Prelude.{◌≡◌, ℕ, List};
+ghost use Rattle.col_base.specs.Maps.{Contents};
 ghost use Rattle.col_value.specs.declared.value.Value.{Value};
 ghost use Rattle.col_file.specs.Plain.{plain, IsPlain};
 ghost use Rattle.col_file.specs.Index.{index_spelling, IsIndex, Fits};
+ghost use Rattle.col_file.specs.Held.{HoldsColumn};
 ghost use Rattle.col_file.specs.declared.index.PosIndex.{PosIndex};
 
 /// Two blocks of one spelling have the same values, and two indexes of one spelling are equal.
 pub fn one_spelling()
     ensures block { (vs ws : List Value) → IsPlain vs → IsPlain ws → plain vs ≡ plain ws → vs ≡ ws }
     ensures index { (x y : PosIndex) → IsIndex x → IsIndex y → Fits x → Fits y → index_spelling x ≡ index_spelling y → x ≡ y }
+{}
+
+/// The two files of a column hold one list of values.
+pub fn one_column()
+    ensures { (body index rows : ℕ) (m : Contents) (vs ws : List Value) → HoldsColumn body index rows m vs → HoldsColumn body index rows m ws → vs ≡ ws }
 {}

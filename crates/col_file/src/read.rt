@@ -4,7 +4,7 @@ ghost use Rattle.std.specs.Prelude.{◌≡◌, ◌≢◌, Err, IfOk, IfErr};
 ghost use Rattle.col_base.specs.Causes.{HasCause};
 ghost use Rattle.col_disk.specs.Faults.{store_fault};
 ghost use Rattle.col_disk.specs.Moved.{Moved, NoName};
-ghost use Rattle.col_file.specs.Index.{index_spelling, IsIndex};
+ghost use Rattle.col_file.specs.Index.{index_spelling, IsIndex, Fits};
 ghost use Rattle.col_file.specs.Column.{IsFile, IsNoFile};
 ghost use Rattle.col_file.specs.Read.{Blames, SpellsIndex};
 
@@ -14,7 +14,7 @@ use std::alloc::{AllocError, Global};
 
 /// The index of so many rows that all of the bytes are; the name is blamed where they are none.
 fn index_in(alloc: Global, bytes: &[u8], name: u64, rows: u64) -> Result<PosIndex, StoreFault>
-    ensures found { IfOk result (λ x. (x.rows ≡ rows) × IsIndex x × (bytes.now ≡ index_spelling x)) }
+    ensures found { IfOk result (λ x. (x.rows ≡ rows) × IsIndex x × Fits x × (bytes.now ≡ index_spelling x)) }
     ensures blamed { IfErr result (Blames name (SpellsIndex rows bytes.now → ⊥)) }
     ensures no_cause { result ≢ Err StoreFault.Disk }
 {
@@ -46,7 +46,7 @@ pub fn read_index<D: Disk>(
     index: u64,
     rows: u64,
 ) -> Result<PosIndex, StoreFault>
-    ensures index { IfOk result (λ x. (x.rows ≡ rows) × IsIndex x) }
+    ensures index { IfOk result (λ x. (x.rows ≡ rows) × IsIndex x × Fits x) }
     ensures found { IfOk result (λ x. IsFile index (index_spelling x) (D.holds disk.old)) }
     ensures blamed { IfErr result (Blames index (IsNoFile index (SpellsIndex rows) (D.holds disk.old))) }
     ensures kept { D.holds disk.new ≡ D.holds disk.old }

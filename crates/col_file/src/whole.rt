@@ -1,24 +1,92 @@
 //! Reading a whole column.
 
-ghost use Rattle.std.specs.Prelude.{◌≡◌, length, IfOk, IfErr, Some};
+ghost use Rattle.std.specs.Prelude.{◌≡◌, ◌++◌, ◌+◌, ◌<◌, length, IfOk, IfErr, IfSome, OnOk, Some};
+ghost use Rattle.std.specs.List.{slice_get};
 ghost use Rattle.col_base.specs.Causes.{HasCause};
 ghost use Rattle.col_base.specs.Maps.{Contents};
 ghost use Rattle.col_disk.specs.Moved.{Moved, NoName};
-ghost use Rattle.col_file.specs.Held.{HoldsColumn, BlamesColumn};
+ghost use Rattle.col_file.specs.Index.{IsIndex};
+ghost use Rattle.col_file.specs.Read.{Blames, IsNoPiece};
+ghost use Rattle.col_file.specs.Held.{HoldsColumn, BlamesColumn, HoldsBlocks, HoldsNoBlocks, GoesOn};
 
+use crate::block::block_values;
+use crate::index::PosIndex;
+use crate::read::read_index;
 use col_disk::{Disk, StoreFault};
 use col_value::{Encoding, Value};
-use std::alloc::Global;
+use std::alloc::{AllocError, Global};
 
-/// All values of a column of so many rows, in their order. `Damaged(index)` comes only where the index file is absent,
-/// is no index, or is one of another number of rows; `Damaged(body)` only where the two files hold no such column.
+/// Appends the values of block k.
+fn read_on<D: Disk>(
+    alloc: Global,
+    disk: &mut D,
+    body: u64,
+    at: &PosIndex,
+    k: usize,
+    values: &mut Vec<Value>,
+) -> Result<(), StoreFault>
+    requires { k < length at.now.entries }
+    ensures found { IfSome (slice_get at.now.entries k) (λ e. OnOk result (GoesOn body at.now.rows e (slice_get at.now.entries (k + 1)) (D.holds disk.old) values.old.items values.new.items)) }
+    ensures blamed { IfSome (slice_get at.now.entries k) (λ e. IfErr result (Blames body (IsNoPiece body at.now.rows e (slice_get at.now.entries (k + 1)) (D.holds disk.old)))) }
+    ensures kept { D.holds disk.new ≡ D.holds disk.old }
+    ensures moved { Moved ⟦<D as Disk>⟧ NoName NoName disk.old disk.new }
+    ensures cause { HasCause StoreFault.Disk (D.faults disk.old) (D.faults disk.new) result }
+{
+    let entries = at.entries.as_slice();
+    match block_values(alloc, disk, body, at.rows, &entries[k], entries.get(k + 1)) {
+        Ok(block) => match add(values, block) {
+            Ok(()) => Ok(()),
+            Err(AllocError) => Err(StoreFault::Memory),
+        },
+        Err(fault) => Err(fault),
+    }
+}
+
+fn add(values: &mut Vec<Value>, block: Vec<Value>) -> Result<(), AllocError>
+    ensures { OnOk result (values.new.items ≡ values.old.items ++ block.items) }
+{
+    let mut block = block;
+    values.append(&mut block)
+}
+
+/// The values of all blocks.
+fn read_blocks<D: Disk>(
+    alloc: Global,
+    disk: &mut D,
+    body: u64,
+    at: &PosIndex,
+) -> Result<Vec<Value>, StoreFault>
+    requires { IsIndex at.now }
+    ensures found { IfOk result (λ v. HoldsBlocks body at.now (D.holds disk.old) v.items) }
+    ensures long { IfOk result (λ v. length v.items ≡ at.now.rows) }
+    ensures blamed { IfErr result (Blames body (HoldsNoBlocks body at.now (D.holds disk.old))) }
+    ensures kept { D.holds disk.new ≡ D.holds disk.old }
+    ensures moved { Moved ⟦<D as Disk>⟧ NoName NoName disk.old disk.new }
+    ensures cause { HasCause StoreFault.Disk (D.faults disk.old) (D.faults disk.new) result }
+{
+    let mut values = match Vec::with_capacity(alloc, at.rows as usize) {
+        Ok(values) => values,
+        Err(AllocError) => return Err(StoreFault::Memory),
+    };
+    for k in 0..at.entries.as_slice().len() {
+        match read_on(alloc, disk, body, at, k, &mut values) {
+            Ok(()) => {}
+            Err(fault) => return Err(fault),
+        }
+    }
+    Ok(values)
+}
+
+/// All values of a column of so many rows, in their order; each block is read once. `Damaged(index)` comes only where
+/// the index file is absent, is no index, or is one of another number of rows; `Damaged(body)` only where the two
+/// files hold no such column. Whatever the encoding says, the blocks are PLAIN for now.
 pub fn read_column<D: Disk>(
     alloc: Global,
     disk: &mut D,
     body: u64,
     index: u64,
     rows: u64,
-    encoding: Encoding,
+    _encoding: Encoding,
 ) -> Result<Vec<Value>, StoreFault>
     ensures found { IfOk result (λ v. (m : Contents) → D.holds disk.old ≡ Some m → HoldsColumn body index rows m v.items) }
     ensures long { IfOk result (λ v. length v.items ≡ rows) }
@@ -27,5 +95,8 @@ pub fn read_column<D: Disk>(
     ensures moved { Moved ⟦<D as Disk>⟧ NoName NoName disk.old disk.new }
     ensures cause { HasCause StoreFault.Disk (D.faults disk.old) (D.faults disk.new) result }
 {
-    Err(StoreFault::Memory)
+    match read_index(alloc, disk, index, rows) {
+        Ok(at) => read_blocks(alloc, disk, body, &at),
+        Err(fault) => Err(fault),
+    }
 }

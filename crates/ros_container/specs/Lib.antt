@@ -2,3 +2,4 @@ pub mod Rows
 pub mod Order
 pub mod Files
 pub mod Held
+pub mod Parts

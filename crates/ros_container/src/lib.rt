@@ -7,10 +7,14 @@
 //! change (`container_kept`).
 #![tactic(auto)]
 
+mod files;
+mod laws;
 mod order;
 mod read;
+mod transpose;
 mod write;
 
+pub use laws::{container_kept, one_container};
 pub use order::sort_rows;
 pub use read::rows;
 pub use write::{write_one, write_rows};

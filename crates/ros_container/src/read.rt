@@ -1,16 +1,74 @@
 //! Reading a container.
 
-ghost use Rattle.std.specs.Prelude.{◌≡◌, ◌<◌, ◌+◌, ◌*◌, ◌^◌, length, Some, IfOk, IfErr};
+ghost use Rattle.std.specs.Prelude.{◌≡◌, ◌≤◌, ◌<◌, ◌+◌, ◌*◌, ◌^◌, length, Some, IfOk, IfErr};
 ghost use Rattle.col_base.specs.Causes.{HasCause};
 ghost use Rattle.col_base.specs.Maps.{Contents};
 ghost use Rattle.col_disk.specs.Moved.{Moved, NoName};
+ghost use Rattle.col_file.specs.Held.{HoldsColumn};
+ghost use Rattle.ros_container.specs.Files.{body_of, index_of};
 ghost use Rattle.ros_container.specs.Held.{HoldsContainer, BlamesContainer, HoldsNoRows};
-ghost use Rattle.ros_container.specs.Rows.{AreWide, AreWithin};
+ghost use Rattle.ros_container.specs.Rows.{epoch_values, AreWide, AreWithin};
 
+use crate::files::{body_of, index_of};
+use crate::transpose::{blank_rows, with_values};
 use catalog_types::{Container, Projection};
 use col_disk::{Disk, StoreFault};
-use col_value::Asked;
-use std::alloc::Global;
+use col_file::{one_column, read_column};
+use col_value::{Asked, Encoding, Value};
+use std::alloc::{AllocError, Global};
+
+/// The values of one column, or behind the columns the epochs.
+fn read_one<D: Disk>(
+    alloc: Global,
+    disk: &mut D,
+    entry: &Container,
+    columns: usize,
+    column: usize,
+    encoding: Encoding,
+) -> Result<Vec<Value>, StoreFault>
+    requires numbers { entry.now.base + 2 * columns + 1 < 2 ^ 62 }
+    requires column { column ≤ columns }
+    ensures found { IfOk result (λ v. (m : Contents) → D.holds disk.old ≡ Some m → HoldsColumn (body_of entry.now.base column) (index_of entry.now.base column) entry.now.rows m v.items) }
+    ensures long { IfOk result (λ v. length v.items ≡ entry.now.rows) }
+    ensures blamed { IfErr result (BlamesContainer columns entry.now (D.holds disk.old)) }
+    ensures kept { D.holds disk.new ≡ D.holds disk.old }
+    ensures moved { Moved ⟦<D as Disk>⟧ NoName NoName disk.old disk.new }
+    ensures cause { HasCause StoreFault.Disk (D.faults disk.old) (D.faults disk.new) result }
+{
+    let body = body_of(entry.base, column);
+    let index = index_of(entry.base, column);
+    read_column(alloc, disk, body, index, entry.rows, encoding)
+}
+
+/// The rows without their values; the body of the epochs is blamed where one of them is not the entry's.
+fn rows_of<D: Disk>(
+    alloc: Global,
+    disk: &mut D,
+    entry: &Container,
+    columns: usize,
+) -> Result<Vec<Asked>, StoreFault>
+    requires numbers { entry.now.base + 2 * columns + 1 < 2 ^ 62 }
+    ensures found { IfOk result (λ v. (m : Contents) → D.holds disk.old ≡ Some m → HoldsColumn (body_of entry.now.base columns) (index_of entry.now.base columns) entry.now.rows m (epoch_values v.items)) }
+    ensures long { IfOk result (λ v. length v.items ≡ entry.now.rows) }
+    ensures wide { IfOk result (λ v. AreWide 0 v.items) }
+    ensures within { IfOk result (λ v. AreWithin entry.now v.items) }
+    ensures blamed { IfErr result (BlamesContainer columns entry.now (D.holds disk.old)) }
+    ensures kept { D.holds disk.new ≡ D.holds disk.old }
+    ensures moved { Moved ⟦<D as Disk>⟧ NoName NoName disk.old disk.new }
+    ensures cause { HasCause StoreFault.Disk (D.faults disk.old) (D.faults disk.new) result }
+{
+    match read_one(alloc, disk, entry, columns, columns, Encoding::Auto) {
+        Ok(epochs) => match blank_rows(alloc, columns, entry, epochs.as_slice()) {
+            Ok(Some(rows)) => Ok(rows),
+            Ok(None) => {
+                one_column();
+                Err(StoreFault::Damaged(body_of(entry.base, columns)))
+            }
+            Err(AllocError) => Err(StoreFault::Memory),
+        },
+        Err(fault) => Err(fault),
+    }
+}
 
 /// All rows of a container, in the order in which they stand there. `Damaged` names a file of the container that is
 /// absent or isn't what it has to be, or the body of the epochs where one of them isn't from the entry's least to its
@@ -32,5 +90,20 @@ pub fn rows<D: Disk>(
     ensures moved { Moved ⟦<D as Disk>⟧ NoName NoName disk.old disk.new }
     ensures cause { HasCause StoreFault.Disk (D.faults disk.old) (D.faults disk.new) result }
 {
-    Err(StoreFault::Memory)
+    let columns = shape.columns.as_slice();
+    let mut rows = match rows_of(alloc, disk, entry, columns.len()) {
+        Ok(rows) => rows,
+        Err(fault) => return Err(fault),
+    };
+    for (i, column) in columns.iter().enumerate() {
+        let values = match read_one(alloc, disk, entry, columns.len(), i, column.encoding) {
+            Ok(values) => values,
+            Err(fault) => return Err(fault),
+        };
+        rows = match with_values(alloc, rows, values) {
+            Ok(rows) => rows,
+            Err(AllocError) => return Err(StoreFault::Memory),
+        };
+    }
+    Ok(rows)
 }

@@ -7,6 +7,7 @@ ghost use Rattle.col_base.specs.Maps.{Contents};
 ghost use Rattle.catalog_types.specs.declared.catalogue.Container.{Container as Entry};
 ghost use Rattle.col_disk.specs.Moved.{Moved, NoName, Named, Either};
 ghost use Rattle.col_file.specs.Column.{IsColumn};
+ghost use Rattle.col_file.specs.Held.{HoldsColumn};
 ghost use Rattle.col_value.specs.Order.{IsRow};
 ghost use Rattle.ros_container.specs.Files.{body_of, index_of, IsFileOf};
 ghost use Rattle.ros_container.specs.Held.{HoldsContainer};
@@ -34,6 +35,7 @@ pub fn write_one<D: Disk>(
     requires values { All (λ a. IsRow a.row) rows.now }
     requires epochs { All (λ a. a.ins ≤ 2 ^ 63 - 1) rows.now }
     ensures written { OnOk result (IsColumn (body_of base column) (index_of base column) (stored_values (length shape.now.columns) column rows.now) (D.holds disk.new)) }
+    ensures held { OnOk result ((m : Contents) → D.holds disk.new ≡ Some m → HoldsColumn (body_of base column) (index_of base column) (length rows.now) m (stored_values (length shape.now.columns) column rows.now)) }
     ensures moved { Moved ⟦<D as Disk>⟧ (Either (Named (body_of base column)) (Named (index_of base column))) NoName disk.old disk.new }
     ensures cause { HasCause DiskFault.Failed (D.faults disk.old) (D.faults disk.new) result }
 {
@@ -58,5 +60,12 @@ pub fn write_rows<D: Disk>(
     ensures moved { Moved ⟦<D as Disk>⟧ (IsFileOf base (length shape.now.columns)) NoName disk.old disk.new }
     ensures cause { HasCause DiskFault.Failed (D.faults disk.old) (D.faults disk.new) result }
 {
-    Err(DiskFault::Memory)
+    let columns = shape.columns.as_slice().len();
+    for column in 0..columns + 1 {
+        match write_one(alloc, disk, base, shape, rows, column) {
+            Ok(()) => {}
+            Err(fault) => return Err(fault),
+        }
+    }
+    Ok(())
 }

@@ -1,0 +1,53 @@
+-- Writing one column after the other.
+use borrow.Author.Count.{below_more}
+use Rattle.std.proofs.Common.{◌≡◌, ℕ, ◌+◌, ◌<◌, Bool, true, false, List, length, refl, ap, ◌∙◌, arith}
+use Rattle.std.specs.Prelude.{◌==◌, Some, if◌then◌else◌}
+use Rattle.std.proofs.lemmas.Bool.Decides.{nat_tests}
+use Rattle.catalog_types.specs.declared.catalogue.Container.{Container}
+use Rattle.col_base.specs.Maps.{Contents}
+use Rattle.col_disk.proofs.Moving.{moved_join, moved_wider}
+use Rattle.col_disk.specs.declared.disk.Disk.{Ghosts}
+use Rattle.col_disk.specs.Moved.{Moved, NoName, Named, Either}
+use Rattle.col_file.specs.Held.{HoldsColumn}
+use Rattle.col_value.specs.declared.row.Asked.{Asked}
+use Rattle.col_value.specs.declared.value.Value.{Value}
+use Rattle.ros_container.specs.Files.{body_of, index_of, IsFileOf}
+use Rattle.ros_container.specs.Held.{HoldsContainer}
+use Rattle.ros_container.specs.Rows.{column_values, epoch_values, stored_values, AreWide, AreWithin}
+use Rattle.ros_container.proofs.Kept.{is_file, still_held}
+
+-- the files of one column more moved
+pub moved_more : {D : Type 0} (disk : Ghosts D) (base columns i : ℕ) {old mid new : D} → i < columns + 1 → Moved disk (IsFileOf base columns) NoName old mid
+    → Moved disk (Either (Named (body_of base i)) (Named (index_of base i))) NoName mid new → Moved disk (IsFileOf base columns) NoName old new
+moved_more disk base columns i lt first second = moved_join disk first (moved_wider disk (is_file base columns i lt) (λ q is. is) second)
+
+-- the first columns are held, and the next one
+pub held_more : {D : Type 0} (disk : Ghosts D) (base i rows : ℕ) (values : ℕ → List Value) {mid new : D} → Moved disk (Either (Named (body_of base i)) (Named (index_of base i))) NoName mid new
+    → ((j : ℕ) → j < i → (m : Contents) → disk.holds mid ≡ Some m → HoldsColumn (body_of base j) (index_of base j) rows m (values j))
+    → ((m : Contents) → disk.holds new ≡ Some m → HoldsColumn (body_of base i) (index_of base i) rows m (values i))
+    → (j : ℕ) → j < i + 1 → (m : Contents) → disk.holds new ≡ Some m → HoldsColumn (body_of base j) (index_of base j) rows m (values j)
+held_more disk base i rows values {mid} {new} moved before here =
+    below_more (λ (j : ℕ). (m : Contents) → disk.holds new ≡ Some m → HoldsColumn (body_of base j) (index_of base j) rows m (values j)) i
+    (λ j lt. still_held base i j rows (values j) (disk.holds mid) (disk.holds new) lt moved.contents (before j lt)) here
+
+pub stored_column : (columns i : ℕ) (rows : List Asked) → i < columns → stored_values columns i rows ≡ column_values i rows
+stored_column columns i rows lt = let differs : (i == columns) ≡ false = grind (arith, nat_tests) in rw differs refl
+
+pub stored_epochs : (columns : ℕ) (rows : List Asked) → stored_values columns columns rows ≡ epoch_values rows
+stored_epochs columns rows = let same : (columns == columns) ≡ true = grind (arith, nat_tests) in rw same refl
+
+-- the same column, told of an entry
+at_entry : (base k_base i rows k_rows : ℕ) (m : Contents) (vs ws : List Value) → k_base ≡ base → k_rows ≡ rows → vs ≡ ws
+    → HoldsColumn (body_of base i) (index_of base i) rows m vs → HoldsColumn (body_of k_base i) (index_of k_base i) k_rows m ws
+at_entry base k_base i rows k_rows m vs ws same_base same_rows same held = rw (same_base, same_rows, ← same) held
+
+-- all columns are held
+pub all_held : (base columns : ℕ) (m : Contents) (rows : List Asked) (k : Container)
+    → ((j : ℕ) → j < columns + 1 → HoldsColumn (body_of base j) (index_of base j) (length rows) m (stored_values columns j rows))
+    → AreWide columns rows → k.base ≡ base → k.rows ≡ length rows → AreWithin k rows → HoldsContainer m columns k rows
+all_held base columns m rows k held wide same_base same_rows within = record {
+  each = λ i lt. at_entry base k.base i (length rows) k.rows m _ _ same_base same_rows (stored_column columns i rows lt) (held i (omega arith));
+  epochs = at_entry base k.base columns (length rows) k.rows m _ _ same_base same_rows (stored_epochs columns rows) (held columns (omega arith));
+  wide = wide;
+  within = within;
+}
