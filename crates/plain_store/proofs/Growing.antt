@@ -1,6 +1,6 @@
 -- Statements only add to a database that was opened.
-use Rattle.std.proofs.Common.{◌≡◌, ℕ, ◌+◌, ◌-◌, ◌≤◌, ◌<◌, ◌++◌, ◌&&◌, ◌||◌, not, List, [], ◌∷◌, length, Bool, true, false, cond, map, refl, sym, ◌∙◌, ap, subst, append-nil, arith}
-use Rattle.std.specs.Prelude.{Option, Some, None, is_some, filter, bytes_eq, nat_le}
+use Rattle.std.proofs.Common.{◌≡◌, ℕ, ◌+◌, ◌-◌, ◌≤◌, ◌<◌, ◌++◌, List, [], ◌∷◌, length, Bool, true, false, cond, map, refl, sym, ◌∙◌, ap, subst, append-nil, arith}
+use Rattle.std.specs.Prelude.{Option, Some, None, is_some, bytes_eq, nat_le}
 use Rattle.std.specs.List.{All}
 use Rattle.std.specs.Option.{option_map_or}
 use Rattle.std.proofs.lemmas.List.{length-set, get_or-set_same}
@@ -14,7 +14,7 @@ use Rattle.sql_tree.specs.declared.statement.Statement.{Statement}
 use Rattle.sql_tree.specs.declared.refusal.Refusal.{Refusal}
 use Rattle.db_model.specs.Database.{Table, Database, table_named, is_taken, put_table, mark_all}
 use Rattle.db_model.specs.State.{State, Changes, opened_state, own_changes, with_changes, with_rows, joined, has_changes, inserted_at, commit_into, change_named, commit_changes, committed}
-use Rattle.db_model.specs.Forms.{is_in_form, may_create}
+use Rattle.db_model.specs.Forms.{is_in_form}
 use Rattle.db_model.specs.Step.{Step, Effect, refusal_of, served_refusal, new_table, with_table, after, inserted_rows}
 use Rattle.db_model.specs.Run.{RunTexts}
 use Rattle.db_model.specs.Growth.{early, rows_named, IsOpened, HasGrown}
