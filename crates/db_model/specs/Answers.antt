@@ -1,5 +1,5 @@
 -- What a statement prints.
-use Rattle.std.specs.Prelude.{ℕ, ◌≡◌, ◌==◌, ◌+◌, ◌++◌, if◌then◌else◌, List, [], ◌∷◌, map, length, Option, Some, None, option_map, slice_get, codes}
+use Rattle.std.specs.Prelude.{ℕ, ◌++◌, List, [], ◌∷◌, map, length, slice_get, codes}
 use Rattle.std.specs.List.{flat_map}
 use Rattle.std.specs.List.Sorted.{IsPermutation, IsSorted}
 use Rattle.std.specs.Option.{option_map_or}
@@ -10,7 +10,7 @@ use Rattle.col_value.specs.Order.{wide_row_cmp, widened}
 use Rattle.col_value.specs.Prints.{row_text}
 use Rattle.sql_tree.specs.declared.query.At.{At}
 use Rattle.sql_tree.specs.declared.query.Query.{Query}
-use Rattle.db_model.specs.Database.{Table, Database, visible}
+use Rattle.db_model.specs.Database.{Table, visible}
 use Rattle.db_model.specs.State.{State, Changes, session_view, own_changes}
 use Rattle.db_model.specs.Forms.{source_table, plain_place}
 

@@ -1,8 +1,8 @@
 -- The logical database: plain tables whose rows carry the epochs of the commits that inserted and deleted them.
-use Rattle.std.specs.Prelude.{ℕ, ◌==◌, ◌&&◌, ◌||◌, ◌++◌, not, nat_le, if◌then◌else◌, Bool, true, false, List, [], ◌∷◌, map, filter, find, fold, min, Option, Some, None, is_none, bytes_eq, codes}
+use Rattle.std.specs.Prelude.{ℕ, ◌==◌, ◌&&◌, ◌||◌, ◌++◌, not, nat_le, if◌then◌else◌, Bool, false, List, [], ◌∷◌, map, filter, find, Option, Some, is_none, bytes_eq, codes}
 use Rattle.std.specs.Ordering.{is_eq, is_lt, nat_cmp}
 use Rattle.std.specs.Cmp.Lexicographic.{slice_cmp}
-use Rattle.std.specs.List.{list_any, flat_map}
+use Rattle.std.specs.List.{list_any}
 use Rattle.std.specs.Option.{option_map_or}
 use Rattle.col_value.specs.declared.value.Value.{Value}
 use Rattle.col_value.specs.declared.kinds.Encoding.{Encoding}

@@ -1,11 +1,9 @@
 -- Which statements are served, over which state.
-use Rattle.std.specs.Prelude.{ℕ, ℤ, pos, negsuc, ◌^◌, ◌-◌, ◌&&◌, ◌||◌, not, nat_le, nat_lt, if◌then◌else◌, Bool, true, false, List, [], ◌∷◌, length, Option, Some, None, is_none, is_some, option_and_then, position, bytes_eq}
+use Rattle.std.specs.Prelude.{ℕ, ℤ, pos, negsuc, ◌&&◌, not, nat_le, nat_lt, if◌then◌else◌, Bool, true, false, List, [], ◌∷◌, length, Option, Some, None, is_none, is_some, option_and_then, position, bytes_eq}
 use Rattle.std.specs.List.{list_all}
-use Rattle.std.specs.Option.{option_map_or}
 use Rattle.col_value.specs.declared.wide.Wide.{Wide}
 use Rattle.col_value.specs.declared.kinds.ColType.{ColType}
 use Rattle.sql_tree.specs.declared.statement.NewColumn.{NewColumn}
-use Rattle.sql_tree.specs.declared.statement.Insert.{Insert}
 use Rattle.sql_tree.specs.declared.statement.Statement.{Statement}
 use Rattle.sql_tree.specs.declared.query.At.{At}
 use Rattle.sql_tree.specs.declared.query.Item.{Item}
@@ -13,7 +11,6 @@ use Rattle.sql_tree.specs.declared.query.Items.{Items}
 use Rattle.sql_tree.specs.declared.query.Source.{Source}
 use Rattle.sql_tree.specs.declared.query.Query.{Query}
 use Rattle.sql_tree.specs.declared.tree.Tree.{Tree}
-use Rattle.sql_tree.specs.declared.tree.ColRef.{ColRef}
 use Rattle.db_model.specs.Database.{Table, table_named, is_taken, super_name}
 use Rattle.db_model.specs.State.{State, is_empty}
 

@@ -1,5 +1,5 @@
 -- What is kept of a database from one run to the next.
-use Rattle.std.specs.Prelude.{ℕ, ◌≡◌, if◌then◌else◌, List, map}
+use Rattle.std.specs.Prelude.{ℕ, ◌≡◌, if◌then◌else◌, map}
 use Rattle.std.specs.List.{AllZip}
 use Rattle.col_base.specs.Bags.{SameBag}
 use Rattle.db_model.specs.Database.{Shape, Table, Database}

@@ -1,12 +1,12 @@
 -- The state of the program: the database and its eight sessions.
-use Rattle.std.specs.Prelude.{ℕ, ◌-◌, ◌+◌, ◌&&◌, ◌||◌, ◌++◌, not, if◌then◌else◌, Bool, true, false, List, [], ◌∷◌, map, find, Option, Some, None, bytes_eq, slice_set, replicate}
+use Rattle.std.specs.Prelude.{ℕ, ◌-◌, ◌+◌, ◌||◌, ◌++◌, not, if◌then◌else◌, Bool, true, false, List, [], ◌∷◌, map, None, bytes_eq, slice_set}
 use Rattle.std.specs.Ordering.{is_eq}
 use Rattle.std.specs.List.{list_any, slice_index_or}
 use Rattle.col_value.specs.declared.value.Value.{Value}
 use Rattle.col_value.specs.declared.row.Stamped.{Stamped}
 use Rattle.col_value.specs.declared.row.Asked.{Asked}
 use Rattle.col_value.specs.Order.{row_cmp}
-use Rattle.db_model.specs.Database.{Table, Database, empty_database, table_named, visible, mark_all}
+use Rattle.db_model.specs.Database.{Table, Database, empty_database, visible, mark_all}
 
 -- what a session has changed in a table since its last COMMIT or ROLLBACK, and whether it holds the table against others
 pub record Changes : Type 0 where

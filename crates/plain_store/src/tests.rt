@@ -38,3 +38,32 @@ fn statements_are_answered_with_ample_memory(rt: HostRuntime) -> Result<(), Fail
         ],
     )
 }
+
+#[test]
+fn a_store_goes_on_over_the_tables_of_another(rt: HostRuntime) -> Result<(), Fail> {
+    let alloc = rt.alloc();
+    let mut first = PlainStore::new(alloc);
+    for statement in [
+        "CREATE TABLE b (x INTEGER)",
+        "CREATE TABLE c (x INTEGER)",
+        "CREATE TABLE a (x INTEGER)",
+        "INSERT INTO b VALUES (7)",
+        "COMMIT",
+        "INSERT INTO b VALUES (8)",
+    ] {
+        first.answer(alloc, statement.as_bytes())?;
+    }
+    let (tables, last) = first.into_tables();
+    let mut names = Vec::new(alloc);
+    for table in &tables {
+        names.extend_from_slice(table.name.as_slice())?;
+    }
+    assert_eq!(rt; names.as_slice(), b"abc".as_slice());
+    assert_eq!(rt; last, 1);
+    let mut second = PlainStore::of_tables(alloc, tables, last);
+    let answer = second.answer(alloc, b"SELECT x FROM b")?;
+    assert_eq!(rt; answer.text.as_slice(), b"7\n(1 rows)\n".as_slice());
+    let answer = second.answer(alloc, b"COMMIT")?;
+    assert_eq!(rt; answer.text.as_slice(), b"COMMIT\n".as_slice());
+    Ok(())
+}
