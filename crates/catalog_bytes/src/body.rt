@@ -7,9 +7,10 @@ ghost use Rattle.catalog_bytes.specs.Spelling.{head, spelling, Fits};
 ghost use Rattle.col_bytes.specs.Parts.{Gives};
 ghost use Rattle.catalog_bytes.specs.Fronts.{behind_head, catalogue_at, all_of, IfValid};
 
+use crate::leaves::put_number;
 use crate::part::{put_list, read_list};
 use catalog_types::Catalogue;
-use col_bytes::{Stop, put_vint, read_vint};
+use col_bytes::{Stop, read_vint};
 use std::alloc::{AllocError, Global};
 
 /// `VCAT`, and the version of the format.
@@ -21,15 +22,17 @@ const HEAD: [u8; 5] = [86, 67, 65, 84, 1];
 /// BOOLEAN) and its not-null byte; a projection its name, its columns (the varint of the ordinal and the byte
 /// of the encoding, 00 for AUTO), its sort places, the byte whether it is up to date, its epoch, how many
 /// containers were made, and its containers; a container seven varints, 0 for no delete vector.
+#[tactic(auto, using(crate::proofs::Puts::catalogue_put))]
 pub fn to_bytes(alloc: Global, c: &Catalogue) -> Result<Vec<u8>, AllocError>
     requires { IsValid c.now }
-    ensures { IfOk result (λ v. v.items ≡ spelling c.now) }
+    ensures spelled { IfOk result (λ v. v.items ≡ spelling c.now) }
+    ensures small { IfOk result (λ _. Fits c.now) }
 {
     let mut out = Vec::new(alloc);
     out.extend_from_slice(&HEAD)?;
-    put_vint(&mut out, c.last)?;
-    put_vint(&mut out, c.ahm)?;
-    put_vint(&mut out, c.next)?;
+    put_number(&mut out, c.last)?;
+    put_number(&mut out, c.ahm)?;
+    put_number(&mut out, c.next)?;
     put_list(&mut out, c.tables.as_slice())?;
     Ok(out)
 }

@@ -1,15 +1,37 @@
 //! The parts that are made of no others.
 
-ghost use Rattle.std.specs.Prelude.{◌≡◌, ◌++◌, ◌∷◌, [], OnOk};
+ghost use Rattle.std.specs.Prelude.{◌≡◌, ◌++◌, ◌∷◌, ◌<◌, ◌^◌, [], length, OnOk};
 ghost use Rattle.col_bytes.specs.Spellings.{vint, text};
 ghost use Rattle.col_bytes.specs.Fronts.{vint_at, text_at};
-ghost use Rattle.catalog_bytes.specs.Spelling.{flag, kind, encoding, marks};
+ghost use Rattle.catalog_bytes.specs.Spelling.{flag, kind, encoding, marks, FitsKind};
+ghost use Rattle.catalog_bytes.specs.Put.{MarksPut};
 ghost use Rattle.col_bytes.specs.Parts.{Gives};
 ghost use Rattle.catalog_bytes.specs.Fronts.{flag_at, narrow_at, kind_at, encoding_at, marks_at};
 
-use col_bytes::{Stop, put_vint, read_vint, take_text};
+use col_bytes::{Stop, put_text, put_vint, read_vint, take_text};
 use col_value::{ColType, Encoding, Name};
 use std::alloc::{AllocError, Global};
+
+pub fn put_number(out: &mut Vec<u8>, n: u64) -> Result<(), AllocError>
+    ensures ok { OnOk result (out.new.items ≡ out.old.items ++ vint n) }
+    ensures small { n < 2 ^ 64 }
+{
+    put_vint(out, n)
+}
+
+pub fn put_narrow(out: &mut Vec<u8>, n: u32) -> Result<(), AllocError>
+    ensures ok { OnOk result (out.new.items ≡ out.old.items ++ vint n) }
+    ensures small { n < 2 ^ 32 }
+{
+    put_vint(out, u64::from(n))
+}
+
+pub fn put_name(out: &mut Vec<u8>, name: &[u8]) -> Result<(), AllocError>
+    ensures ok { OnOk result (out.new.items ≡ out.old.items ++ text name.now) }
+    ensures small { length name.now < 2 ^ 64 }
+{
+    put_text(out, name)
+}
 
 pub fn put_flag(out: &mut Vec<u8>, b: bool) -> Result<(), AllocError>
     ensures { OnOk result (out.new.items ≡ out.old.items ++ flag b) }
@@ -19,13 +41,14 @@ pub fn put_flag(out: &mut Vec<u8>, b: bool) -> Result<(), AllocError>
 }
 
 pub fn put_kind(out: &mut Vec<u8>, k: ColType) -> Result<(), AllocError>
-    ensures { OnOk result (out.new.items ≡ out.old.items ++ kind k) }
+    ensures ok { OnOk result (out.new.items ≡ out.old.items ++ kind k) }
+    ensures small { OnOk result (FitsKind k) }
 {
     match k {
         ColType::Integer => out.push(1)?,
         ColType::Varchar(n) => {
             out.push(2)?;
-            put_vint(out, u64::from(n))?;
+            put_narrow(out, n)?;
         }
         ColType::Boolean => out.push(3)?,
     }
@@ -52,11 +75,12 @@ pub fn put_encoding(out: &mut Vec<u8>, k: Encoding) -> Result<(), AllocError>
 }
 
 pub fn put_marks(out: &mut Vec<u8>, m: Option<u64>) -> Result<(), AllocError>
-    ensures { OnOk result (out.new.items ≡ out.old.items ++ marks m) }
+    ensures ok { OnOk result (out.new.items ≡ out.old.items ++ marks m) }
+    ensures small { MarksPut m }
 {
     match m {
-        None => put_vint(out, 0),
-        Some(m) => put_vint(out, m),
+        None => put_number(out, 0),
+        Some(m) => put_number(out, m),
     }
 }
 

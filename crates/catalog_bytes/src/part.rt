@@ -1,8 +1,8 @@
 //! A part of a catalogue that has a spelling, and lists of parts.
 
 ghost use Rattle.std.specs.Prelude.{◌≡◌, ◌++◌, List, ℕ, Option, OnOk};
-ghost use Rattle.std.specs.List.{flat_map};
-ghost use Rattle.col_bytes.specs.Spellings.{counted};
+ghost use Rattle.std.specs.List.{flat_map, AllByRecursion};
+ghost use Rattle.col_bytes.specs.Spellings.{counted, FitsList};
 ghost use Rattle.col_bytes.specs.Parts.{Gives, many, counted_at};
 
 use col_bytes::{Stop, put_vint, read_vint};
@@ -15,9 +15,13 @@ pub trait Part: Sized {
 
     ghost front: { List ℕ → Option (Self × List ℕ) };
 
+    /// What the types say of the part's numbers.
+    ghost fits: { Self → Type 0 };
+
     /// Appends the part's bytes.
     fn put(&self, out: &mut Vec<u8>) -> Result<(), AllocError>
-        ensures { OnOk result (out.new.items ≡ out.old.items ++ spelling self.now) };
+        ensures ok { OnOk result (out.new.items ≡ out.old.items ++ spelling self.now) }
+        ensures small { OnOk result (fits self.now) };
 
     /// Reads the part at the front, and gives the bytes behind it.
     fn read(alloc: Global, bytes: &[u8]) -> Result<(Self, &[u8]), Stop>
@@ -25,7 +29,8 @@ pub trait Part: Sized {
 }
 
 fn put_each<T: Part>(out: &mut Vec<u8>, parts: &[T]) -> Result<(), AllocError>
-    ensures { OnOk result (out.new.items ≡ out.old.items ++ flat_map T.spelling parts.now) }
+    ensures ok { OnOk result (out.new.items ≡ out.old.items ++ flat_map T.spelling parts.now) }
+    ensures small { OnOk result (AllByRecursion T.fits parts.now) }
 {
     for part in parts {
         part.put(out)?;
@@ -35,7 +40,8 @@ fn put_each<T: Part>(out: &mut Vec<u8>, parts: &[T]) -> Result<(), AllocError>
 
 /// Appends how many parts there are, and each of them.
 pub fn put_list<T: Part>(out: &mut Vec<u8>, parts: &[T]) -> Result<(), AllocError>
-    ensures { OnOk result (out.new.items ≡ out.old.items ++ counted T.spelling parts.now) }
+    ensures ok { OnOk result (out.new.items ≡ out.old.items ++ counted T.spelling parts.now) }
+    ensures small { OnOk result (FitsList T.fits parts.now) }
 {
     put_vint(out, parts.len() as u64)?;
     put_each(out, parts)

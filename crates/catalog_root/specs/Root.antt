@@ -44,6 +44,19 @@ pub record IsFresh (m : Contents) : Type 0 where
   pub closed : AllClosed m
   pub blank : (n : ℕ) → get m (data_file n) ≡ None
 
+-- the version is above every open gate
+abbrev pub IsAbove : ℕ → Contents → Type 0
+IsAbove version m = (w : ℕ) → IsOpenGate m w → w < version
+
+-- what the disk opened to, it opens to still
+pub record OpensAsBefore (old new : Contents) : Type 0 where
+  pub root : (v : ℕ) (c : Catalogue) → IsRoot old v c → IsRoot new v c
+  pub fresh : IsFresh old → IsFresh new
+
+-- what a commit leaves, whatever it answers: the disk opens to the new version, or as before
+abbrev pub NewOrOld : ℕ → Catalogue → Contents → Contents → Type 0
+NewOrOld version c old new = IsRoot new version c ⊎ OpensAsBefore old new
+
 -- what an opening found
 abbrev pub Opens : Contents → Found → Type 0
 Opens m Fresh = IsFresh m

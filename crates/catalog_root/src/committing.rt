@@ -1,17 +1,34 @@
 //! Committing: a new version of the catalogue, which the disk then opens to.
 
-ghost use Rattle.std.specs.Prelude.{◌≡◌, ◌<◌, ℕ, Some, OnOk};
+ghost use Rattle.std.specs.Prelude.{◌≡◌, ◌<◌, ◌^◌, ℕ, Some, OnOk, IfOk, IfErr};
+ghost use Rattle.std.specs.Option.{option_map};
+ghost use Rattle.std.specs.FinMap.{insert};
 ghost use Rattle.col_base.specs.Causes.{HasCause};
 ghost use Rattle.col_base.specs.Maps.{Contents};
 ghost use Rattle.col_disk.specs.Moved.{Moved, NoName, Named, Either};
 ghost use Rattle.catalog_types.specs.Valid.{IsValid};
-ghost use Rattle.catalog_root.specs.Root.{body_file, gate_file, IsOpenGate, IsRoot};
+ghost use Rattle.catalog_root.specs.Root.{body_file, gate_file, IsAbove, IsRoot, NewOrOld};
 
+use crate::names::{OPEN, body_of, gate_of};
+use catalog_bytes::to_bytes;
 use catalog_types::Catalogue;
 use col_disk::{Disk, DiskFault};
-use std::alloc::Global;
+use std::alloc::{AllocError, Global};
 
-/// Writes version `version` of the catalogue, its body before its gate.
+/// Writes the bytes and makes them last.
+fn put<D: Disk>(disk: &mut D, name: u64, bytes: &[u8]) -> Result<(), DiskFault>
+    ensures done { OnOk result (D.holds disk.new ≡ option_map (λ m. insert m name bytes.now) (D.holds disk.old)) }
+    ensures moved { Moved ⟦<D as Disk>⟧ (Named name) NoName disk.old disk.new }
+    ensures cause { HasCause DiskFault.Failed (D.faults disk.old) (D.faults disk.new) result }
+{
+    match disk.write(name, bytes) {
+        Ok(()) => disk.sync(),
+        Err(fault) => Err(fault),
+    }
+}
+
+/// Makes this the version that the disk opens to. It must be above every open gate. Its body is there before its
+/// gate is written, so that after a fault the disk opens to the new version or to what it opened to before.
 pub fn commit<D: Disk>(
     alloc: Global,
     disk: &mut D,
@@ -20,9 +37,16 @@ pub fn commit<D: Disk>(
 ) -> Result<(), DiskFault>
     requires valid { IsValid c.now }
     requires below { version < c.now.next }
-    ensures done { OnOk result ((m : Contents) → D.holds disk.old ≡ Some m → ((w : ℕ) → IsOpenGate m w → w < version) → (n : Contents) × (D.holds disk.new ≡ Some n) × IsRoot n version c.now) }
+    ensures done { OnOk result ((m : Contents) → D.holds disk.old ≡ Some m → IsAbove version m → (n : Contents) × (D.holds disk.new ≡ Some n) × IsRoot n version c.now) }
+    ensures either { (m : Contents) → D.holds disk.old ≡ Some m → IsAbove version m → (n : Contents) × (D.holds disk.new ≡ Some n) × NewOrOld version c.now m n }
     ensures moved { Moved ⟦<D as Disk>⟧ (Either (Named (body_file version)) (Named (gate_file version))) NoName disk.old disk.new }
     ensures cause { HasCause DiskFault.Failed (D.faults disk.old) (D.faults disk.new) result }
 {
-    Err(DiskFault::Memory)
+    match to_bytes(alloc, c) {
+        Ok(body) => match put(disk, body_of(version), body.as_slice()) {
+            Ok(()) => put(disk, gate_of(version), &[OPEN]),
+            Err(fault) => Err(fault),
+        },
+        Err(AllocError) => Err(DiskFault::Memory),
+    }
 }

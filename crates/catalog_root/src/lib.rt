@@ -9,6 +9,7 @@
 mod cleaning;
 mod committing;
 mod found;
+mod names;
 mod opening;
 
 pub use cleaning::clean;

@@ -1,5 +1,5 @@
 -- A broken file, told of the container, of its projection, of its table and of the folder.
-use Rattle.std.proofs.Common.{ℕ, ◌≡◌, ◌<◌, List, [], ◌∷◌, length, get_or, refl, sym, ◌∙◌, ap, subst, inl, inr, true, false, Bool}
+use Rattle.std.proofs.Common.{ℕ, zero, suc, ◌*◌, ◌+◌, ◌≡◌, ◌<◌, List, [], ◌∷◌, length, get_or, refl, sym, ◌∙◌, ap, subst, inl, inr, true, false, Bool, arith}
 use Rattle.std.specs.Prelude.{◌⊎◌, Option, Some, None, IsSome, Contains}
 use Rattle.std.specs.FinMap.{get}
 use Rattle.std.specs.List.{All, AllZip}
@@ -38,7 +38,7 @@ blame_rows p i k now old StoreFault.Memory within is same blames nothing = tt
 pub blame_table : (t : Table) (p : Projection) (holds : Option Contents) (fault : StoreFault) → t.projections ≡ p ∷ []
     → BlamesProjection p holds fault → BlamesTable t holds fault
 blame_table t p holds (StoreFault.Damaged q) one broken =
-    (p, subst (λ (ps : List Projection). Contains ps p) (sym one) (0, omega (rules), refl), broken)
+    (p, subst (λ (ps : List Projection). Contains ps p) (sym one) (0, omega arith, refl), broken)
 blame_table t p holds StoreFault.Disk one broken = tt
 blame_table t p holds StoreFault.Memory one broken = tt
 
@@ -51,11 +51,11 @@ blame_tables ts i t now old StoreFault.Memory within is same blames = tt
 
 -- of two lists that go together, a member of the first and one of the second
 zip_at : {A B : Type 0} (R : A → B → Type 0) (xs : List A) (ys : List B) (x : A) → AllZip R xs ys → Contains xs x → (y : B) × R x y
-zip_at R [] [] x all (i, within, is) = absurd (omega (rules, within))
+zip_at R [] [] x all (i, within, is) = absurd (omega (arith, within))
 zip_at R [] (y ∷ ys) x all at = absurd all
 zip_at R (a ∷ xs) [] x all at = absurd all
-zip_at {A} {B} R (a ∷ xs) (y ∷ ys) x (here, rest) (0, within, is) = (y, subst (λ (z : A). R z y) is here)
-zip_at R (a ∷ xs) (y ∷ ys) x (here, rest) (suc i, within, is) = zip_at R xs ys x rest (i, omega (rules, within), is)
+zip_at {A} R (a ∷ xs) (y ∷ ys) x (here, rest) (zero, within, is) = (y, subst (λ (z : A). R z y) is here)
+zip_at R (a ∷ xs) (y ∷ ys) x (here, rest) (suc i, within, is) = zip_at R xs ys x rest (i, omega (arith, within), is)
 
 -- a folder that opens to this root opens to no other catalogue
 pub only_root : (m : Contents) (v : ℕ) (c d : Catalogue) → IsRoot m v c → OpensTo m d → d ≡ c

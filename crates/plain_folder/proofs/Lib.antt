@@ -2,3 +2,4 @@ pub mod Rows
 pub mod Epochs
 pub mod Blames
 pub mod Found
+pub mod Writable

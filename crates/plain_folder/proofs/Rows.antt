@@ -1,5 +1,5 @@
 -- Rows of containers, one behind the other.
-use Rattle.std.proofs.Common.{ℕ, ◌≡◌, ◌<◌, ◌+◌, List, [], ◌∷◌, ◌++◌, map, length, refl, sym, ◌∙◌, ap, subst, arith, append_assoc}
+use Rattle.std.proofs.Common.{ℕ, zero, suc, ◌≡◌, ◌<◌, ◌+◌, List, [], ◌∷◌, ◌++◌, map, length, refl, sym, ◌∙◌, ap, subst, arith, append_assoc}
 use Rattle.std.specs.Prelude.{Option, Some, None, slice_index_or, Contains}
 use Rattle.std.proofs.lemmas.List.{append-nil}
 use Rattle.col_base.specs.Maps.{Contents}
@@ -26,5 +26,5 @@ holds_more m n (j ∷ ks) rows k here (front, more, first, rest, is) one = (
 pub holds_at : (m : Contents) (n : ℕ) (ks : List Container) (rows : List Stamped) (k : Container) → HoldsRows m n ks rows → Contains ks k
     → (here : List Asked) × HoldsContainer m n k here
 holds_at m n [] rows k held (i, within, is) = absurd (omega (arith, within))
-holds_at m n (j ∷ ks) rows k (front, more, first, rest, rows_is) (0, within, is) = (front, subst (λ (c : Container). HoldsContainer m n c front) is first)
+holds_at m n (j ∷ ks) rows k (front, more, first, rest, rows_is) (zero, within, is) = (front, subst (λ (c : Container). HoldsContainer m n c front) is first)
 holds_at m n (j ∷ ks) rows k (front, more, first, rest, rows_is) (suc i, within, is) = holds_at m n ks more k rest (i, omega (arith, within), is)

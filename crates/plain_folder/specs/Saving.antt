@@ -1,6 +1,7 @@
 -- A table's new rows on disk, and its place in the catalogue.
-use Rattle.std.specs.Prelude.{ℕ, ◌≡◌, ◌≤◌, ◌<◌, ◌^◌, ◌*◌, ◌+◌, ◌++◌, if◌then◌else◌, true, List, [], ◌∷◌, map, length, bytes_eq, Option, Some}
-use Rattle.std.specs.List.{All, AllZip}
+use Rattle.std.specs.Prelude.{ℕ, ◌≡◌, ◌≤◌, ◌<◌, ◌^◌, ◌*◌, ◌+◌, ◌++◌, true, List, [], ◌∷◌, map, length, bytes_eq, Option, Some}
+use Rattle.std.specs.List.{All, AllZip, find}
+use Rattle.std.specs.Option.{option_map_or}
 use Rattle.col_base.specs.Bags.{SameBag}
 use Rattle.col_base.specs.Maps.{Contents}
 use Rattle.col_value.specs.Order.{IsValue}
@@ -13,6 +14,7 @@ use Rattle.catalog_types.specs.declared.catalogue.Container.{Container}
 use Rattle.catalog_types.specs.declared.catalogue.Projection.{Projection}
 use Rattle.catalog_types.specs.declared.catalogue.Table as kept
 use Rattle.catalog_types.specs.declared.catalogue.Catalogue.{Catalogue}
+use Rattle.ros_container.specs.Held.{HoldsContainer}
 use Rattle.db_model.specs.Database.{Table}
 use Rattle.db_model.specs.Growth.{early}
 use Rattle.db_model.specs.Kept.{moved_shape}
@@ -25,8 +27,7 @@ containers_of (p ∷ more) = p.containers
 
 -- those of the table of a name, none where there is none
 abbrev pub containers_named : List ℕ → List kept.Table → List Container
-containers_named name [] = []
-containers_named name (t ∷ ts) = if bytes_eq t.name name then containers_of t.projections else containers_named name ts
+containers_named name ts = option_map_or (λ t. containers_of t.projections) (find (λ t. bytes_eq t.name name) ts) []
 
 -- the projection that CREATE TABLE makes of one column, with containers of level 0
 abbrev pub whole_projection : List ℕ → ℕ → List Container → Projection
@@ -63,6 +64,10 @@ AreBelow next ks = All (λ k. k.base + 4 ≤ next) ks
 pub record AreHeld (m : Contents) (next : ℕ) (ks : List Container) (rows : List Stamped) : Type 0 where
   pub held : HoldsRows m 1 ks rows
   pub below : AreBelow next ks
+
+-- where the disk tells its contents, the container holds these rows, in some order
+abbrev pub HoldsNew : List Asked → Container → Option Contents → Type 0
+HoldsNew added k holds = (sorted : List Asked) × SameBag added sorted × ((m : Contents) → holds ≡ Some m → HoldsContainer m 1 k sorted)
 
 -- the containers that held some rows hold these too now, in some order behind them
 abbrev pub HoldsMore : ℕ → ℕ → List Container → List Container → List Asked → Option Contents → Option Contents → Type 0

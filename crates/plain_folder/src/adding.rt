@@ -2,16 +2,12 @@
 
 ghost use Rattle.std.specs.Prelude.{◌≡◌, ◌≤◌, ◌<◌, ◌+◌, ◌^◌, ℕ, Some, map, length, filter, IsTrue, OnOk, IfOk, IfSome, List};
 ghost use Rattle.std.specs.List.{All};
-ghost use Rattle.col_base.specs.Bags.{SameBag};
 ghost use Rattle.col_base.specs.Causes.{HasCause};
-ghost use Rattle.col_base.specs.Maps.{Contents};
 ghost use Rattle.col_disk.specs.Moved.{Moved, NoName};
-ghost use Rattle.col_value.specs.declared.row.Asked.{Asked as Inserted};
 ghost use Rattle.db_model.specs.Growth.{late};
 ghost use Rattle.ros_container.specs.Files.{IsFileOf};
-ghost use Rattle.ros_container.specs.Held.{HoldsContainer};
 ghost use Rattle.plain_folder.specs.Reopens.{undeleted};
-ghost use Rattle.plain_folder.specs.Saving.{IsWritable, IsOfOne};
+ghost use Rattle.plain_folder.specs.Saving.{IsWritable, IsOfOne, HoldsNew};
 
 use catalog_types::{Container, Projection};
 use col_disk::{Disk, DiskFault};
@@ -103,7 +99,9 @@ fn container_of(base: u64, rows: &[Asked]) -> Container
     }
 }
 
-/// Writes rows as a container with this base, in container order.
+#[tactic(auto, using(crate::proofs::Writable::some_sorted))]
+/// Writes rows as a container with this base, in container order. Rows that can't stand in one are answered as want of
+/// memory: no store has such.
 pub fn write_container<D: Disk>(
     alloc: Global,
     disk: &mut D,
@@ -114,9 +112,8 @@ pub fn write_container<D: Disk>(
     requires some { 0 < length rows.items }
     requires shape { IsOfOne shape.now }
     requires numbers { base + 4 ≤ 2 ^ 62 }
-    requires rows { All IsWritable rows.items }
     ensures base { IfOk result (λ k. k.base ≡ base) }
-    ensures held { IfOk result (λ k. (sorted : List Inserted) × SameBag rows.items sorted × ((m : Contents) → D.holds disk.new ≡ Some m → HoldsContainer m 1 k sorted)) }
+    ensures held { IfOk result (λ k. HoldsNew rows.items k (D.holds disk.new)) }
     ensures moved { Moved ⟦<D as Disk>⟧ (IsFileOf base 1) NoName disk.old disk.new }
     ensures cause { HasCause DiskFault.Failed (D.faults disk.old) (D.faults disk.new) result }
 {
@@ -124,6 +121,9 @@ pub fn write_container<D: Disk>(
         Ok(sorted) => sorted,
         Err(AllocError) => return Err(DiskFault::Memory),
     };
+    if !are_writable(sorted.as_slice()) {
+        return Err(DiskFault::Memory);
+    }
     match write_rows(alloc, disk, base, shape, sorted.as_slice()) {
         Ok(()) => Ok(container_of(base, sorted.as_slice())),
         Err(fault) => Err(fault),

@@ -58,16 +58,22 @@ fn load_rows<D: Disk>(
     Ok(out)
 }
 
+fn copied_column(alloc: Global, column: &Column) -> Result<NewColumn, AllocError>
+    ensures { IfOk result (λ c. c ≡ column_of column.now) }
+{
+    Ok(NewColumn {
+        name: column.name.copy(alloc)?,
+        kind: column.kind,
+        not_null: column.not_null,
+    })
+}
+
 fn columns_of(alloc: Global, columns: &[Column]) -> Result<List<NewColumn>, AllocError>
     ensures { IfOk result (λ v. v ≡ map column_of columns.now) }
 {
     let mut copies = Vec::with_capacity(alloc, columns.len())?;
     for column in columns {
-        copies.push(NewColumn {
-            name: column.name.copy(alloc)?,
-            kind: column.kind,
-            not_null: column.not_null,
-        })?;
+        copies.push(copied_column(alloc, column)?)?;
     }
     Ok(List::new(copies))
 }

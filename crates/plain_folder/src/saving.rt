@@ -1,17 +1,18 @@
 //! A table as one of the catalogue, with its new rows written.
 
 ghost use Rattle.std.specs.Prelude.{◌≡◌, ◌≤◌, ◌<◌, ◌+◌, ◌++◌, ℕ, [], ◌∷◌, Some, map, length, IfOk, OnOk};
-ghost use Rattle.std.specs.List.{All};
+ghost use Rattle.std.specs.List.{find};
+ghost use Rattle.std.specs.Str.{bytes_eq};
+ghost use Rattle.std.specs.Option.{option_copied};
 ghost use Rattle.col_base.specs.Causes.{HasCause};
-ghost use Rattle.col_base.specs.Maps.{Contents};
 ghost use Rattle.col_disk.specs.Moved.{Moved, NoName};
 ghost use Rattle.db_model.specs.Growth.{late};
 ghost use Rattle.plain_store.specs.Views.{table_of};
 ghost use Rattle.plain_folder.specs.Reopens.{undeleted};
 ghost use Rattle.plain_folder.specs.Closing.{DataFrom};
-ghost use Rattle.plain_folder.specs.Saving.{containers_of, containers_named, whole_projection, kept_column, IsWritable, IsOfOne, HoldsMore, SavesTable, SavesTables};
+ghost use Rattle.plain_folder.specs.Saving.{containers_of, containers_named, whole_projection, kept_column, IsOfOne, HoldsMore, SavesTable, SavesTables};
 
-use crate::adding::{are_writable, late_rows, write_container};
+use crate::adding::{late_rows, write_container};
 use catalog_types::{Catalogue, Column, Container, ProjColumn, Projection, Table as Kept};
 use col_disk::{Disk, DiskFault};
 use col_value::{Asked, Encoding, List, Name, Stamped};
@@ -24,6 +25,18 @@ const NUMBERS: u64 = 4;
 
 // Numbers are drawn below this one.
 const MOST_NUMBERS: u64 = 1 << 61;
+
+/// The table of a name.
+fn find_kept<'a>(tables: &'a [Kept], name: &Name) -> Option<&'a Kept>
+    ensures { option_copied result ≡ find (λ t. bytes_eq t.name name.now) tables.now }
+{
+    for table in tables {
+        if table.name.is(name.as_slice()) {
+            return Some(table);
+        }
+    }
+    None
+}
 
 fn first_containers(projections: &[Projection]) -> &[Container]
     ensures { result.now ≡ containers_of projections.now }
@@ -38,12 +51,10 @@ fn first_containers(projections: &[Projection]) -> &[Container]
 fn kept_containers<'a>(tables: &'a [Kept], name: &Name) -> &'a [Container]
     ensures { result.now ≡ containers_named name.now tables.now }
 {
-    for table in tables {
-        if table.name.is(name.as_slice()) {
-            return first_containers(table.projections.as_slice());
-        }
+    match find_kept(tables, name) {
+        Some(table) => first_containers(table.projections.as_slice()),
+        None => &[],
     }
-    &[]
 }
 
 fn columns_of(alloc: Global, columns: List<NewColumn>) -> Result<List<Column>, AllocError>
@@ -103,8 +114,8 @@ fn kept_table(
     })
 }
 
-/// The new rows of a table, where they can stand in containers of one column. What can't be written is answered as
-/// want of memory: no table of a store has such rows.
+/// The new rows of a table of one column. Deleted rows and tables of more columns are answered as want of memory: no
+/// store has such.
 fn new_rows(
     alloc: Global,
     rows: Vec<Stamped>,
@@ -112,17 +123,13 @@ fn new_rows(
     epoch: u64,
 ) -> Result<Vec<Asked>, AllocError>
     ensures late { IfOk result (λ v. map undeleted v.items ≡ late epoch rows.items) }
-    ensures writable { IfOk result (λ v. All IsWritable v.items) }
     ensures columns { IfOk result (λ v. columns ≡ 1) }
 {
+    if columns != 1 {
+        return Err(AllocError);
+    }
     match late_rows(alloc, rows, epoch)? {
-        Some(added) => {
-            if columns == 1 && are_writable(added.as_slice()) {
-                Ok(added)
-            } else {
-                Err(AllocError)
-            }
-        }
+        Some(added) => Ok(added),
         None => Err(AllocError),
     }
 }
@@ -137,7 +144,6 @@ fn add_container<D: Disk>(
     rows: Vec<Asked>,
     next: u64,
 ) -> Result<u64, DiskFault>
-    requires rows { All IsWritable rows.items }
     requires shape { IsOfOne shape.now }
     ensures held { IfOk result (λ after. HoldsMore next after containers.old.items containers.new.items rows.items (D.holds disk.old) (D.holds disk.new)) }
     ensures next { IfOk result (λ after. next ≤ after) }

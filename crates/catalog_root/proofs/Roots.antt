@@ -1,0 +1,51 @@
+-- The laws of which catalogue a disk opens to.
+use Rattle.std.proofs.Common.{◌≡◌, ℕ, ◌+◌, ◌*◌, ◌<◌, ◌≤◌, List, [], ◌∷◌, refl, sym, ◌∙◌, ap, subst, inl, inr, arith}
+use Rattle.std.specs.Prelude.{◌⊎◌, Option, Some, None}
+use Rattle.std.specs.FinMap.{get, insert}
+use Rattle.col_base.specs.Maps.{Contents}
+use Rattle.col_disk.specs.Moved.{Changed}
+use Rattle.col_disk.proofs.Moving.{changed_kept}
+use Rattle.catalog_types.specs.declared.catalogue.Catalogue.{Catalogue}
+use Rattle.catalog_types.specs.Valid.{IsValid}
+use Rattle.catalog_bytes.specs.Spelling.{spelling, Fits}
+use Rattle.catalog_bytes.proofs.Whole.{same}
+use Rattle.catalog_root.specs.Root.{data_file, body_file, gate_file, IsOpenGate, AllClosed, IsGreatestGate, IsRoot, IsFresh}
+
+some_same : {X : Type 0} (x y : X) → ◌≡◌ {A = Option X} (Some x) (Some y) → x ≡ y
+some_same x y e = cc
+
+-- a disk opens to one version and one catalogue
+pub one_gate : (m : Contents) (v w : ℕ) → IsGreatestGate m v → IsGreatestGate m w → v ≡ w
+one_gate m v w first second = omega (arith, first.greatest w second.is_open, second.greatest v first.is_open)
+
+pub one_root : (m : Contents) (v w : ℕ) (c d : Catalogue) → IsRoot m v c → IsRoot m w d → (v ≡ w) × (c ≡ d)
+one_root m v w c d first second =
+    let is : v ≡ w = one_gate m v w first.gate second.gate in
+    let bodies : ◌≡◌ {A = Option (List ℕ)} (Some (spelling c)) (Some (spelling d)) = sym first.body ∙ ap (λ (x : ℕ). get m (body_file x)) is ∙ second.body in
+    (is, same c d first.fits second.fits (some_same (spelling c) (spelling d) bodies))
+
+-- and it isn't fresh
+pub not_fresh : (m : Contents) (v : ℕ) (c : Catalogue) → IsRoot m v c → IsFresh m → ⊥
+not_fresh m v c root fresh = fresh.closed v root.gate.is_open
+
+-- a gate that is open after a change was open before it
+pub gate_before : (W R : ℕ → Type 0) (m n : Contents) (w : ℕ) → (W (gate_file w) → ⊥) → Changed W R m n → IsOpenGate n w → IsOpenGate m w
+gate_before W R m n w apart changed is = was (changed (gate_file w) apart)
+  where
+    was : (get n (gate_file w) ≡ get m (gate_file w)) ⊎ (R (gate_file w) × (get n (gate_file w) ≡ None)) → IsOpenGate m w
+    was (inl same) = sym same ∙ is
+    was (inr (r, gone)) = let both : ◌≡◌ {A = Option (List ℕ)} None (Some (86 ∷ [])) = sym gone ∙ is in absurd cc
+
+-- it opens to the same after a change of other names
+pub root_kept : (W R : ℕ → Type 0) (m n : Contents) (v : ℕ) (c : Catalogue) → Changed W R m n
+    → ((w : ℕ) → W (gate_file w) → ⊥) → (W (body_file v) → ⊥) → (R (gate_file v) → ⊥) → (R (body_file v) → ⊥) → IsRoot m v c → IsRoot n v c
+root_kept W R m n v c changed no_gate no_body gate_stays body_stays root = record {
+  gate = record {
+    is_open = changed_kept W R m n (gate_file v) (no_gate v) gate_stays changed ∙ root.gate.is_open;
+    greatest = λ w is. root.gate.greatest w (gate_before W R m n w (no_gate w) changed is);
+  };
+  body = changed_kept W R m n (body_file v) no_body body_stays changed ∙ root.body;
+  valid = root.valid;
+  fits = root.fits;
+  below = root.below;
+}
