@@ -3,6 +3,8 @@ use Rattle.std.proofs.Common.{ℕ, ◌≡◌, ◌≤◌, ◌<◌, ◌+◌, List,
 use Rattle.std.specs.List.{All}
 use Rattle.std.proofs.lemmas.List.Elements.{All-weaker, All-more}
 use Rattle.col_value.specs.declared.row.Asked.{Asked}
+use Rattle.catalog_types.specs.declared.catalogue.Container.{Container}
+use Rattle.ros_container.specs.Rows.{AreWithin}
 
 pub lesser_more : (rows : List Asked) (i : ℕ) (x : Asked) (least : ℕ) → i < length rows → x ≡ get_or rows i x
     → All (λ a. least ≤ a.ins) (take i rows) → All (λ a. min least x.ins ≤ a.ins) (take (i + 1) rows)
@@ -17,3 +19,7 @@ greater_more rows i x greatest within is all =
     All-more (λ a. a.ins ≤ max greatest x.ins) rows i x within
     (All-weaker (λ a. a.ins ≤ greatest) (λ a. a.ins ≤ max greatest x.ins) (λ a h. omega (arith, h)) (take i rows) all)
     (subst (λ (y : Asked). y.ins ≤ max greatest x.ins) is (omega arith))
+
+-- epochs from the least to the greatest
+pub all_within : (k : Container) (rows : List Asked) → All (λ a. k.least_epoch ≤ a.ins) rows → All (λ a. a.ins ≤ k.greatest_epoch) rows → AreWithin k rows
+all_within k rows above below i d within = (above i d within, below i d within)

@@ -31,11 +31,11 @@ eqb_is : (a b : ℕ) → (a == b) ≡ true → a ≡ b
 eqb_is a b is = eqb-true a b is
 
 -- both parts of a test hold
-and_left : (a b : Bool) → (a && b) ≡ true → a ≡ true
+pub and_left : (a b : Bool) → (a && b) ≡ true → a ≡ true
 and_left true b e = refl
 and_left false b e = cc
 
-and_right : (a b : Bool) → (a && b) ≡ true → b ≡ true
+pub and_right : (a b : Bool) → (a && b) ≡ true → b ≡ true
 and_right true b e = e
 and_right false b e = cc
 
@@ -83,6 +83,9 @@ served_one last t p one is =
     subst (λ (ps : List Projection). is_served_projections last t.name ps ≡ true) one
     (and_right (is_served_columns t.columns) (is_served_projections last t.name t.projections) is)
 
+pub served_parts : (last : ℕ) (t : kept.Table) (p : Projection) → t.projections ≡ p ∷ [] → is_served_table last t ≡ true → is_served_parts p.columns ≡ true
+served_parts last t p one is = and_left (is_served_parts p.columns) _ (and_right (bytes_eq p.name (super_name t.name)) _ (served_one last t p one is))
+
 pub served_lge : (last : ℕ) (t : kept.Table) (p : Projection) → t.projections ≡ p ∷ [] → is_served_table last t ≡ true → p.lge ≡ last
 served_lge last t p one is =
     let all = served_one last t p one is in
@@ -117,7 +120,7 @@ found_table last t p u holds is one named projection columns born rows m told = 
 }
 
 -- one table more
-zip_push : {A B : Type 0} (R : A → B → Type 0) (xs : List A) (ys : List B) (x : A) (y : B) → AllZip R xs ys → R x y → AllZip R (xs ++ x ∷ []) (ys ++ y ∷ [])
+pub zip_push : {A B : Type 0} (R : A → B → Type 0) (xs : List A) (ys : List B) (x : A) (y : B) → AllZip R xs ys → R x y → AllZip R (xs ++ x ∷ []) (ys ++ y ∷ [])
 zip_push R [] [] x y all one = (one, tt)
 zip_push R [] (b ∷ ys) x y all one = absurd all
 zip_push R (a ∷ xs) [] x y all one = absurd all

@@ -35,7 +35,10 @@ pub fn close_tables<D: Disk>(
     ensures still { IsUnchanged kept.now store → disk.new ≡ disk.old }
     ensures cause { HasCause DiskFault.Failed (D.faults disk.old) (D.faults disk.new) result }
 {
-    if is_unchanged(&store, kept) || kept.next >= SPENT {
+    if is_unchanged(&store, kept) {
+        return Ok(());
+    }
+    if kept.next >= SPENT {
         return Ok(());
     }
     let (tables, last) = store.into_tables();
