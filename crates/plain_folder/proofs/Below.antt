@@ -49,12 +49,13 @@ held_below m n ks rows next after le same held = record {
 }
 
 -- no rows more
-pub nothing_more : (next : ℕ) (ks : List Container) (added : List Asked) (found left : Option Contents) → added ≡ [] → left ≡ found → HoldsMore next next ks ks added found left
-nothing_more next ks added found left none same m rows told held = (
+pub nothing_more : (next : ℕ) (ks : List Container) (added : List Asked) (found left : Option Contents) → length added ≡ 0 → left ≡ found → HoldsMore next next ks ks added found left
+nothing_more next ks (a ∷ more) found left none same m rows told held = absurd (omega (arith, none))
+nothing_more next ks [] found left none same m rows told held = (
   m,
   [],
   same ∙ told,
-  subst (λ (xs : List Asked). SameBag xs []) (sym none) (bag_refl []),
+  bag_refl [],
   record { held = subst (HoldsRows m 1 ks) (sym (append-nil rows)) held.held; below = held.below },
 )
 

@@ -16,7 +16,7 @@ use Rattle.catalog_types.specs.declared.span.Span.{Span}
 use Rattle.catalog_types.specs.declared.catalogue.Column.{Column}
 use Rattle.catalog_types.specs.declared.catalogue.Container.{Container}
 use Rattle.catalog_types.specs.declared.catalogue.Projection.{Projection}
-use Rattle.catalog_types.specs.declared.catalogue.Table as kept
+use Rattle.catalog_types.specs.declared.catalogue.Table.{Table as Kept}
 use Rattle.catalog_types.specs.declared.catalogue.Catalogue.{Catalogue}
 use Rattle.catalog_types.specs.Numbers.{container_spans, projection_spans, table_spans, files}
 use Rattle.catalog_root.specs.Root.{IsRoot, IsOpenGate, body_file, gate_file}
@@ -47,7 +47,7 @@ any_flat {X} P f (y ∷ xs) x (zero, lt, is) any = subst (Any P) (sym (flat_map-
 any_flat P f (y ∷ xs) x (suc k, lt, is) any = subst (Any P) (sym (flat_map-cons f y xs)) (any_right P (f y) (flat_map f xs) (any_flat P f xs x (k, omega (arith, lt), is) any))
 
 -- the numbers of a container of a table's one projection are listed
-listed_number : (c : Catalogue) (t : kept.Table) (name : List ℕ) (last : ℕ) (ks : List Container) (k : Container) (j : ℕ) → Contains c.tables t
+listed_number : (c : Catalogue) (t : Kept) (name : List ℕ) (last : ℕ) (ks : List Container) (k : Container) (j : ℕ) → Contains c.tables t
     → t.projections ≡ whole_projection name last ks ∷ [] → Contains ks k → j < 4 → IsListed c (k.base + j)
 listed_number c t name last ks k j in_catalogue projections in_table small =
     let n = k.base + j in
@@ -87,8 +87,8 @@ columns_back [] = refl
 columns_back (c ∷ cs) = ap (λ (xs : List NewColumn). c ∷ xs) (columns_back cs)
 
 -- tables that are saved and listed are the tables that the folder opens to
-tables_open : (c : Catalogue) (l n : Contents) (version last : ℕ) → ((j : ℕ) → IsListed c j → get n (4 * j) ≡ get l (4 * j)) → (ts : List kept.Table) (us : List Table)
-    → ((t : kept.Table) → Contains ts t → Contains c.tables t) → AllZip (IsSaved l version last) ts us
+tables_open : (c : Catalogue) (l n : Contents) (version last : ℕ) → ((j : ℕ) → IsListed c j → get n (4 * j) ≡ get l (4 * j)) → (ts : List Kept) (us : List Table)
+    → ((t : Kept) → Contains ts t → Contains c.tables t) → AllZip (IsSaved l version last) ts us
     → (es : List Table) × AllZip (IsTableOf n) ts es × AllZip AreAlikeTables es (map (moved_table last) us)
 tables_open c l n version last same [] [] within all = ([], tt, tt)
 tables_open c l n version last same [] (u ∷ us) within all = absurd all
@@ -116,7 +116,7 @@ gates_below m l kept next opens changed w is = by_root opens (gate_before (DataF
     by_root (inr (v, root)) is = let le = root.gate.greatest w is in let lt = root.below in omega (arith, le, lt)
 
 -- the rows are saved, then the catalogue is installed: the folder opens to the tables
-pub leaves_all : {D : Type 0} (disk : Ghosts D) {old mid new : D} (kept c : Catalogue) (last version : ℕ) (ts : List kept.Table) (us : List Table)
+pub leaves_all : {D : Type 0} (disk : Ghosts D) {old mid new : D} (kept c : Catalogue) (last version : ℕ) (ts : List Kept) (us : List Table)
     → kept.next ≤ version → c.last ≡ last → c.ahm ≡ 0 → c.tables ≡ ts
     → Moved disk (DataFrom kept.next) NoName old mid → SavesTables version kept last ts us (disk.holds old) (disk.holds mid)
     → Installs version c (disk.holds mid) (disk.holds new) → LeavesAll kept last us (disk.holds old) (disk.holds new)
@@ -125,14 +125,14 @@ leaves_all disk kept c last version ts us from last_is ahm_is tables_are moved s
     let changed = moved_between disk m l told told_l moved in
     let (n, told_n, root, served, swapped) = installed l told_l (λ w is. let lt = gates_below m l kept kept.next opens changed w is in omega (arith, lt, from)) in
     let (es, tables, alike) = tables_open c l n version last (listed_stays version c l n swapped) ts us
-        (λ t at. subst (λ (xs : List kept.Table). Contains xs t) (sym tables_are) at) zipped in
+        (λ t at. subst (λ (xs : List Kept). Contains xs t) (sym tables_are) at) zipped in
     (n, told_n, record {
       database = record { tables = es; last = last; ahm = 0 };
       reopens = record {
         kept = c;
         opens = inr (version, root);
         served = served;
-        database = record { last = sym last_is; ahm = sym ahm_is; tables = subst (λ (xs : List kept.Table). AllZip (IsTableOf n) xs es) (sym tables_are) tables };
+        database = record { last = sym last_is; ahm = sym ahm_is; tables = subst (λ (xs : List Kept). AllZip (IsTableOf n) xs es) (sym tables_are) tables };
       };
       like = record { last = refl; ahm = refl; tables = alike };
     })

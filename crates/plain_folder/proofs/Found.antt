@@ -1,5 +1,5 @@
 -- Tables that were read, as the tables of a database.
-use Rattle.std.proofs.Common.{ℕ, ◌≡◌, ◌≤◌, ◌<◌, ◌+◌, ◌*◌, ◌^◌, ◌&&◌, ◌==◌, List, [], ◌∷◌, ◌++◌, map, length, take, refl, sym, ◌∙◌, ap, ap₂, subst, true, false, Bool, arith}
+use Rattle.std.proofs.Common.{ℕ, ◌≡◌, ◌≤◌, ◌<◌, ◌+◌, ◌*◌, ◌^◌, ◌&&◌, ◌==◌, List, [], ◌∷◌, ◌++◌, map, length, take, refl, sym, ◌∙◌, ap, ap₂, subst, true, false, Bool, arith, rules}
 use Rattle.std.specs.Prelude.{Option, Some, None, bytes_eq}
 use Rattle.std.proofs.lemmas.List.{map-append}
 use Rattle.std.proofs.lemmas.Bool.{eqb-true}
@@ -47,7 +47,7 @@ plain_is Encoding.BlockDict is = cc
 plain_is Encoding.Plain is = refl
 
 -- the parts of a projection that is served are those of a table of one column
-parts_are : (ps : List ProjColumn) → is_served_parts ps ≡ true → map (λ c. (c.ordinal, c.encoding)) ps ≡ (0, Encoding.Plain) ∷ []
+parts_are : (ps : List ProjColumn) → is_served_parts ps ≡ true → map {B = ℕ × Encoding} (λ c. (c.ordinal, c.encoding)) ps ≡ (0, Encoding.Plain) ∷ []
 parts_are [] is = cc
 parts_are (c ∷ []) is =
     let place : c.ordinal ≡ 0 = search (rules, and_left (c.ordinal == 0) (is_plain c.encoding) is) in
@@ -67,13 +67,13 @@ one_column (c ∷ []) is = (c, refl)
 one_column (c ∷ (d ∷ more)) is = cc
 
 -- a projection that is served is the one that CREATE TABLE makes
-shape_is : (name : List ℕ) (lge : ℕ) (c : NewColumn) (p : Projection) → name ≡ p.name → lge ≡ p.lge → map (λ k. (k.ordinal, k.encoding)) p.columns ≡ (0, Encoding.Plain) ∷ []
+shape_is : (name : List ℕ) (lge : ℕ) (c : NewColumn) (p : Projection) → name ≡ p.name → lge ≡ p.lge → map {B = ℕ × Encoding} (λ k. (k.ordinal, k.encoding)) p.columns ≡ (0, Encoding.Plain) ∷ []
     → p.sort ≡ 0 ∷ [] → p.fresh ≡ true → whole_shape name (c ∷ []) lge ≡ shape_of p
 shape_is name lge c p named reached parts sort fresh =
     let first : shape_with p.name p.lge ((0, Encoding.Plain) ∷ []) (0 ∷ []) true ≡ shape_of p =
     ap (λ (x : List (ℕ × Encoding)). shape_with p.name p.lge x (0 ∷ []) true) (sym parts)
-    ∙ ap (λ (x : List ℕ). shape_with p.name p.lge (map (λ k. (k.ordinal, k.encoding)) p.columns) x true) (sym sort)
-    ∙ ap (λ (x : Bool). shape_with p.name p.lge (map (λ k. (k.ordinal, k.encoding)) p.columns) p.sort x) (sym fresh) in
+    ∙ ap (λ (x : List ℕ). shape_with p.name p.lge (map {B = ℕ × Encoding} (λ k. (k.ordinal, k.encoding)) p.columns) x true) (sym sort)
+    ∙ ap (λ (x : Bool). shape_with p.name p.lge (map {B = ℕ × Encoding} (λ k. (k.ordinal, k.encoding)) p.columns) p.sort x) (sym fresh) in
     ap (λ (x : List ℕ). shape_with x lge ((0, Encoding.Plain) ∷ []) (0 ∷ []) true) named
     ∙ ap (λ (x : ℕ). shape_with p.name x ((0, Encoding.Plain) ∷ []) (0 ∷ []) true) reached ∙ first
 

@@ -11,7 +11,7 @@ use Rattle.col_value.specs.declared.row.Stamped.{Stamped}
 use Rattle.catalog_types.specs.declared.catalogue.Container.{Container}
 use Rattle.catalog_types.specs.declared.catalogue.Projection.{Projection}
 use Rattle.catalog_types.specs.declared.catalogue.ProjColumn.{ProjColumn}
-use Rattle.catalog_types.specs.declared.catalogue.Table as kept
+use Rattle.catalog_types.specs.declared.catalogue.Table.{Table as Kept}
 use Rattle.catalog_types.specs.declared.catalogue.Catalogue.{Catalogue}
 use Rattle.catalog_types.specs.Parts.{IsTable, IsProjection, IsContainer}
 use Rattle.catalog_types.specs.Valid.{IsValid}
@@ -27,7 +27,7 @@ use Rattle.plain_folder.specs.Saving.{containers_of, containers_named, AreBelow,
 use Rattle.plain_folder.proofs.Found.{and_left, and_right, served_lge, served_parts}
 
 -- a table that is served has one projection, of one column
-pub one_projection : (last : ℕ) (t : kept.Table) → is_served_table last t ≡ true → (p : Projection) × (t.projections ≡ p ∷ [])
+pub one_projection : (last : ℕ) (t : Kept) → is_served_table last t ≡ true → (p : Projection) × (t.projections ≡ p ∷ [])
 one_projection last t is = cases t.projections (and_right (is_served_columns t.columns) (is_served_projections last t.name t.projections) is)
   where
     cases : (ps : List Projection) → is_served_projections last t.name ps ≡ true → (p : Projection) × (ps ≡ p ∷ [])
@@ -40,18 +40,18 @@ one_part [] e = cc
 one_part (c ∷ []) e = refl
 one_part (c ∷ (d ∷ more)) e = cc
 
-pub one_wide : (last : ℕ) (t : kept.Table) (p : Projection) → t.projections ≡ p ∷ [] → is_served_table last t ≡ true → length p.columns ≡ 1
+pub one_wide : (last : ℕ) (t : Kept) (p : Projection) → t.projections ≡ p ∷ [] → is_served_table last t ≡ true → length p.columns ≡ 1
 one_wide last t p one is = one_part p.columns (served_parts last t p one is)
 
 -- the rows of the table of a name are those of its containers
-table_rows : (m : Contents) (last : ℕ) (t : kept.Table) (u : Table) → IsTableOf m t u → is_served_table last t ≡ true → HoldsRows m 1 (containers_of t.projections) u.rows
+table_rows : (m : Contents) (last : ℕ) (t : Kept) (u : Table) → IsTableOf m t u → is_served_table last t ≡ true → HoldsRows m 1 (containers_of t.projections) u.rows
 table_rows m last t u table is =
     let (p, one) = one_projection last t is in
     let rows : All (λ x. HoldsRows m (length x.columns) x.containers u.rows) (p ∷ []) = subst (All (λ x. HoldsRows m (length x.columns) x.containers u.rows)) one table.rows in
     subst (λ (ps : List Projection). HoldsRows m 1 (containers_of ps) u.rows) (sym one)
     (subst (λ (n : ℕ). HoldsRows m n p.containers u.rows) (one_wide last t p one is) (All-head (λ x. HoldsRows m (length x.columns) x.containers u.rows) p [] rows))
 
-named_rows : (m : Contents) (last : ℕ) (name : List ℕ) (ts : List kept.Table) (us : List Table) → AllZip (IsTableOf m) ts us → list_all (is_served_table last) ts ≡ true
+named_rows : (m : Contents) (last : ℕ) (name : List ℕ) (ts : List Kept) (us : List Table) → AllZip (IsTableOf m) ts us → list_all (is_served_table last) ts ≡ true
     → HoldsRows m 1 (containers_named name ts) (rows_named name us)
 named_rows m last name [] [] all is = refl
 named_rows m last name [] (u ∷ us) all is = absurd all
@@ -69,7 +69,7 @@ named_rows m last name (t ∷ ts) (u ∷ us) (here, rest) is = by_name (bytes_eq
         rw (e, same) (named_rows m last name ts us rest (and_right (is_served_table last t) (list_all (is_served_table last) ts) is))
 
 -- and their numbers are below the next free one
-table_below : (c : Catalogue) (last : ℕ) (t : kept.Table) → IsTable c t → is_served_table last t ≡ true → AreBelow c.next (containers_of t.projections)
+table_below : (c : Catalogue) (last : ℕ) (t : Kept) → IsTable c t → is_served_table last t ≡ true → AreBelow c.next (containers_of t.projections)
 table_below c last t table is =
     let (p, one) = one_projection last t is in
     subst (λ (ps : List Projection). AreBelow c.next (containers_of ps)) (sym one) (below p one)
@@ -82,7 +82,7 @@ table_below c last t table is =
         let above = files.1 in
         omega (arith, wide, above)
 
-named_below : (c : Catalogue) (last : ℕ) (name : List ℕ) (ts : List kept.Table) → All (IsTable c) ts → list_all (is_served_table last) ts ≡ true → AreBelow c.next (containers_named name ts)
+named_below : (c : Catalogue) (last : ℕ) (name : List ℕ) (ts : List Kept) → All (IsTable c) ts → list_all (is_served_table last) ts ≡ true → AreBelow c.next (containers_named name ts)
 named_below c last name [] all is = All-nil (λ k. k.base + 4 ≤ c.next)
 named_below c last name (t ∷ ts) all is = by_name (bytes_eq t.name name) refl
   where
@@ -113,13 +113,13 @@ moved_same s last is = by_fresh s.fresh refl
     by_fresh true e = rw e (ap (λ (x : ℕ). record { name = s.name; columns = s.columns; sort = s.sort; fresh = s.fresh; lge = x }) (sym is))
     by_fresh false e = rw e refl
 
-told_shapes : (m : Contents) (last : ℕ) (t : kept.Table) (u : Table) → IsTableOf m t u → is_served_table last t ≡ true → u.shapes ≡ map (moved_shape last) u.shapes
+told_shapes : (m : Contents) (last : ℕ) (t : Kept) (u : Table) → IsTableOf m t u → is_served_table last t ≡ true → u.shapes ≡ map (moved_shape last) u.shapes
 told_shapes m last t u table is =
     let (p, one) = one_projection last t is in
     let shapes : u.shapes ≡ shape_of p ∷ [] = table.shapes ∙ ap (λ (ps : List Projection). map shape_of ps) one in
     shapes ∙ ap (λ (s : Shape). s ∷ []) (sym (moved_same (shape_of p) last (served_lge last t p one is))) ∙ sym (ap (λ (ss : List Shape). map (moved_shape last) ss) shapes)
 
-told_tables : (m : Contents) (last : ℕ) (ts : List kept.Table) (us : List Table) → AllZip (IsTableOf m) ts us → list_all (is_served_table last) ts ≡ true
+told_tables : (m : Contents) (last : ℕ) (ts : List Kept) (us : List Table) → AllZip (IsTableOf m) ts us → list_all (is_served_table last) ts ≡ true
     → AllZip AreAlikeTables us (map (moved_table last) us)
 told_tables m last [] [] all is = tt
 told_tables m last [] (u ∷ us) all is = absurd all

@@ -5,3 +5,5 @@ pub mod Found
 pub mod Writable
 pub mod Below
 pub mod Saved
+pub mod Held
+pub mod Closed

@@ -13,7 +13,7 @@ use Rattle.col_value.specs.declared.row.Asked.{Asked}
 use Rattle.col_value.specs.declared.row.Stamped.{Stamped}
 use Rattle.catalog_types.specs.declared.catalogue.Container.{Container}
 use Rattle.catalog_types.specs.declared.catalogue.Projection.{Projection}
-use Rattle.catalog_types.specs.declared.catalogue.Table as kept
+use Rattle.catalog_types.specs.declared.catalogue.Table.{Table as Kept}
 use Rattle.catalog_types.specs.declared.catalogue.Catalogue.{Catalogue}
 use Rattle.sql_tree.specs.declared.statement.NewColumn.{NewColumn}
 use Rattle.db_model.specs.Database as model
@@ -43,7 +43,7 @@ one_shape t (c ∷ []) last ks is one = ap (λ (cs : List NewColumn). moved_shap
 one_shape t (c ∷ (d ∷ more)) last ks is one = absurd (omega (arith, one))
 
 -- a table's early rows, which were held, and its late rows, which are held behind them, are its rows
-pub saved_one : (next after : ℕ) (kept : Catalogue) (last : ℕ) (t : kept.Table) (u : Table) (ks js : List Container) (added : List Asked) (found left : Option Contents)
+pub saved_one : (next after : ℕ) (kept : Catalogue) (last : ℕ) (t : Kept) (u : Table) (ks js : List Container) (added : List Asked) (found left : Option Contents)
     → ks ≡ containers_named u.name kept.tables → HoldsMore next after ks js added found left → map undeleted added ≡ late kept.last u.rows.items → length u.columns ≡ 1
     → t.name ≡ u.name → t.columns ≡ map kept_column u.columns → t.projections ≡ whole_projection u.projection last js ∷ []
     → SavesTable next after kept last t (table_of u) found left
@@ -68,7 +68,7 @@ saved_one next after kept last t u ks js added found left ks_are more late_are o
     })
 
 -- tables that are saved stay so while later data files are written
-still_saved : (m n : Contents) (next after last : ℕ) → next ≤ after → Changed (DataFrom next) NoName m n → (ts : List kept.Table) (us : List model.Table)
+still_saved : (m n : Contents) (next after last : ℕ) → next ≤ after → Changed (DataFrom next) NoName m n → (ts : List Kept) (us : List model.Table)
     → AllZip (IsSaved m next last) ts us → AllZip (IsSaved n after last) ts us
 still_saved m n next after last le changed [] [] all = tt
 still_saved m n next after last le changed [] (u ∷ us) all = absurd all
@@ -93,7 +93,7 @@ pub saved_none : (kept : Catalogue) (last : ℕ) (found left : Option Contents) 
 saved_none kept last found left same m told was = (m, same ∙ told, tt)
 
 -- one table more
-pub saved_more : {D : Type 0} (disk : Ghosts D) {old mid new : D} (kept : Catalogue) (last next after : ℕ) (ts : List kept.Table) (us : List Table) (t : kept.Table) (u : Table)
+pub saved_more : {D : Type 0} (disk : Ghosts D) {old mid new : D} (kept : Catalogue) (last next after : ℕ) (ts : List Kept) (us : List Table) (t : Kept) (u : Table)
     → kept.next ≤ next → next ≤ after → Moved disk (DataFrom kept.next) NoName old mid → Moved disk (DataFrom next) NoName mid new
     → SavesTables next kept last ts (map table_of us) (disk.holds old) (disk.holds mid) → SavesTable next after kept last t (table_of u) (disk.holds mid) (disk.holds new)
     → SavesTables after kept last (ts ++ t ∷ []) (map table_of (us ++ u ∷ [])) (disk.holds old) (disk.holds new)

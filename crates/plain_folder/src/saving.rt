@@ -26,12 +26,18 @@ const NUMBERS: u64 = 4;
 // Numbers are drawn below this one.
 const MOST_NUMBERS: u64 = 1 << 61;
 
+fn same(a: &[u8], b: &[u8]) -> bool
+    ensures { result ≡ bytes_eq a.now b.now }
+{
+    a == b
+}
+
 /// The table of a name.
 fn find_kept<'a>(tables: &'a [Kept], name: &Name) -> Option<&'a Kept>
     ensures { option_copied result ≡ find (λ t. bytes_eq t.name name.now) tables.now }
 {
     for table in tables {
-        if table.name.is(name.as_slice()) {
+        if same(table.name.as_slice(), name.as_slice()) {
             return Some(table);
         }
     }

@@ -6,8 +6,8 @@ use Rattle.plain_folder.proofs.saving.save_tables.Goals as goal
 pub loop-table-init : goal.loop-table-init
 loop-table-init g c = record {
   done = [];
-  split = refl;
-  saved = saved_none c.args.kept.now c.args.last _ _ refl;
+  split = search rules;
+  saved = rw (c.new-saved.ensures) (saved_none c.args.kept.now c.args.last _ _ refl);
   next = omega arith;
   moved = moved_none g.D.Disk c.args.disk.now;
 }
