@@ -11,7 +11,7 @@ use Rattle.col_base.proofs.BagLaws.{bag_refl}
 use Rattle.col_disk.specs.Calls.{Stepped}
 use Rattle.col_disk.specs.Moved.{Changed, Moved, NoName}
 use Rattle.col_disk.specs.declared.disk.Disk.{Ghosts}
-use Rattle.col_disk.proofs.Moving.{moved_told, changed_kept}
+use Rattle.col_disk.proofs.Moving.{moved_told, moved_wider, changed_kept}
 use Rattle.col_value.specs.declared.row.Asked.{Asked}
 use Rattle.col_value.specs.declared.row.Stamped.{Stamped}
 use Rattle.catalog_types.specs.declared.catalogue.Container.{Container}
@@ -36,11 +36,14 @@ below_data m n base changed j lt = changed_kept (DataFrom base) NoName m n (4 * 
 pub rows_below : (m n : Contents) (ks : List Container) (rows : List Stamped) (next : ℕ) → AreBelow next ks → SameBelow next m n → HoldsRows m 1 ks rows → HoldsRows n 1 ks rows
 rows_below m n [] rows next below same held = held
 rows_below m n (k ∷ ks) rows next below same (here, more, first, rest, is) =
-    let this : k.base + 4 ≤ next = All-head (λ j. j.base + 4 ≤ next) k ks below in
-    (here, more,
-    rows_kept m n 1 k here
-    (λ q f. let within = f.1 in subst (λ (x : ℕ). get n x ≡ get m x) (sym f.2) (same (k.base + f.0) (omega (arith, this, within)))) first,
-    rows_below m n ks more next (All-tail (λ j. j.base + 4 ≤ next) k ks below) same rest, is)
+    let this : k.base + 4 ≤ next = All-head (λ j. j.base + 4 ≤ next) k ks below in (
+      here,
+      more,
+      rows_kept m n 1 k here
+          (λ q f. let within = f.1 in subst (λ (x : ℕ). get n x ≡ get m x) (sym f.2) (same (k.base + f.0) (omega (arith, this, within)))) first,
+      rows_below m n ks more next (All-tail (λ j. j.base + 4 ≤ next) k ks below) same rest,
+      is,
+    )
 
 pub held_below : (m n : Contents) (ks : List Container) (rows : List Stamped) (next after : ℕ) → next ≤ after → SameBelow next m n → AreHeld m next ks rows → AreHeld n after ks rows
 held_below m n ks rows next after le same held = record {
@@ -70,14 +73,23 @@ pub one_more : {D : Type 0} (disk : Ghosts D) {old new : D} (next : ℕ) (ks js 
 one_more disk next ks js k added is base (sorted, same, holds) moved m rows told held =
     let after = moved_told disk m told moved in
     let now = after.0 in
-    let kept = rows_below m now ks rows next held.below (below_new m now next after.2) held.held in
-    (now, sorted, after.1, same, subst (λ (xs : List Container). AreHeld now (next + 4) xs (rows ++ map undeleted sorted)) (sym is) (record {
-      held = holds_more now 1 ks rows k sorted kept (holds now after.1);
-      below = All-push (λ j. j.base + 4 ≤ next + 4) ks k (All-weaker (λ j. j.base + 4 ≤ next) (λ j. j.base + 4 ≤ next + 4) (λ j h. omega (arith, h)) ks held.below) (omega (arith, base));
-    }))
+    let kept = rows_below m now ks rows next held.below (below_new m now next after.2) held.held in (
+      now,
+      sorted,
+      after.1,
+      same,
+      subst (λ (xs : List Container). AreHeld now (next + 4) xs (rows ++ map undeleted sorted)) (sym is) (record {
+        held = holds_more now 1 ks rows k sorted kept (holds now after.1);
+        below = All-push (λ j. j.base + 4 ≤ next + 4) ks k (All-weaker (λ j. j.base + 4 ≤ next) (λ j. j.base + 4 ≤ next + 4) (λ j h. omega (arith, h)) ks held.below) (omega (arith, base));
+      }),
+    )
 
 -- what a disk tells before and after
 pub moved_between : {D : Type 0} (disk : Ghosts D) {W R : ℕ → Type 0} {old new : D} (m n : Contents) → disk.holds old ≡ Some m → disk.holds new ≡ Some n → Moved disk W R old new → Changed W R m n
 moved_between disk {W} {R} {old} {new} m n before after moved =
     subst (λ (o : Option Contents). Stepped (Changed W R) (Some m) o) after
     (subst (λ (o : Option Contents). Stepped (Changed W R) o (disk.holds new)) before moved.contents)
+
+-- data files from a number on are among those from an earlier one on
+pub later_data : {D : Type 0} (disk : Ghosts D) {old new : D} (base next : ℕ) → base ≤ next → Moved disk (DataFrom next) NoName old new → Moved disk (DataFrom base) NoName old new
+later_data disk base next le moved = moved_wider disk (λ q f. let from = f.1 in (f.0, omega (arith, le, from), f.2)) (λ q is. is) moved

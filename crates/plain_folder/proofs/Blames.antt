@@ -21,19 +21,19 @@ use Rattle.plain_folder.specs.Loading.{IsBroken, BlamesProjection, BlamesTable, 
 use Rattle.plain_folder.specs.Faults.{BlamesFolder, BlamesRootFolder}
 use Rattle.plain_folder.proofs.Rows.{holds_at}
 
-pub blame_rows : (p : Projection) (i : ℕ) (k : Container) (now old : Option Contents) (fault : StoreFault)
-    → i < length p.containers → get_or p.containers i k ≡ k → now ≡ old
+pub blame_rows : (p : Projection) (ks : List Container) (i : ℕ) (k : Container) (now old : Option Contents) (fault : StoreFault)
+    → ks ≡ p.containers → i < length ks → get_or ks i k ≡ k → now ≡ old
     → BlamesContainer (length p.columns) k now fault → HoldsNoRows (length p.columns) k now fault → BlamesProjection p old fault
-blame_rows p i k now old (StoreFault.Damaged q) within is same blames nothing = record {
+blame_rows p ks i k now old (StoreFault.Damaged q) whole within is same blames nothing = record {
   container = k;
-  listed = (i, within, is);
+  listed = subst (λ (js : List Container). Contains js k) whole (i, within, is);
   broken = subst (λ (holds : Option Contents). BlamesContainer (length p.columns) k holds (StoreFault.Damaged q)) same blames;
   nothing = λ m told rows held.
-    let here = holds_at m (length p.columns) p.containers rows k held (i, within, is) in
-    nothing m (same ∙ told) here.0 here.1;
+      let here = holds_at m (length p.columns) p.containers rows k held (subst (λ (js : List Container). Contains js k) whole (i, within, is)) in
+      nothing m (same ∙ told) here.0 here.1;
 }
-blame_rows p i k now old StoreFault.Disk within is same blames nothing = tt
-blame_rows p i k now old StoreFault.Memory within is same blames nothing = tt
+blame_rows p ks i k now old StoreFault.Disk whole within is same blames nothing = tt
+blame_rows p ks i k now old StoreFault.Memory whole within is same blames nothing = tt
 
 pub blame_table : (t : Table) (p : Projection) (holds : Option Contents) (fault : StoreFault) → t.projections ≡ p ∷ []
     → BlamesProjection p holds fault → BlamesTable t holds fault
@@ -68,29 +68,31 @@ true_or_false e = cc
 -- the tables of the root aren't served
 pub blame_unserved : (v : ℕ) (c : Catalogue) (holds : Option Contents) → is_served c ≡ false → BlamesRootFolder v c holds (StoreFault.Damaged (4 * v + 1))
 blame_unserved v c holds refused roots m told =
-    let root = roots m told in
-    (inr (inl (record { version = v; kept = c; root = root; body = refl; unserved = refused })),
-    λ d reopens. true_or_false (sym reopens.served ∙ ap is_served (only_root m v c reopens.kept root reopens.opens) ∙ refused))
+    let root = roots m told in (
+      inr (inl (record { version = v; kept = c; root = root; body = refl; unserved = refused })),
+      λ d reopens. true_or_false (sym reopens.served ∙ ap is_served (only_root m v c reopens.kept root reopens.opens) ∙ refused),
+    )
 
 -- a listed file of the root is broken
 pub blame_listed : (v : ℕ) (c : Catalogue) (holds : Option Contents) (fault : StoreFault) → BlamesTables c.tables holds fault → BlamesRootFolder v c holds fault
-blame_listed v c holds (StoreFault.Damaged q) (t, listed, p, in_table, broken) roots m told =
-    let root = roots m told in
-    (inr (inr (record {
-      kept = c;
-      opens = inr (v, root);
-      table = t;
-      table_listed = listed;
-      projection = p;
-      projection_listed = in_table;
-      container = broken.container;
-      container_listed = broken.listed;
-      broken = subst (λ (h : Option Contents). BlamesContainer (length p.columns) broken.container h (StoreFault.Damaged q)) told broken.broken;
-    })),
-    λ d reopens. nothing d reopens (only_root m v c reopens.kept root reopens.opens))
+blame_listed v c holds (StoreFault.Damaged q) (t, listed, p, in_table, broken) roots = λ m told.
+    let root = roots m told in (
+      inr (inr (record {
+        kept = c;
+        opens = inr (v, root);
+        table = t;
+        table_listed = listed;
+        projection = p;
+        projection_listed = in_table;
+        container = broken.container;
+        container_listed = broken.listed;
+        broken = subst (λ (h : Option Contents). BlamesContainer (length p.columns) broken.container h (StoreFault.Damaged q)) told broken.broken;
+      })),
+      λ d reopens. nothing m told d reopens (only_root m v c reopens.kept root reopens.opens),
+    )
   where
-    nothing : (d : model.Database) (reopens : Reopens m d) → reopens.kept ≡ c → ⊥
-    nothing d reopens is =
+    nothing : (m : Contents) → holds ≡ Some m → (d : model.Database) (reopens : Reopens m d) → reopens.kept ≡ c → ⊥
+    nothing m told d reopens is =
         let tables : AllZip (IsTableOf m) c.tables d.tables = subst (λ (k : Catalogue). AllZip (IsTableOf m) k.tables d.tables) is reopens.database.tables in
         let found = zip_at (IsTableOf m) c.tables d.tables t tables listed in
         let rows : HoldsRows m (length p.columns) p.containers found.0.rows =
@@ -99,9 +101,12 @@ blame_listed v c holds (StoreFault.Damaged q) (t, listed, p, in_table, broken) r
 blame_listed v c holds StoreFault.Disk blames roots = tt
 blame_listed v c holds StoreFault.Memory blames roots = tt
 
+not_none : IsSome {T = List ℕ} None → ⊥
+not_none there = cc
+
 no_bytes : (x : Option (List ℕ)) → x ≡ None → IsSome x → ⊥
-no_bytes None is some = absurd some
-no_bytes (Some y) is some = cc
+no_bytes None is there = not_none there
+no_bytes (Some y) is there = cc
 
 -- what keeps the root from opening keeps the folder from it
 nothing_opens : (m : Contents) (q : ℕ) (c : Catalogue) → IsDamage m q → OpensTo m c → ⊥
@@ -114,6 +119,6 @@ nothing_opens m q c (inr (n, is, closed, first)) (inr (w, root)) = closed w root
 
 -- the root itself keeps the folder from opening
 pub blame_root : (holds : Option Contents) (fault : StoreFault) → BlamesRoot holds fault → BlamesFolder holds fault
-blame_root holds (StoreFault.Damaged q) blames m told = (inl (blames m told), λ d reopens. nothing_opens m q reopens.kept (blames m told) reopens.opens)
+blame_root holds (StoreFault.Damaged q) blames = λ m told. (inl (blames m told), λ d reopens. nothing_opens m q reopens.kept (blames m told) reopens.opens)
 blame_root holds StoreFault.Disk blames = tt
 blame_root holds StoreFault.Memory blames = tt

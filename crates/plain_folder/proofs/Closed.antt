@@ -1,6 +1,6 @@
 -- A catalogue that was installed over the tables that it lists.
 use Rattle.std.proofs.Common.{ℕ, zero, suc, ◌≡◌, ◌≢◌, ◌≤◌, ◌<◌, ◌+◌, ◌*◌, List, [], ◌∷◌, ◌++◌, map, length, refl, sym, ◌∙◌, ap, subst, arith, inl, inr, true}
-use Rattle.std.specs.Prelude.{◌⊎◌, Option, Some, None, Contains}
+use Rattle.std.specs.Prelude.{◌⊎◌, Option, Some, None, Result, Ok, Err, OnOk, Contains}
 use Rattle.std.specs.FinMap.{get}
 use Rattle.std.specs.List.{All, AllZip, Any, flat_map}
 use Rattle.std.proofs.lemmas.List.Concat.{flat_map-cons}
@@ -34,6 +34,11 @@ use Rattle.plain_folder.specs.Saving.{whole_projection, kept_column, WasHeld, Is
 use Rattle.plain_folder.proofs.Below.{moved_between}
 use Rattle.plain_folder.proofs.Held.{was_held, told_moved, told_long}
 
+-- what holds of any result holds of a good one
+pub on_good : {T E P : Type 0} (r : Result T E) → P → OnOk r P
+on_good (Ok x) p = p
+on_good (Err e) p = tt
+
 any_left : {X : Type 0} (P : X → Type 0) (xs ys : List X) → Any P xs → Any P (xs ++ ys)
 any_left P xs ys (k, x, lt, is, p) = let c = Contains-append_left xs ys x (k, lt, is) in (c.0, x, c.1, c.2, p)
 
@@ -54,7 +59,7 @@ listed_number c t name last ks k j in_catalogue projections in_table small =
     let here : Any (IsIn n) (container_spans 1 k) = (0, files 1 k, omega arith, refl, (omega arith, omega (arith, small))) in
     let in_projection : Any (IsIn n) (projection_spans (whole_projection name last ks)) = any_flat (IsIn n) (container_spans 1) ks k in_table here in
     let in_projections : Any (IsIn n) (flat_map projection_spans (whole_projection name last ks ∷ [])) =
-        any_flat (IsIn n) projection_spans (whole_projection name last ks ∷ []) (whole_projection name last ks) (0, omega arith, refl) in_projection in
+    any_flat (IsIn n) projection_spans (whole_projection name last ks ∷ []) (whole_projection name last ks) (0, omega arith, refl) in_projection in
     any_flat (IsIn n) table_spans c.tables t in_catalogue (subst (λ (ps : List Projection). Any (IsIn n) (flat_map projection_spans ps)) (sym projections) in_projections)
 
 -- a listed data file stays where a version is installed and what it doesn't list is removed
@@ -65,6 +70,7 @@ listed_stays version c l n changed j listed = changed_kept _ _ l n (4 * j) writt
     written : Either (Named (body_file version)) (Named (gate_file version)) (4 * j) → ⊥
     written (inl is) = omega (arith, is)
     written (inr is) = omega (arith, is)
+
     removed : IsUnlisted version c (4 * j) → ⊥
     removed (inl (i, is, stray)) = let same : j ≡ i = omega (arith, is) in stray (subst (IsListed c) same listed)
     removed (inr (v, other, inl is)) = omega (arith, is)
@@ -96,16 +102,22 @@ tables_open c l n version last same (t ∷ ts) [] within all = absurd all
 tables_open c l n version last same (t ∷ ts) (u ∷ us) within (here, rest) =
     let (es, tables, alike) = tables_open c l n version last same ts us (λ x at. within x (suc at.0, omega (arith, at.1), at.2)) rest in
     let rows : HoldsRows n 1 here.containers here.rows =
-        rows_stay l n here.containers here.rows here.held.held
-        (λ k j at small. same (k.base + j) (listed_number c t here.projection last here.containers k j (within t (0, omega arith, refl)) here.projections at small)) in
-    let e : Table = record { name = u.name; columns = u.columns; rows = here.rows; shapes = map (moved_shape last) u.shapes } in
-    (e ∷ es, (record {
-      name = sym here.name;
-      columns = columns_back u.columns ∙ ap (λ (cs : List Column). map column_of cs) (sym here.columns);
-      shapes = sym here.shapes;
-      rows = subst (All (λ p. HoldsRows n (length p.columns) p.containers here.rows)) (sym here.projections)
-          (All-cons (λ p. HoldsRows n (length p.columns) p.containers here.rows) (whole_projection here.projection last here.containers) [] rows (All-nil (λ p. HoldsRows n (length p.columns) p.containers here.rows)));
-    }, tables), (record { name = refl; columns = refl; shapes = refl; rows = here.same }, alike))
+    rows_stay l n here.containers here.rows here.held.held
+    (λ k j at small. same (k.base + j) (listed_number c t here.projection last here.containers k j (within t (0, omega arith, refl)) here.projections at small)) in
+    let e : Table = record { name = u.name; columns = u.columns; rows = here.rows; shapes = map (moved_shape last) u.shapes } in (
+      e ∷ es,
+      (
+        record {
+          name = sym here.name;
+          columns = columns_back u.columns ∙ ap (λ (cs : List Column). map column_of cs) (sym here.columns);
+          shapes = sym here.shapes;
+          rows = subst (All (λ p. HoldsRows n (length p.columns) p.containers here.rows)) (sym here.projections)
+              (All-cons (λ p. HoldsRows n (length p.columns) p.containers here.rows) (whole_projection here.projection last here.containers) [] rows (All-nil (λ p. HoldsRows n (length p.columns) p.containers here.rows)));
+        },
+        tables,
+      ),
+      (record { name = refl; columns = refl; shapes = refl; rows = here.same }, alike),
+    )
 
 -- no gate of a number that is drawn now was open
 gates_below : (m l : Contents) (kept : Catalogue) (next : ℕ) → OpensTo m kept → Changed (DataFrom next) NoName m l → (w : ℕ) → IsOpenGate l w → w < kept.next
@@ -125,17 +137,20 @@ leaves_all disk kept c last version ts us from last_is ahm_is tables_are moved s
     let changed = moved_between disk m l told told_l moved in
     let (n, told_n, root, served, swapped) = installed l told_l (λ w is. let lt = gates_below m l kept kept.next opens changed w is in omega (arith, lt, from)) in
     let (es, tables, alike) = tables_open c l n version last (listed_stays version c l n swapped) ts us
-        (λ t at. subst (λ (xs : List Kept). Contains xs t) (sym tables_are) at) zipped in
-    (n, told_n, record {
-      database = record { tables = es; last = last; ahm = 0 };
-      reopens = record {
-        kept = c;
-        opens = inr (version, root);
-        served = served;
-        database = record { last = sym last_is; ahm = sym ahm_is; tables = subst (λ (xs : List Kept). AllZip (IsTableOf n) xs es) (sym tables_are) tables };
-      };
-      like = record { last = refl; ahm = refl; tables = alike };
-    })
+    (λ t at. subst (λ (xs : List Kept). Contains xs t) (sym tables_are) at) zipped in (
+      n,
+      told_n,
+      record {
+        database = record { tables = es; last = last; ahm = 0 };
+        reopens = record {
+          kept = c;
+          opens = inr (version, root);
+          served = served;
+          database = record { last = sym last_is; ahm = sym ahm_is; tables = subst (λ (xs : List Kept). AllZip (IsTableOf n) xs es) (sym tables_are) tables };
+        };
+        like = record { last = refl; ahm = refl; tables = alike };
+      },
+    )
 
 -- the version is written, and then what it doesn't list is removed
 pub installed : {D : Type 0} (disk : Ghosts D) {old mid new : D} (version : ℕ) (c : Catalogue)
@@ -147,13 +162,14 @@ installed {D} disk {old} {mid} {new} version c done written removed served m tol
     let after = moved_told disk l told_l removed in
     let n = after.0 in
     let whole : Moved disk (Either (Named (body_file version)) (Named (gate_file version))) (IsUnlisted version c) old new =
-        moved_join disk (moved_wider disk (λ q is. is) (λ q is. absurd is) written) (moved_wider disk (λ q is. absurd is) (λ q is. is) removed) in
+    moved_join disk (moved_wider disk (λ q is. is) (λ q is. absurd is) written) (moved_wider disk (λ q is. absurd is) (λ q is. is) removed) in
     (n, after.1, root_kept NoName (IsUnlisted version c) l n version c after.2 (λ w is. is) (λ is. is) gate_stays body_stays root, served, moved_between disk m n told after.1 whole)
   where
     gate_stays : IsUnlisted version c (gate_file version) → ⊥
     gate_stays (inl (i, is, stray)) = omega (arith, is)
     gate_stays (inr (v, other, inl is)) = omega (arith, is)
     gate_stays (inr (v, other, inr is)) = other (omega (arith, is))
+
     body_stays : IsUnlisted version c (body_file version) → ⊥
     body_stays (inl (i, is, stray)) = omega (arith, is)
     body_stays (inr (v, other, inl is)) = other (omega (arith, is))
@@ -162,12 +178,15 @@ installed {D} disk {old} {mid} {new} version c done written removed served m tol
 -- nothing changed
 pub leaves_same : (kept : Catalogue) (state : State) (found left : Option Contents) → left ≡ found → IsUnchanged kept state → LeavesTables kept state found left
 leaves_same kept state found left same unchanged d m told opened is grown =
-    let whole : state.database ≡ d = grown.same (unchanged.last ∙ sym is.database.last) (unchanged.tables ∙ sym (told_long m kept d is)) in
-    (m, same ∙ told, inr (record {
-      database = d;
-      reopens = record { kept = kept; opens = is.opens; served = is.served; database = is.database };
-      like = subst (λ (x : Database). AreAlike d (moved_out x)) (sym whole) (told_moved m kept d is);
-    }))
+    let whole : state.database ≡ d = grown.same (unchanged.last ∙ sym is.database.last) (unchanged.tables ∙ sym (told_long m kept d is)) in (
+      m,
+      same ∙ told,
+      inr (record {
+        database = d;
+        reopens = record { kept = kept; opens = is.opens; served = is.served; database = is.database };
+        like = subst (λ (x : Database). AreAlike d (moved_out x)) (sym whole) (told_moved m kept d is);
+      }),
+    )
 
 -- the numbers are used up
 pub leaves_spent : (kept : Catalogue) (state : State) (found left : Option Contents) → left ≡ found → IsSpent kept → LeavesTables kept state found left

@@ -1,10 +1,10 @@
 -- Tables that were read, as the tables of a database.
-use Rattle.std.proofs.Common.{ℕ, ◌≡◌, ◌≤◌, ◌<◌, ◌+◌, ◌*◌, ◌^◌, ◌&&◌, ◌==◌, List, [], ◌∷◌, ◌++◌, map, length, take, refl, sym, ◌∙◌, ap, ap₂, subst, true, false, Bool, arith, rules}
+use Rattle.std.proofs.Common.{ℕ, ◌≡◌, ◌≤◌, ◌<◌, ◌+◌, ◌*◌, ◌^◌, ◌&&◌, ◌==◌, List, [], ◌∷◌, ◌++◌, map, length, take, get_or, refl, sym, ◌∙◌, ap, ap₂, subst, true, false, Bool, arith, rules}
 use Rattle.std.specs.Prelude.{Option, Some, None, bytes_eq}
-use Rattle.std.proofs.lemmas.List.{map-append}
+use Rattle.std.proofs.lemmas.List.{map-append, take_more}
 use Rattle.std.proofs.lemmas.Bool.{eqb-true}
 use Rattle.std.specs.List.{All, AllZip, enumerate_from}
-use Rattle.std.proofs.lemmas.List.Elements.{All-nil, All-cons}
+use Rattle.std.proofs.lemmas.List.Elements.{All-nil, All-cons, All-push}
 use Rattle.col_base.specs.Maps.{Contents}
 use Rattle.col_value.specs.declared.kinds.Encoding.{Encoding}
 use Rattle.catalog_types.specs.declared.catalogue.Column.{Column}
@@ -131,3 +131,24 @@ pub found_more : (ts : List kept.Table) (us : List Table) (t : kept.Table) (u : 
 found_more ts us t u now old same all one m told =
     subst (λ (xs : List model.Table). AllZip (IsTableOf m) (ts ++ t ∷ []) xs) (sym (map-append table_of us (u ∷ [])))
     (zip_push (IsTableOf m) ts (map table_of us) t (table_of u) (all m told) (one m (same ∙ told)))
+
+-- the same of the tables of a list, in which this one stands next
+pub tables_more : (ts : List kept.Table) (i : ℕ) (t : kept.Table) (old new : List Table) (u : Table) (now found : Option Contents)
+    → i < length ts → t ≡ get_or ts i t → new ≡ old ++ u ∷ [] → now ≡ found
+    → ToldTables (take i ts) found (map table_of old) → ToldTable t now (table_of u) → ToldTables (take (i + 1) ts) found (map table_of new)
+tables_more ts i t old new u now found within is pushed same all one =
+    let next : take (i + 1) ts ≡ take i ts ++ t ∷ [] = take_more ts i t within ∙ ap (λ (x : kept.Table). take i ts ++ x ∷ []) (sym is) in
+    subst (λ (xs : List kept.Table). ToldTables xs found (map table_of new)) (sym next)
+    (subst (λ (xs : List Table). ToldTables (take i ts ++ t ∷ []) found (map table_of xs)) (sym pushed) (found_more (take i ts) old t u now found same all one))
+
+pub names_more : (ts : List kept.Table) (i : ℕ) (t : kept.Table) (old new : List Table) (u : Table)
+    → i < length ts → t ≡ get_or ts i t → new ≡ old ++ u ∷ [] → u.name ≡ t.name
+    → map (λ x. x.name) old ≡ map (λ x. x.name) (take i ts) → map (λ x. x.name) new ≡ map (λ x. x.name) (take (i + 1) ts)
+names_more ts i t old new u within is pushed named all =
+    let next : take (i + 1) ts ≡ take i ts ++ t ∷ [] = take_more ts i t within ∙ ap (λ (x : kept.Table). take i ts ++ x ∷ []) (sym is) in
+    ap (λ (xs : List Table). map (λ x. x.name) xs) pushed ∙ map-append (λ (x : Table). x.name) old (u ∷ [])
+    ∙ ap₂ (λ (xs : List (List ℕ)) (n : List ℕ). xs ++ n ∷ []) all named
+    ∙ sym (map-append (λ (x : kept.Table). x.name) (take i ts) (t ∷ [])) ∙ ap (λ (xs : List kept.Table). map (λ x. x.name) xs) (sym next)
+
+pub all_more : {X : Type 0} (P : X → Type 0) (old new : List X) (x : X) → new ≡ old ++ x ∷ [] → All P old → P x → All P new
+all_more P old new x pushed all one = subst (All P) (sym pushed) (All-push P old x all one)

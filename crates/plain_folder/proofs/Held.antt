@@ -51,22 +51,24 @@ table_rows m last t u table is =
     subst (λ (ps : List Projection). HoldsRows m 1 (containers_of ps) u.rows) (sym one)
     (subst (λ (n : ℕ). HoldsRows m n p.containers u.rows) (one_wide last t p one is) (All-head (λ x. HoldsRows m (length x.columns) x.containers u.rows) p [] rows))
 
+-- one table before the others
+rows_before : (m : Contents) (last : ℕ) (name : List ℕ) (t : Kept) (ts : List Kept) (u : Table) (us : List Table) (b : Bool) → bytes_eq t.name name ≡ b → IsTableOf m t u → is_served_table last t ≡ true
+    → HoldsRows m 1 (containers_named name ts) (rows_named name us) → HoldsRows m 1 (containers_named name (t ∷ ts)) (rows_named name (u ∷ us))
+rows_before m last name t ts u us true e here served rest =
+    let same : bytes_eq u.name name ≡ true = ap (λ (n : List ℕ). bytes_eq n name) here.name ∙ e in
+    rw (e, same) (table_rows m last t u here served)
+rows_before m last name t ts u us false e here served rest =
+    let same : bytes_eq u.name name ≡ false = ap (λ (n : List ℕ). bytes_eq n name) here.name ∙ e in
+    rw (e, same) rest
+
 named_rows : (m : Contents) (last : ℕ) (name : List ℕ) (ts : List Kept) (us : List Table) → AllZip (IsTableOf m) ts us → list_all (is_served_table last) ts ≡ true
     → HoldsRows m 1 (containers_named name ts) (rows_named name us)
 named_rows m last name [] [] all is = refl
 named_rows m last name [] (u ∷ us) all is = absurd all
 named_rows m last name (t ∷ ts) [] all is = absurd all
-named_rows m last name (t ∷ ts) (u ∷ us) (here, rest) is = by_name (bytes_eq t.name name) refl
-  where
-    served : is_served_table last t ≡ true
-    served = and_left (is_served_table last t) (list_all (is_served_table last) ts) is
-    by_name : (b : Bool) → bytes_eq t.name name ≡ b → HoldsRows m 1 (containers_named name (t ∷ ts)) (rows_named name (u ∷ us))
-    by_name true e =
-        let same : bytes_eq u.name name ≡ true = ap (λ (n : List ℕ). bytes_eq n name) here.name ∙ e in
-        rw (e, same) (table_rows m last t u here served)
-    by_name false e =
-        let same : bytes_eq u.name name ≡ false = ap (λ (n : List ℕ). bytes_eq n name) here.name ∙ e in
-        rw (e, same) (named_rows m last name ts us rest (and_right (is_served_table last t) (list_all (is_served_table last) ts) is))
+named_rows m last name (t ∷ ts) (u ∷ us) (here, rest) is =
+    rows_before m last name t ts u us (bytes_eq t.name name) refl here (and_left (is_served_table last t) (list_all (is_served_table last) ts) is)
+    (named_rows m last name ts us rest (and_right (is_served_table last t) (list_all (is_served_table last) ts) is))
 
 -- and their numbers are below the next free one
 table_below : (c : Catalogue) (last : ℕ) (t : Kept) → IsTable c t → is_served_table last t ≡ true → AreBelow c.next (containers_of t.projections)
@@ -76,19 +78,22 @@ table_below c last t table is =
   where
     below : (p : Projection) → t.projections ≡ p ∷ [] → AreBelow c.next p.containers
     below p one i k lt =
-        let projection = All-head _ p [] (subst (All (IsProjection c t)) one table.projections) in
+        let projection : IsProjection c t p = All-head (IsProjection c t) p [] (subst (All (IsProjection c t)) one table.projections) in
         let files = (projection.containers i k lt).files in
         let wide = one_wide last t p one is in
         let above = files.1 in
         omega (arith, wide, above)
 
+below_before : (c : Catalogue) (last : ℕ) (name : List ℕ) (t : Kept) (ts : List Kept) (b : Bool) → bytes_eq t.name name ≡ b → IsTable c t → is_served_table last t ≡ true
+    → AreBelow c.next (containers_named name ts) → AreBelow c.next (containers_named name (t ∷ ts))
+below_before c last name t ts true e table served rest = rw e (table_below c last t table served)
+below_before c last name t ts false e table served rest = rw e rest
+
 named_below : (c : Catalogue) (last : ℕ) (name : List ℕ) (ts : List Kept) → All (IsTable c) ts → list_all (is_served_table last) ts ≡ true → AreBelow c.next (containers_named name ts)
 named_below c last name [] all is = All-nil (λ k. k.base + 4 ≤ c.next)
-named_below c last name (t ∷ ts) all is = by_name (bytes_eq t.name name) refl
-  where
-    by_name : (b : Bool) → bytes_eq t.name name ≡ b → AreBelow c.next (containers_named name (t ∷ ts))
-    by_name true e = rw e (table_below c last t (All-head (IsTable c) t ts all) (and_left (is_served_table last t) (list_all (is_served_table last) ts) is))
-    by_name false e = rw e (named_below c last name ts (All-tail (IsTable c) t ts all) (and_right (is_served_table last t) (list_all (is_served_table last) ts) is))
+named_below c last name (t ∷ ts) all is =
+    below_before c last name t ts (bytes_eq t.name name) refl (All-head (IsTable c) t ts all) (and_left (is_served_table last t) (list_all (is_served_table last) ts) is)
+    (named_below c last name ts (All-tail (IsTable c) t ts all) (and_right (is_served_table last t) (list_all (is_served_table last) ts) is))
 
 kept_below : (m : Contents) (c : Catalogue) (name : List ℕ) → OpensTo m c → is_served c ≡ true → AreBelow c.next (containers_named name c.tables)
 kept_below m c name (inl (fresh, is)) served = subst (λ (x : Catalogue). AreBelow x.next (containers_named name x.tables)) (sym is) (All-nil (λ k. k.base + 4 ≤ 1))
@@ -106,12 +111,15 @@ was_held m kept d state told grown i x lt =
     }
 
 -- a folder that is served has all rows moved out
+lge_same : (s : Shape) (last : ℕ) → s.lge ≡ last → record s { lge = last } ≡ s
+lge_same s last is = ap (λ (x : ℕ). record s { lge = x }) (sym is)
+
+same_either : (b : Bool) (s t : Shape) → t ≡ s → cond b t s ≡ s
+same_either true s t is = is
+same_either false s t is = refl
+
 moved_same : (s : Shape) (last : ℕ) → s.lge ≡ last → moved_shape last s ≡ s
-moved_same s last is = by_fresh s.fresh refl
-  where
-    by_fresh : (b : Bool) → s.fresh ≡ b → moved_shape last s ≡ s
-    by_fresh true e = rw e (ap (λ (x : ℕ). record { name = s.name; columns = s.columns; sort = s.sort; fresh = s.fresh; lge = x }) (sym is))
-    by_fresh false e = rw e refl
+moved_same s last is = same_either s.fresh s (record s { lge = last }) (lge_same s last is)
 
 told_shapes : (m : Contents) (last : ℕ) (t : Kept) (u : Table) → IsTableOf m t u → is_served_table last t ≡ true → u.shapes ≡ map (moved_shape last) u.shapes
 told_shapes m last t u table is =

@@ -1,4 +1,5 @@
 pub mod Rows
+pub mod Read
 pub mod Epochs
 pub mod Blames
 pub mod Found
@@ -7,3 +8,4 @@ pub mod Below
 pub mod Saved
 pub mod Held
 pub mod Closed
+pub mod Rooted

@@ -51,21 +51,24 @@ saved_one next after kept last t u ks js added found left ks_are more late_are o
     let held : AreHeld m next ks (early kept.last u.rows.items) = subst (λ (xs : List Container). AreHeld m next xs (early kept.last u.rows.items)) (sym ks_are) was in
     let (n, sorted, told_now, same, holds) = more m (early kept.last u.rows.items) told held in
     let late_bag : SameBag (map undeleted sorted) (late kept.last u.rows.items) =
-        bag_trans (map undeleted sorted) (map undeleted added) (late kept.last u.rows.items) (bag_sym _ _ (bag_map undeleted added sorted same))
-        (subst (λ (xs : List Stamped). SameBag (map undeleted added) xs) late_are (bag_refl (map undeleted added))) in
-    (n, told_now, record {
-      containers = js;
-      rows = early kept.last u.rows.items ++ map undeleted sorted;
-      projection = u.projection;
-      name = named;
-      columns = columns;
-      projections = projections;
-      shapes = ap (λ (ps : List Projection). map shape_of ps) projections ∙ ap (λ (s : model.Shape). s ∷ []) (one_shape u u.columns last js refl one);
-      held = holds;
-      same = bag_trans _ (early kept.last u.rows.items ++ late kept.last u.rows.items) u.rows.items
-          (bag_append (early kept.last u.rows.items) (map undeleted sorted) (early kept.last u.rows.items) (late kept.last u.rows.items) (bag_refl (early kept.last u.rows.items)) late_bag)
-          (parted kept.last u.rows.items);
-    })
+    bag_trans (map undeleted sorted) (map undeleted added) (late kept.last u.rows.items) (bag_sym _ _ (bag_map undeleted added sorted same))
+    (subst (λ (xs : List Stamped). SameBag (map undeleted added) xs) late_are (bag_refl (map undeleted added))) in (
+      n,
+      told_now,
+      record {
+        containers = js;
+        rows = early kept.last u.rows.items ++ map undeleted sorted;
+        projection = u.projection;
+        name = named;
+        columns = columns;
+        projections = projections;
+        shapes = ap (λ (ps : List Projection). map shape_of ps) projections ∙ ap (λ (s : model.Shape). s ∷ []) (one_shape u u.columns last js refl one);
+        held = holds;
+        same = bag_trans _ (early kept.last u.rows.items ++ late kept.last u.rows.items) u.rows.items
+            (bag_append (early kept.last u.rows.items) (map undeleted sorted) (early kept.last u.rows.items) (late kept.last u.rows.items) (bag_refl (early kept.last u.rows.items)) late_bag)
+            (parted kept.last u.rows.items);
+      },
+    )
 
 -- tables that are saved stay so while later data files are written
 still_saved : (m n : Contents) (next after last : ℕ) → next ≤ after → Changed (DataFrom next) NoName m n → (ts : List Kept) (us : List model.Table)
@@ -102,8 +105,15 @@ saved_more disk kept last next after ts us t u from le first second saved one m 
     let (l, told_l, zipped) = saved m told (all_front (WasHeld m kept kept.next) (map table_of us) (table_of u ∷ []) both) in
     let was_u : WasHeld m kept kept.next (table_of u) = all_last (WasHeld m kept kept.next) (map table_of us) (table_of u) both in
     let held_u : WasHeld l kept next (table_of u) =
-        held_below m l _ _ kept.next next from (below_data m l kept.next (moved_between disk m l told told_l first)) was_u in
+    held_below m l _ _ kept.next next from (below_data m l kept.next (moved_between disk m l told told_l first)) was_u in
     let (n, told_n, saved_u) = one l told_l held_u in
-    let earlier = still_saved l n next after last le (moved_between disk l n told_l told_n second) ts (map table_of us) zipped in
-    (n, told_n, subst (λ (xs : List model.Table). AllZip (IsSaved n after last) (ts ++ t ∷ []) xs) (sym (map-append table_of us (u ∷ [])))
-    (zip_push (IsSaved n after last) ts (map table_of us) t (table_of u) earlier saved_u))
+    let earlier = still_saved l n next after last le (moved_between disk l n told_l told_n second) ts (map table_of us) zipped in (
+      n,
+      told_n,
+      subst (λ (xs : List model.Table). AllZip (IsSaved n after last) (ts ++ t ∷ []) xs) (sym (map-append table_of us (u ∷ [])))
+          (zip_push (IsSaved n after last) ts (map table_of us) t (table_of u) earlier saved_u),
+    )
+
+pub nothing_left : {X : Type 0} (xs : List X) → length xs ≡ 0 → xs ≡ []
+nothing_left [] none = refl
+nothing_left (x ∷ xs) none = absurd (omega (arith, none))

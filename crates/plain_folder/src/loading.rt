@@ -44,8 +44,9 @@ fn load_rows<D: Disk>(
     ensures moved { Moved ⟦<D as Disk>⟧ NoName NoName disk.old disk.new }
     ensures cause { HasCause StoreFault.Disk (D.faults disk.old) (D.faults disk.new) result }
 {
+    let containers = p.containers.as_slice();
     let mut out = Vec::new(alloc);
-    for container in p.containers.as_slice() {
+    for container in containers {
         let found = match ros_container::rows(alloc, disk, container, p) {
             Ok(found) => found,
             Err(fault) => return Err(fault),

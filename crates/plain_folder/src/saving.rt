@@ -214,11 +214,13 @@ fn save_table<D: Disk>(
         Ok(added) => added,
         Err(AllocError) => return Err(DiskFault::Memory),
     };
-    let mut containers =
-        match Vec::from_slice(alloc, kept_containers(kept.tables.as_slice(), &name)) {
-            Ok(containers) => containers,
-            Err(AllocError) => return Err(DiskFault::Memory),
-        };
+    let mut containers = match Vec::from_slice(
+        alloc,
+        kept_containers(kept.tables.as_slice(), &name),
+    ) {
+        Ok(containers) => containers,
+        Err(AllocError) => return Err(DiskFault::Memory),
+    };
     let shape = match bare_projection(alloc, projection, last) {
         Ok(shape) => shape,
         Err(AllocError) => return Err(DiskFault::Memory),

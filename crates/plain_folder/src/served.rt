@@ -55,7 +55,9 @@ fn is_served_container(container: &Container) -> bool
 fn are_served_containers(containers: &[Container]) -> bool
     ensures { result ≡ list_all rule.is_served_container containers.now }
 {
-    containers.iter().all(|container| is_served_container(container))
+    containers
+        .iter()
+        .all(|container| is_served_container(container))
 }
 
 fn is_super_of(alloc: Global, name: &Name, table: &Name) -> Result<bool, AllocError>

@@ -11,9 +11,12 @@ returns-in-Ok-write_rows-clause-held g c =
     let k = c.container_of.result in
     let rows = c.as_slice-2.result.now in
     let first : c.in-Ok.sorted.items ≡ rows = search rules in
-    let again : c.as_slice-in-Ok-write_rows.result.now ≡ rows = search rules in
-    (c.in-Ok.sorted.items, c.in-Ok.ensures.same, λ m told.
-    subst (λ (xs : List Asked). HoldsContainer m 1 k xs) (sym first)
-    (subst (λ n. HoldsContainer m n k rows) c.requires.shape.columns
-    (c.in-Ok-write_rows.ensures.held m told k c.container_of.ensures.base (c.container_of.ensures.rows ∙ ap (λ (xs : List Asked). length xs) again)
-    (subst (λ (xs : List Asked). AreWithin k xs) again (all_within k c.as_slice-in-Ok-write_rows.result.now c.container_of.ensures.least c.container_of.ensures.greatest)))))
+    let again : c.as_slice-in-Ok-write_rows.result.now ≡ rows = search rules in (
+      c.in-Ok.sorted.items,
+      c.in-Ok.ensures.same,
+      λ m told.
+          subst (λ (xs : List Asked). HoldsContainer m 1 k xs) (sym first)
+          (subst (λ n. HoldsContainer m n k rows) c.requires.shape.columns
+          (c.in-Ok-write_rows.ensures.held m told k c.container_of.ensures.base (c.container_of.ensures.rows ∙ ap (λ (xs : List Asked). length xs) again)
+          (subst (λ (xs : List Asked). AreWithin k xs) again (all_within k c.as_slice-in-Ok-write_rows.result.now c.container_of.ensures.least c.container_of.ensures.greatest)))),
+    )

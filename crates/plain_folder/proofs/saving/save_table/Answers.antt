@@ -15,8 +15,8 @@ returns-in-Ok-kept_table-clause-saved g c =
     let columns : t.columns ≡ map kept_column u.columns = search rules in
     let shape : c.in-Ok-bare_projection.shape ≡ whole_projection u.projection c.args.last [] = search rules in
     let filled : c.filled.result ≡ whole_projection u.projection c.args.last js =
-        c.filled.ensures ∙ ap (λ (p : Projection). record p { born = length js; containers = js }) shape in
+    c.filled.ensures ∙ ap (λ (p : Projection). record p { born = length js; containers = js }) shape in
     let projections : t.projections ≡ whole_projection u.projection c.args.last js ∷ [] =
-        c.in-Ok-kept_table.ensures.projections ∙ ap (λ (p : Projection). p ∷ []) filled in
+    c.in-Ok-kept_table.ensures.projections ∙ ap (λ (p : Projection). p ∷ []) filled in
     saved_one c.args.next c.in-Ok-add_container.after c.args.kept.now c.args.last t u c.in-Ok-from_slice.containers.items js c.in-Ok.added.items _ _
     ks_are c.in-Ok-add_container.ensures.held c.in-Ok.ensures.late one named columns projections

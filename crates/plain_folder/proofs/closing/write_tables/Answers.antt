@@ -1,0 +1,12 @@
+use Rattle.std.proofs.Common.{◌≡◌, map, refl, rules}
+use Rattle.std.proofs.lemmas.Result.{on_ok_weaker}
+use Rattle.plain_store.specs.Views.{table_of}
+use Rattle.plain_folder.proofs.Closed.{leaves_all}
+use Rattle.plain_folder.proofs.closing.write_tables.Goals as goal
+
+pub returns-in-Ok-clause-leaves : goal.returns-in-Ok-clause-leaves
+returns-in-Ok-clause-leaves g c =
+    on_ok_weaker c.install.result
+    (leaves_all g.D.Disk c.args.kept.now _ c.args.last c.in-Ok.version c.in-Ok.saved.items (map table_of c.args.tables.items)
+    c.in-Ok.ensures.next refl refl c.new.ensures c.in-Ok.ensures.moved c.in-Ok.ensures.saved)
+    c.install.ensures.installed

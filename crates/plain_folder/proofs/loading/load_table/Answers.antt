@@ -1,0 +1,1 @@
+use Rattle.plain_folder.proofs.loading.load_table.Goals as goal
