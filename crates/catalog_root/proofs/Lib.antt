@@ -1,2 +1,4 @@
 pub mod Roots
 mod Commits
+mod Searches
+mod Bodies

@@ -9,6 +9,7 @@
 mod cleaning;
 mod committing;
 mod found;
+mod gates;
 mod names;
 mod opening;
 
