@@ -2,3 +2,5 @@ pub mod Roots
 mod Commits
 mod Searches
 mod Bodies
+mod Listings
+pub mod Sweeps

@@ -10,6 +10,7 @@ mod cleaning;
 mod committing;
 mod found;
 mod gates;
+mod listing;
 mod names;
 mod opening;
 
@@ -17,3 +18,6 @@ pub use cleaning::clean;
 pub use committing::commit;
 pub use found::Found;
 pub use opening::open;
+
+#[cfg(test)]
+mod tests;
