@@ -22,6 +22,27 @@ fn catalogue(alloc: Global, bytes: &[u8]) -> Result<Catalogue, Fail> {
     }
 }
 
+/// Commits the catalogue of these bytes.
+fn committed(
+    alloc: Global,
+    disk: &mut MemDisk,
+    version: u64,
+    bytes: &[u8],
+) -> Result<(), DiskFault> {
+    match from_bytes(alloc, bytes)? {
+        Some(c) if version < c.next => commit(alloc, disk, version, &c),
+        _ => Err(DiskFault::Memory),
+    }
+}
+
+/// Whether the file holds exactly these bytes.
+fn holds(disk: &MemDisk, name: u64, bytes: &[u8]) -> bool {
+    match disk.bytes(name) {
+        Some(held) => held == bytes,
+        None => false,
+    }
+}
+
 /// Versions 5 and 6 with open gates.
 fn two_versions(alloc: Global) -> Result<MemDisk, Fail> {
     Ok(
@@ -85,19 +106,12 @@ fn a_damaged_body(rt: HostRuntime) -> Result<(), Fail> {
 #[test]
 fn a_commit(rt: HostRuntime) -> Result<(), Fail> {
     let alloc = rt.alloc();
-    let c = catalogue(alloc, &BODY)?;
     let mut disk = MemDisk::new(alloc);
-    assert_eq!(rt; commit(alloc, &mut disk, 0, &c), Ok(()));
-    assert_eq!(rt; disk.bytes(1), Some(BODY.as_slice()));
-    assert_eq!(rt; disk.bytes(2), Some([86].as_slice()));
-    assert_eq!(rt; commit(alloc, &mut disk, 39, &c), Ok(()));
-    assert_eq!(rt;
-        open(alloc, &mut disk),
-        Ok(Found::Root {
-            version: 39,
-            catalogue: c
-        })
-    );
+    assert_eq!(rt; committed(alloc, &mut disk, 0, &BODY), Ok(()));
+    assert!(rt; holds(&disk, 1, &BODY));
+    assert!(rt; holds(&disk, 2, &[86]));
+    assert_eq!(rt; committed(alloc, &mut disk, 39, &BARE), Ok(()));
+    assert_eq!(rt; opened(alloc, &mut disk), Ok(Some((39, 0))));
     Ok(())
 }
 
@@ -114,13 +128,7 @@ fn a_cleaning(rt: HostRuntime) -> Result<(), Fail> {
         disk.names(alloc)?.as_slice(),
         [3, 12, 16, 20, 23, 24, 25, 26, 36].as_slice()
     );
-    assert_eq!(rt;
-        open(alloc, &mut disk),
-        Ok(Found::Root {
-            version: 6,
-            catalogue: c
-        })
-    );
+    assert_eq!(rt; opened(alloc, &mut disk), Ok(Some((6, 1))));
     Ok(())
 }
 
@@ -135,7 +143,7 @@ fn each_call_fails_in_turn(rt: HostRuntime) -> Result<(), Fail> {
     for n in 0..4 {
         let mut disk = two_versions(alloc)?.failing_at(&[n])?;
         assert_eq!(rt;
-            commit(alloc, &mut disk, 7, &c),
+            committed(alloc, &mut disk, 7, &BARE),
             Err(DiskFault::Failed),
             "call {n}"
         );
