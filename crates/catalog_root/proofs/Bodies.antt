@@ -1,6 +1,6 @@
 -- What the bytes of a body spell, and what a disk opens to by them.
-use Rattle.std.proofs.Common.{◌≡◌, ℕ, ◌<◌, ◌≤◌, List, refl, sym, ◌∙◌, subst, inl, inr}
-use Rattle.std.specs.Prelude.{◌⊎◌, Option, Some, None, Result, Ok, Err, IfErr}
+use Rattle.std.proofs.Common.{◌≡◌, ℕ, ◌<◌, List, sym, ◌∙◌, subst, inr}
+use Rattle.std.specs.Prelude.{Option, Some, Result, Ok, Err, IfErr}
 use Rattle.col_base.specs.Maps.{Contents}
 use Rattle.col_disk.specs.Calls.{ListsNames, AnswersNames}
 use Rattle.col_disk.specs.declared.disk.StoreFault.{StoreFault}
@@ -9,7 +9,7 @@ use Rattle.catalog_types.specs.declared.catalogue.Catalogue.{Catalogue}
 use Rattle.catalog_bytes.specs.Spelling.{spelling, Fits}
 use Rattle.catalog_bytes.proofs.Whole.{same}
 use Rattle.catalog_root.specs.declared.found.Found.{Found}
-use Rattle.catalog_root.specs.Root.{IsBody, HasNoBody, AllClosed, data_file, IsLeastData, BlamesRoot}
+use Rattle.catalog_root.specs.Root.{HasNoBody, AllClosed, data_file, IsLeastData, BlamesRoot}
 
 some_same : {X : Type 0} (x y : X) → ◌≡◌ {A = Option X} (Some x) (Some y) → x ≡ y
 some_same x y e = cc

@@ -1,15 +1,14 @@
 -- The laws of which catalogue a disk opens to.
-use Rattle.std.proofs.Common.{◌≡◌, ℕ, ◌+◌, ◌*◌, ◌<◌, ◌≤◌, List, [], ◌∷◌, refl, sym, ◌∙◌, ap, subst, inl, inr, arith}
+use Rattle.std.proofs.Common.{◌≡◌, ℕ, ◌<◌, List, [], ◌∷◌, sym, ◌∙◌, ap, inl, inr, arith}
 use Rattle.std.specs.Prelude.{◌⊎◌, Option, Some, None}
-use Rattle.std.specs.FinMap.{get, insert}
+use Rattle.std.specs.FinMap.{get}
 use Rattle.col_base.specs.Maps.{Contents}
 use Rattle.col_disk.specs.Moved.{Changed}
 use Rattle.col_disk.proofs.Moving.{changed_kept}
 use Rattle.catalog_types.specs.declared.catalogue.Catalogue.{Catalogue}
-use Rattle.catalog_types.specs.Valid.{IsValid}
-use Rattle.catalog_bytes.specs.Spelling.{spelling, Fits}
+use Rattle.catalog_bytes.specs.Spelling.{spelling}
 use Rattle.catalog_bytes.proofs.Whole.{same}
-use Rattle.catalog_root.specs.Root.{data_file, body_file, gate_file, IsOpenGate, AllClosed, IsAbove, IsGreatestGate, IsRoot, IsFresh}
+use Rattle.catalog_root.specs.Root.{data_file, body_file, gate_file, IsOpenGate, IsAbove, IsGreatestGate, IsRoot, IsFresh}
 
 some_same : {X : Type 0} (x y : X) → ◌≡◌ {A = Option X} (Some x) (Some y) → x ≡ y
 some_same x y e = cc

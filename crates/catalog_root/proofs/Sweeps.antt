@@ -1,6 +1,6 @@
 -- What a catalogue has no use for, and what is left when that is gone.
-use Rattle.std.proofs.Common.{◌≡◌, ℕ, ◌+◌, ◌*◌, ◌/◌, ◌%◌, ◌^◌, ◌<◌, ◌≤◌, Bool, true, false, List, length, get_or, refl, sym, ◌∙◌, ap, subst, inl, inr, arith}
-use Rattle.std.specs.Prelude.{◌⊎◌, ◌↔◌, ◌≢◌, Option, Some, None, IsSome, Result, Ok, Err, OnOk, IsTrue, not, Contains}
+use Rattle.std.proofs.Common.{◌≡◌, ℕ, ◌+◌, ◌/◌, ◌%◌, ◌^◌, ◌<◌, ◌≤◌, Bool, true, false, List, length, get_or, refl, sym, ◌∙◌, ap, subst, inl, inr, arith}
+use Rattle.std.specs.Prelude.{◌⊎◌, ◌↔◌, Option, Some, None, IsSome, Result, Ok, Err, OnOk, IsTrue, not, Contains}
 use Rattle.std.specs.Option.{option_map}
 use Rattle.std.specs.FinMap.{get, remove}
 use Rattle.std.specs.List.{All}
@@ -17,7 +17,7 @@ use Rattle.col_disk.specs.Moved.{Changed, NoName}
 use Rattle.col_disk.proofs.Moving.{remove_there}
 use Rattle.catalog_types.specs.declared.catalogue.Catalogue.{Catalogue}
 use Rattle.catalog_root.specs.Root.{data_file, body_file, gate_file, IsRoot}
-use Rattle.catalog_root.specs.Listed.{IsListed, IsStray, IsOfOther, HasNoUse, IsUnlisted, IsSwept, listed_numbers}
+use Rattle.catalog_root.specs.Listed.{IsListed, HasNoUse, IsUnlisted, IsSwept, listed_numbers}
 use Rattle.catalog_root.proofs.Roots.{root_kept}
 use Rattle.catalog_root.proofs.Listings.{listed}
 

@@ -1,8 +1,6 @@
-use Rattle.std.proofs.Common.{◌≡◌, ℕ, List, sym, ◌∙◌, subst, ap, arith}
-use Rattle.std.specs.Prelude.{Option}
+use Rattle.std.proofs.Common.{sym, ◌∙◌, subst}
 use Rattle.std.proofs.lemmas.Result.{on_ok_weaker}
 use Rattle.std.specs.List.Sorted.{IsPermutation}
-use Rattle.col_base.specs.Maps.{Contents}
 use Rattle.col_disk.specs.Calls.{ListsNames}
 use Rattle.col_disk.proofs.Moving.{moved_join, moved_read, moved_wider}
 use Rattle.catalog_root.specs.Listed.{listed_numbers}

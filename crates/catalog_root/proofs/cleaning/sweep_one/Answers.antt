@@ -1,4 +1,3 @@
-use Rattle.std.proofs.Common.{◌<◌, ◌^◌, arith}
 use Rattle.col_disk.proofs.Moving.{moved_remove}
 use Rattle.catalog_root.specs.Listed.{IsSwept}
 use Rattle.catalog_root.proofs.Sweeps.{gone_if_ok}

@@ -1,4 +1,4 @@
-use Rattle.std.proofs.Common.{◌≡◌, ◌+◌, ◌-◌, ◌∙◌, arith, refl}
+use Rattle.std.proofs.Common.{◌-◌, ◌∙◌, arith}
 use Rattle.catalog_root.proofs.Searches.{gate_is_greatest, no_gate_more, no_gate}
 use Rattle.catalog_root.proofs.gates.greatest_gate.Goals as goal
 

@@ -1,5 +1,5 @@
-use Rattle.std.proofs.Common.{◌≡◌, ◌++◌, ◌-◌, take, length}
-use Rattle.std.specs.List.{flat_map, range_with_len}
+use Rattle.std.proofs.Common.{◌≡◌, ◌++◌, take, length}
+use Rattle.std.specs.List.{flat_map}
 use Rattle.catalog_root.specs.Listed.{container_numbers}
 use Rattle.catalog_root.proofs.listing.put_projection.Given as goal
 

@@ -1,5 +1,5 @@
-use Rattle.std.proofs.Common.{◌≡◌, ◌++◌, ◌-◌, take, length}
-use Rattle.std.specs.List.{flat_map, range_with_len}
+use Rattle.std.proofs.Common.{◌≡◌, ◌++◌, ◌-◌}
+use Rattle.std.specs.List.{range_with_len}
 use Rattle.catalog_root.proofs.listing.put_span.Given as goal
 
 abbrev pub invariant-loop-n : goal.invariant-loop-n

@@ -1,5 +1,5 @@
-use Rattle.std.proofs.Common.{◌≡◌, ◌++◌, ◌-◌, take, length}
-use Rattle.std.specs.List.{flat_map, range_with_len}
+use Rattle.std.proofs.Common.{◌≡◌, ◌++◌, take}
+use Rattle.std.specs.List.{flat_map}
 use Rattle.catalog_root.specs.Listed.{projection_numbers}
 use Rattle.catalog_root.proofs.listing.put_table.Given as goal
 

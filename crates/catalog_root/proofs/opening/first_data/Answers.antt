@@ -1,4 +1,3 @@
-use Rattle.std.proofs.Common.{rules}
 use Rattle.catalog_root.proofs.Searches.{first_is_least}
 use Rattle.catalog_root.proofs.opening.first_data.Goals as goal
 

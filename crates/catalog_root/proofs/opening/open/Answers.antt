@@ -1,8 +1,5 @@
-use Rattle.std.proofs.Common.{◌≡◌, List, ℕ, ◌∙◌, sym, subst}
-use Rattle.std.specs.Prelude.{Some}
-use Rattle.col_base.specs.Maps.{Contents}
+use Rattle.std.proofs.Common.{◌∙◌, sym, subst}
 use Rattle.col_disk.specs.Calls.{ListsNames}
-use Rattle.catalog_root.specs.Root.{IsGreatestOf}
 use Rattle.catalog_root.proofs.Bodies.{no_gate_blamed}
 use Rattle.catalog_root.proofs.opening.open.Goals as goal
 
