@@ -7,7 +7,6 @@ use Rattle.catalog_types.proofs.Pairs.{all_cons}
 use Rattle.catalog_types.specs.declared.catalogue.Projection.{Projection}
 use Rattle.catalog_types.specs.declared.catalogue.Table.{Table}
 use Rattle.catalog_types.specs.declared.catalogue.Catalogue.{Catalogue}
-use Rattle.catalog_types.specs.Parts.{IsContainer, IsProjection, IsTable}
 use Rattle.catalog_types.specs.Valid.{IsValid}
 use Rattle.col_bytes.specs.Spellings.{FitsList}
 use Rattle.catalog_bytes.specs.Spelling.{FitsProjColumn, FitsColumn, FitsContainer, FitsProjection, FitsTable, Fits}

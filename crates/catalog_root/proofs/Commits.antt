@@ -1,6 +1,6 @@
 -- What a disk opens to after a commit, and after a part of one.
-use Rattle.std.proofs.Common.{◌≡◌, ℕ, zero, suc, ◌+◌, ◌*◌, ◌<◌, ◌≤◌, List, [], ◌∷◌, refl, sym, ◌∙◌, ap, ap₂, subst, inl, inr, arith}
-use Rattle.std.specs.Prelude.{◌⊎◌, Bool, true, false, Option, Some, None}
+use Rattle.std.proofs.Common.{◌≡◌, ℕ, ◌<◌, ◌≤◌, List, [], ◌∷◌, refl, sym, ◌∙◌, ap, ap₂, subst, inl, inr, arith}
+use Rattle.std.specs.Prelude.{◌⊎◌, true, false, Option, Some, None}
 use Rattle.std.specs.Option.{option_map}
 use Rattle.std.specs.FinMap.{get, insert}
 use Rattle.std.proofs.Math.Dec.{eqb}
@@ -11,7 +11,7 @@ use Rattle.col_disk.proofs.Moving.{changed_kept, changed_elsewhere, insert_there
 use Rattle.catalog_types.specs.declared.catalogue.Catalogue.{Catalogue}
 use Rattle.catalog_types.specs.Valid.{IsValid}
 use Rattle.catalog_bytes.specs.Spelling.{spelling, Fits}
-use Rattle.catalog_root.specs.Root.{data_file, body_file, gate_file, IsOpenGate, AllClosed, IsAbove, IsGreatestGate, IsRoot, IsFresh, OpensAsBefore, NewOrOld}
+use Rattle.catalog_root.specs.Root.{data_file, body_file, gate_file, IsOpenGate, IsAbove, IsRoot, OpensAsBefore, NewOrOld}
 
 -- two contents with the same gates and the same data files, and the same bodies below a version that is above the open gates
 same_opens : (version : ℕ) (m n : Contents) → IsAbove version m

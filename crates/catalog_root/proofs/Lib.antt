@@ -1,2 +1,6 @@
 pub mod Roots
 mod Commits
+mod Searches
+mod Bodies
+mod Listings
+pub mod Sweeps

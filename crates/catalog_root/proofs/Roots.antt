@@ -1,15 +1,14 @@
 -- The laws of which catalogue a disk opens to.
-use Rattle.std.proofs.Common.{◌≡◌, ℕ, ◌+◌, ◌*◌, ◌<◌, ◌≤◌, List, [], ◌∷◌, refl, sym, ◌∙◌, ap, subst, inl, inr, arith}
+use Rattle.std.proofs.Common.{◌≡◌, ℕ, ◌<◌, List, [], ◌∷◌, sym, ◌∙◌, ap, inl, inr, arith}
 use Rattle.std.specs.Prelude.{◌⊎◌, Option, Some, None}
-use Rattle.std.specs.FinMap.{get, insert}
+use Rattle.std.specs.FinMap.{get}
 use Rattle.col_base.specs.Maps.{Contents}
 use Rattle.col_disk.specs.Moved.{Changed}
 use Rattle.col_disk.proofs.Moving.{changed_kept}
 use Rattle.catalog_types.specs.declared.catalogue.Catalogue.{Catalogue}
-use Rattle.catalog_types.specs.Valid.{IsValid}
-use Rattle.catalog_bytes.specs.Spelling.{spelling, Fits}
+use Rattle.catalog_bytes.specs.Spelling.{spelling}
 use Rattle.catalog_bytes.proofs.Whole.{same}
-use Rattle.catalog_root.specs.Root.{data_file, body_file, gate_file, IsOpenGate, AllClosed, IsGreatestGate, IsRoot, IsFresh}
+use Rattle.catalog_root.specs.Root.{data_file, body_file, gate_file, IsOpenGate, IsAbove, IsGreatestGate, IsRoot, IsFresh}
 
 some_same : {X : Type 0} (x y : X) → ◌≡◌ {A = Option X} (Some x) (Some y) → x ≡ y
 some_same x y e = cc
@@ -36,7 +35,7 @@ gate_before W R m n w apart changed is = was (changed (gate_file w) apart)
     was (inl same) = sym same ∙ is
     was (inr (r, gone)) = let both : ◌≡◌ {A = Option (List ℕ)} None (Some (86 ∷ [])) = sym gone ∙ is in absurd cc
 
--- it opens to the same after a change of other names
+-- a disk opens to the same after a change of other names
 pub root_kept : (W R : ℕ → Type 0) (m n : Contents) (v : ℕ) (c : Catalogue) → Changed W R m n
     → ((w : ℕ) → W (gate_file w) → ⊥) → (W (body_file v) → ⊥) → (R (gate_file v) → ⊥) → (R (body_file v) → ⊥) → IsRoot m v c → IsRoot n v c
 root_kept W R m n v c changed no_gate no_body gate_stays body_stays root = record {
@@ -49,3 +48,22 @@ root_kept W R m n v c changed no_gate no_body gate_stays body_stays root = recor
   fits = root.fits;
   below = root.below;
 }
+
+-- so after a change of data files alone
+pub data_kept : (W R : ℕ → Type 0) (m n : Contents) (v : ℕ) (c : Catalogue) → Changed W R m n
+    → ((q : ℕ) → W q → (k : ℕ) × (q ≡ data_file k)) → ((q : ℕ) → R q → (k : ℕ) × (q ≡ data_file k)) → IsRoot m v c → IsRoot n v c
+data_kept W R m n v c changed written removed root =
+    root_kept W R m n v c changed (λ w is. no_gate w (written (gate_file w) is)) (λ is. no_body v (written (body_file v) is)) (λ is. no_gate v (removed (gate_file v) is)) (λ is. no_body v (removed (body_file v) is)) root
+  where
+    no_gate : (w : ℕ) → (k : ℕ) × (gate_file w ≡ data_file k) → ⊥
+    no_gate w (k, is) = omega (arith, is)
+
+    no_body : (w : ℕ) → (k : ℕ) × (body_file w ≡ data_file k) → ⊥
+    no_body w (k, is) = omega (arith, is)
+
+-- a later version is above every open gate, and every version is where none is open
+pub root_below : (m : Contents) (v version : ℕ) (c : Catalogue) → IsRoot m v c → v < version → IsAbove version m
+root_below m v version c root lt w is = omega (arith, lt, root.gate.greatest w is)
+
+pub fresh_below : (m : Contents) (version : ℕ) → IsFresh m → IsAbove version m
+fresh_below m version fresh w is = absurd (fresh.closed w is)

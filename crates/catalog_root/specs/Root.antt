@@ -1,5 +1,5 @@
 -- Which catalogue a disk opens to.
-use Rattle.std.specs.Prelude.{◌≡◌, ◌⊎◌, ◌<◌, ◌≤◌, ◌+◌, ◌*◌, ℕ, [], ◌∷◌, Option, Some, None, IsSome}
+use Rattle.std.specs.Prelude.{◌≡◌, ◌⊎◌, ◌<◌, ◌≤◌, ◌+◌, ◌*◌, ℕ, List, [], ◌∷◌, Option, Some, None, IsSome}
 use Rattle.std.specs.FinMap.{get}
 use Rattle.col_base.specs.Maps.{Contents}
 use Rattle.col_disk.specs.declared.disk.StoreFault.{StoreFault}
@@ -30,6 +30,15 @@ AllClosed m = (v : ℕ) → IsOpenGate m v → ⊥
 pub record IsGreatestGate (m : Contents) (v : ℕ) : Type 0 where
   pub is_open : IsOpenGate m v
   pub greatest : (w : ℕ) → IsOpenGate m w → w ≤ v
+
+-- the greatest open gate, where one is open
+abbrev pub IsGreatestOf : Contents → Option ℕ → Type 0
+IsGreatestOf m None = AllClosed m
+IsGreatestOf m (Some v) = IsGreatestGate m v
+
+-- the name is that of an open gate
+abbrev pub NamesOpenGate : Contents → ℕ → Type 0
+NamesOpenGate m name = (v : ℕ) × (name ≡ gate_file v) × IsOpenGate m v
 
 -- the disk opens to this version, and its body is this catalogue
 pub record IsRoot (m : Contents) (v : ℕ) (c : Catalogue) : Type 0 where
@@ -62,14 +71,20 @@ abbrev pub Opens : Contents → Found → Type 0
 Opens m Fresh = IsFresh m
 Opens m (Root v c) = IsRoot m v c
 
--- what an opening gives on any disk: a valid catalogue, of which the version is a number that was drawn
+-- a body of a version: a valid catalogue, of which the version is a number that was drawn
+pub record IsBody (v : ℕ) (c : Catalogue) : Type 0 where
+  pub valid : IsValid c
+  pub fits : Fits c
+  pub below : v < c.next
+
+-- the body of a version is absent, or spells none
+abbrev pub HasNoBody : Option (List ℕ) → ℕ → Type 0
+HasNoBody held v = (c : Catalogue) → IsBody v c → held ≡ Some (spelling c) → ⊥
+
+-- what an opening gives on any disk
 abbrev pub IsUsable : Found → Type 0
 IsUsable Fresh = Unit {0}
-IsUsable (Root v c) = IsValid c × (v < c.next)
-
--- the body of a version is absent, or is no valid catalogue above the version
-abbrev pub HasNoBody : Contents → ℕ → Type 0
-HasNoBody m v = (c : Catalogue) → IsValid c → Fits c → v < c.next → get m (body_file v) ≡ Some (spelling c) → ⊥
+IsUsable (Root v c) = IsBody v c
 
 -- the least data file that is there
 pub record IsLeastData (m : Contents) (n : ℕ) : Type 0 where
@@ -79,7 +94,7 @@ pub record IsLeastData (m : Contents) (n : ℕ) : Type 0 where
 -- a file that keeps a disk from opening: the body of the greatest open gate, or a data file where no gate is open
 abbrev pub IsDamage : Contents → ℕ → Type 0
 IsDamage m q =
-    ((v : ℕ) × (q ≡ body_file v) × IsGreatestGate m v × HasNoBody m v)
+    ((v : ℕ) × (q ≡ body_file v) × IsGreatestGate m v × HasNoBody (get m (body_file v)) v)
     ⊎ ((n : ℕ) × (q ≡ data_file n) × AllClosed m × IsLeastData m n)
 
 -- a Damaged names a file that keeps the disk from opening; no other fault says anything
@@ -87,3 +102,14 @@ abbrev pub BlamesRoot : Option Contents → StoreFault → Type 0
 BlamesRoot holds (Damaged q) = (m : Contents) → holds ≡ Some m → IsDamage m q
 BlamesRoot holds Disk = Unit {0}
 BlamesRoot holds Memory = Unit {0}
+
+-- the same of the body alone: a Damaged names it, and it is absent or spells no catalogue
+abbrev pub BlamesHeld : ℕ → Option (List ℕ) → StoreFault → Type 0
+BlamesHeld v held (Damaged q) = (q ≡ body_file v) × HasNoBody held v
+BlamesHeld v held Disk = Unit {0}
+BlamesHeld v held Memory = Unit {0}
+
+abbrev pub BlamesBody : ℕ → Option Contents → StoreFault → Type 0
+BlamesBody v holds (Damaged q) = (m : Contents) → holds ≡ Some m → (q ≡ body_file v) × HasNoBody (get m (body_file v)) v
+BlamesBody v holds Disk = Unit {0}
+BlamesBody v holds Memory = Unit {0}

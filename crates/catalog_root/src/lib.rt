@@ -9,6 +9,8 @@
 mod cleaning;
 mod committing;
 mod found;
+mod gates;
+mod listing;
 mod names;
 mod opening;
 
@@ -16,3 +18,6 @@ pub use cleaning::clean;
 pub use committing::commit;
 pub use found::Found;
 pub use opening::open;
+
+#[cfg(test)]
+mod tests;

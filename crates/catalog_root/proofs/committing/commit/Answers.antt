@@ -1,8 +1,5 @@
-use Rattle.std.proofs.Common.{◌≡◌, ℕ, ◌∷◌, [], refl, ◌∙◌}
-use Rattle.std.specs.Prelude.{Some}
-use Rattle.std.specs.FinMap.{insert}
+use Rattle.std.proofs.Common.{◌∷◌, [], refl, ◌∙◌}
 use Rattle.std.proofs.lemmas.Result.{on_ok_weaker}
-use Rattle.col_base.specs.Maps.{Contents}
 use Rattle.col_disk.proofs.Moving.{moved_told}
 use Rattle.catalog_bytes.specs.Spelling.{spelling}
 use Rattle.catalog_root.specs.Root.{body_file, gate_file}
