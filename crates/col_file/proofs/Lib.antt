@@ -5,3 +5,6 @@ pub mod Found
 pub mod Blocks
 pub mod ByBlocks
 pub mod OneColumn
+pub mod Extremes
+pub mod Laid
+pub mod Readable

@@ -2,7 +2,6 @@
 use Rattle.std.proofs.Common.{◌<◌, get_or, subst, ◌≡◌, ℕ, suc, ◌+◌, ◌≤◌, List, [], ◌∷◌, ◌++◌, length, take, Option, Some, None, sym, ap, ◌∙◌, arith}
 use Rattle.std.specs.List.{All, flat_map}
 use Rattle.std.proofs.lemmas.List.Elements.{All-more}
-use Rattle.col_value.specs.Order.{IsValue}
 use Rattle.std.specs.Prelude.{Result, Ok, Err, OnOk, option_map}
 use Rattle.std.specs.FinMap.{get, insert}
 use Rattle.col_base.specs.Maps.{Contents}
@@ -59,10 +58,10 @@ column_there old mid new body index bb ib vs (Ok done) apart eb ei first second 
   index_file = λ m told. (both_there old mid new body index bb ib apart first second m told).1 ∙ ap (λ (b : List ℕ). Some b) ei;
 }
 
--- ---- values of a table
+-- ---- what each value is
 
-pub values_more : (vs : List Value) (i : ℕ) (v : Value) → i < length vs → v ≡ get_or vs i v → IsValue v → All IsValue (take i vs) → All IsValue (take (i + 1) vs)
-values_more vs i v lt is ok so_far = All-more IsValue vs i v lt so_far (subst IsValue is ok)
+pub each_more : (P : Value → Type 0) (vs : List Value) (i : ℕ) (v : Value) → i < length vs → v ≡ get_or vs i v → P v → All P (take i vs) → All P (take (i + 1) vs)
+each_more P vs i v lt is ok so_far = All-more P vs i v lt so_far (subst P is ok)
 
-pub values_all : (vs : List Value) (i : ℕ) → length vs ≤ i → All IsValue (take i vs) → All IsValue vs
-values_all vs i le so_far = subst (All IsValue) (take_all i vs le) so_far
+pub each_all : (P : Value → Type 0) (vs : List Value) (i : ℕ) → length vs ≤ i → All P (take i vs) → All P vs
+each_all P vs i le so_far = subst (All P) (take_all i vs le) so_far

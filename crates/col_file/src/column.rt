@@ -1,13 +1,16 @@
 //! Writing a column.
 
-ghost use Rattle.std.specs.Prelude.{◌≡◌, ◌≢◌, ◌++◌, ◌*◌, ◌<◌, length, IsTrue, OnOk, IfOk};
+ghost use Rattle.std.specs.Prelude.{◌≡◌, ◌≢◌, ◌++◌, ◌*◌, ◌^◌, ◌<◌, length, IsTrue, OnOk, IfOk, Some};
 ghost use Rattle.std.specs.List.{All};
 ghost use Rattle.col_base.specs.Causes.{HasCause};
+ghost use Rattle.col_base.specs.Maps.{Contents};
 ghost use Rattle.col_disk.specs.Moved.{Moved, NoName, Named, Either};
 ghost use Rattle.col_value.specs.Order.{IsValue};
+ghost use Rattle.value_bytes.specs.Spelling.{IsSpelled};
 ghost use Rattle.col_file.specs.Plain.{plain};
 ghost use Rattle.col_file.specs.Index.{entry_spelling, index_spelling};
 ghost use Rattle.col_file.specs.Column.{nth_block, body_spelling, least, greatest, entry_of, column_index, IsColumn};
+ghost use Rattle.col_file.specs.Held.{HoldsColumn};
 
 use crate::bounds::{greatest_of, least_of};
 use crate::index::{blocks_of, put_entry};
@@ -28,6 +31,26 @@ pub fn are_values(values: &[Value]) -> bool
         }
     }
     true
+}
+
+/// A value of a table has a spelling, since a text is UTF-8. It does nothing.
+fn has_spelling(value: &Value)
+    requires { IsValue value.now }
+    ensures { IsSpelled value.now }
+{
+    if let Value::Text(text) = value {
+        let _ = text.as_str().as_bytes();
+    }
+}
+
+fn have_spellings(values: &[Value])
+    requires { All IsValue values.now }
+    ensures spelled { All IsSpelled values.now }
+    ensures few { length values.now < 2 ^ 64 }
+{
+    for value in values {
+        has_spelling(value);
+    }
 }
 
 /// The values of block k.
@@ -81,7 +104,8 @@ fn push_block(
 /// The bytes of the two files of a column.
 fn column_bytes(alloc: Global, values: &[Value]) -> Result<(Vec<u8>, Vec<u8>), AllocError>
     requires { All IsValue values.now }
-    ensures { IfOk result (λ x. (x.0.items ≡ body_spelling values.now) × (x.1.items ≡ index_spelling (column_index values.now))) }
+    ensures bytes { IfOk result (λ x. (x.0.items ≡ body_spelling values.now) × (x.1.items ≡ index_spelling (column_index values.now))) }
+    ensures small { IfOk result (λ x. length x.0.items < 2 ^ 64) }
 {
     let mut body = Vec::new(alloc);
     let mut index = Vec::new(alloc);
@@ -92,7 +116,7 @@ fn column_bytes(alloc: Global, values: &[Value]) -> Result<(Vec<u8>, Vec<u8>), A
     Ok((body, index))
 }
 
-/// Makes the two files of a column: `body` its blocks of 1,024 values one after the other, the last with those
+/// Makes the two files of a column, which then hold these values: `body` its blocks of 1,024 values one after the other, the last with those
 /// that are left, and `index` their index. Whatever the encoding says, the blocks are PLAIN for now. After a fault
 /// each of the two files is as it was, absent, or holds anything, and no other file is touched.
 pub fn write_column<D: Disk>(
@@ -107,9 +131,11 @@ pub fn write_column<D: Disk>(
     requires some { 0 < length values.now }
     requires values { All IsValue values.now }
     ensures written { OnOk result (IsColumn body index values.now (D.holds disk.new)) }
+    ensures held { OnOk result ((m : Contents) → D.holds disk.new ≡ Some m → HoldsColumn body index (length values.now) m values.now) }
     ensures moved { Moved ⟦<D as Disk>⟧ (Either (Named body) (Named index)) NoName disk.old disk.new }
     ensures cause { HasCause DiskFault.Failed (D.faults disk.old) (D.faults disk.new) result }
 {
+    have_spellings(values);
     let (body_bytes, index_bytes) = match column_bytes(alloc, values) {
         Ok(bytes) => bytes,
         Err(AllocError) => return Err(DiskFault::Memory),

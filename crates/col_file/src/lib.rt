@@ -21,7 +21,7 @@ mod whole;
 pub use block::read_block;
 pub use column::{are_values, write_column};
 pub use index::{Entry, PosIndex};
-pub use laws::{one_column, one_spelling};
+pub use laws::{a_written_column_is_held, one_column, one_spelling};
 pub use plain::{put_plain, take_plain};
 pub use read::read_index;
 pub use whole::read_column;
