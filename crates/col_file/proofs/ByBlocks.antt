@@ -1,9 +1,8 @@
 -- Reading the blocks of a column one after the other.
-use Rattle.std.proofs.Common.{◌≡◌, ℕ, zero, suc, ◌+◌, ◌-◌, ◌*◌, ◌<◌, ◌≤◌, Bool, true, false, eqb, ltb, List, [], ◌∷◌, ◌++◌, length, drop, Option, Some, None, refl, sym, ap, subst, ◌∙◌, append_assoc, arith}
+use Rattle.std.proofs.Common.{◌≡◌, ℕ, zero, suc, ◌+◌, ◌*◌, ◌<◌, ◌≤◌, true, eqb, ltb, List, [], ◌∷◌, ◌++◌, length, drop, Option, Some, None, refl, sym, ap, subst, ◌∙◌, append_assoc, arith}
 use Rattle.std.specs.Prelude.{min, ◌&&◌, IfSome, option_map}
 use Rattle.std.specs.List.{slice_get}
 use Rattle.std.specs.FinMap.{get}
-use Rattle.std.proofs.Math.Seq.{drop-nil}
 use Rattle.std.proofs.Math.ListN.{drop_of_length-le}
 use Rattle.std.proofs.lemmas.List.{length-append}
 use Rattle.std.proofs.lemmas.Bool.{eqb-true, ltb-true}
@@ -16,7 +15,7 @@ use Rattle.col_file.specs.declared.index.Entry.{Entry}
 use Rattle.col_file.specs.declared.index.PosIndex.{PosIndex}
 use Rattle.col_file.specs.Plain.{plain}
 use Rattle.col_file.specs.Index.{follows, are_entries, starts_at_zero, blocks, IsIndex}
-use Rattle.col_file.specs.Read.{Blames, IsBlock, IsNoPiece, SpellsBlock, piece, AreValues}
+use Rattle.col_file.specs.Read.{Blames, IsNoPiece, SpellsBlock, piece, AreValues}
 use Rattle.col_file.specs.Held.{first_of, HasBlocks, HoldsBlocks, HoldsNoBlocks, GoesOn}
 use Rattle.col_file.proofs.Blocks.{blames}
 use Rattle.col_file.proofs.Parts.{and_true, index_long}

@@ -1,5 +1,5 @@
 -- A fold of the lesser is the least, and a fold of the greater the greatest.
-use Rattle.std.proofs.Common.{◌≡◌, Bool, true, false, cond, List, [], ◌∷◌, refl, sym, ap, ◌∙◌}
+use Rattle.std.proofs.Common.{◌≡◌, Bool, true, false, cond, List, [], ◌∷◌, refl, ap, ◌∙◌}
 use Rattle.std.specs.Prelude.{◌&&◌}
 use Rattle.std.specs.Cmp.{IsTotalOrder}
 use Rattle.std.specs.List.{fold, list_all, AllByRecursion}
@@ -11,7 +11,6 @@ use Rattle.std.proofs.lemmas.Cmp.{tied_itself, upto}
 use Rattle.col_value.specs.Laws.{value_total}
 use Rattle.col_value.specs.Order.{value_cmp}
 use Rattle.col_value.specs.declared.value.Value.{Value}
-use Rattle.col_value.specs.declared.value.Value.TheVariants as value
 use Rattle.value_bytes.specs.Spelling.{IsSpelled}
 use Rattle.col_file.specs.Column.{lesser, greater, least, greatest}
 use Rattle.col_file.proofs.Parts.{and_true}

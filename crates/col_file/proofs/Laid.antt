@@ -1,21 +1,19 @@
 -- The blocks of written values lie one behind the other, as their index says.
-use Rattle.std.proofs.Common.{◌≡◌, ℕ, zero, suc, ◌+◌, ◌-◌, ◌*◌, ◌^◌, ◌<◌, ◌≤◌, true, false, eqb, ltb, eq-eqb, List, [], ◌∷◌, ◌++◌, length, take, drop, Some, refl, sym, ap, subst, ◌∙◌, append_assoc, arith}
-use Rattle.std.specs.Prelude.{min, ◌&&◌, not}
+use Rattle.std.proofs.Common.{◌≡◌, ℕ, zero, suc, ◌+◌, ◌-◌, ◌*◌, ◌^◌, ◌<◌, ◌≤◌, true, eqb, ltb, eq-eqb, List, [], ◌∷◌, ◌++◌, length, take, drop, refl, sym, ap, subst, ◌∙◌, append_assoc, arith}
+use Rattle.std.specs.Prelude.{min, not}
 use Rattle.std.specs.List.{AllByRecursion, All}
-use Rattle.std.specs.Ordering.{is_le}
 use Rattle.std.proofs.Math.ListN.{drop_of_length-le}
 use Rattle.std.proofs.Math.Seq.{drop-append_seam, take-append_seam}
 use Rattle.std.proofs.lemmas.Bool.{and_from, le-ltb, lt-ltb}
 use Rattle.std.proofs.lemmas.List.{append-nil, length-append, length-take, length-drop, drop-drop, take-append-drop}
 use Rattle.std.proofs.lemmas.List.Elements.{All-take, All-drop, recursion_from_All}
-use Rattle.col_value.specs.Order.{value_cmp}
 use Rattle.col_value.specs.declared.value.Value.{Value}
 use Rattle.value_bytes.specs.Spelling.{IsSpelled}
 use Rattle.col_file.specs.declared.index.Entry.{Entry}
-use Rattle.col_file.specs.Plain.{plain, IsPlain}
-use Rattle.col_file.specs.Index.{blocks, follows, are_entries, starts_at_zero, is_index, IsIndex, FitsEntry, Fits}
-use Rattle.col_file.specs.Column.{nth_block, first_blocks, body_spelling, least, greatest, entry_of, first_entries, column_index}
-use Rattle.col_file.specs.Read.{IsBlock, end_of, piece}
+use Rattle.col_file.specs.Plain.{plain}
+use Rattle.col_file.specs.Index.{blocks, are_entries, starts_at_zero, is_index, IsIndex, FitsEntry, Fits}
+use Rattle.col_file.specs.Column.{nth_block, first_blocks, body_spelling, entry_of, first_entries, column_index}
+use Rattle.col_file.specs.Read.{IsBlock, end_of}
 use Rattle.col_file.specs.Held.{first_of, HasBlocks}
 use Rattle.col_file.proofs.Extremes.{between_all, least_le, least_spelled, greatest_spelled}
 

@@ -44,7 +44,7 @@ pub record HoldsColumn (body index rows : ℕ) (m : Contents) (vs : List Value) 
   pub body_file : get m body ≡ Some bytes
   pub blocks : HasBlocks rows bytes at.entries vs
 
--- a Damaged names one of the two files, and that file is absent or not what it has to be; no other fault says anything
+-- a Damaged names the index where that is none of so many rows, or the body where the two files hold no column; no other fault says anything
 abbrev pub BlamesColumn : ℕ → ℕ → ℕ → Option Contents → StoreFault → Type 0
 BlamesColumn body index rows holds (Damaged n) = ((n ≡ index) × IsNoFile index (SpellsIndex rows) holds) ⊎ ((n ≡ body) × ((m : Contents) → holds ≡ Some m → (vs : List Value) → HoldsColumn body index rows m vs → ⊥))
 BlamesColumn body index rows holds Disk = Unit {0}

@@ -1,9 +1,14 @@
 // What no clause says: the worked bytes, what malformed files give, and that a call succeeds.
+ghost use Rattle.std.specs.Prelude.{◌≡◌, ◌<◌};
+
 use crate::block::block_runs;
-use crate::{Entry, PosIndex, are_values, read_index, write_column};
+use crate::{Entry, PosIndex, are_values, read_block, read_column, read_index, write_column};
+use col_base::Steps;
 use col_disk::{DiskFault, MemDisk, StoreFault};
 use col_value::{Encoding, Run, Value};
-use std::alloc::Global;
+use std::alloc::{AllocError, Global};
+use std::marker::Brand;
+use std::sync::ledger::{Blank, Ledger};
 use std::test::*;
 
 fn write(alloc: Global, disk: &mut MemDisk, values: &[Value]) -> Result<(), DiskFault> {
@@ -13,17 +18,51 @@ fn write(alloc: Global, disk: &mut MemDisk, values: &[Value]) -> Result<(), Disk
     write_column(alloc, disk, 4, 8, values, Encoding::Plain)
 }
 
+/// The check refuses a call of it after any other number of steps.
+fn one_step<L: Ledger>(_steps: &Steps<L>)
+    requires { _steps.now ≡ 1 }
+{}
+
+fn counted<L: Ledger>(
+    alloc: Global,
+    disk: &mut MemDisk,
+    at: &PosIndex,
+    k: usize,
+    blank: Blank,
+) -> Result<Vec<Run>, StoreFault>
+    requires name { blank.name ≡ L.name }
+    requires parts { blank.parts ≡ L.parts }
+    requires some { 0 < blank.parts }
+{
+    if k >= at.entries.as_slice().len() {
+        return Err(StoreFault::Memory);
+    }
+    let mut steps = Steps::<L>::new(blank);
+    let runs = read_block(alloc, disk, 4, at, Encoding::Plain, k, &mut steps)?;
+    one_step(&steps);
+    Ok(runs)
+}
+
 fn block(
     alloc: Global,
     disk: &mut MemDisk,
     at: &PosIndex,
     k: usize,
 ) -> Result<Vec<Run>, StoreFault> {
-    let entries = at.entries.as_slice();
-    match entries.get(k) {
-        Some(entry) => block_runs(alloc, disk, 4, at.rows, entry, entries.get(k + 1)),
-        None => Err(StoreFault::Memory),
+    counted::<Brand>(alloc, disk, at, k, Blank::new(1))
+}
+
+/// So many values of three kinds.
+fn values_of(alloc: Global, count: i64) -> Result<Vec<Value>, AllocError> {
+    let mut values = Vec::new(alloc);
+    for n in 0..count {
+        values.push(match n % 3 {
+            0 => Value::Int(n),
+            1 => Value::Bool(true),
+            _ => Value::Null,
+        })?;
     }
+    Ok(values)
 }
 
 const BODY: [u8; 20] = [4, 2, 1, 0, 0, 0, 0, 0, 0, 0, 1, 1, 0, 0, 0, 0, 0, 0, 0, 2];
@@ -129,6 +168,40 @@ fn a_fault_in_mid_write(rt: HostRuntime) -> Result<(), Fail> {
     assert!(rt; disk.bytes(4) == Some(BODY.as_slice()));
     assert_eq!(rt;
         read_index(alloc, &mut disk, 8, 2).err(),
+        Some(StoreFault::Damaged(8))
+    );
+    Ok(())
+}
+
+#[test]
+fn whole_columns(rt: HostRuntime) -> Result<(), Fail> {
+    let alloc = rt.alloc();
+    for count in [1i64, 1024, 1025, 2500] {
+        let values = values_of(alloc, count)?;
+        let mut disk = MemDisk::new(alloc);
+        write(alloc, &mut disk, values.as_slice())?;
+        let back = read_column(alloc, &mut disk, 4, 8, count as u64, Encoding::Plain)?;
+        assert!(rt; back == values, "of {count} rows");
+    }
+    Ok(())
+}
+
+#[test]
+fn damaged_columns(rt: HostRuntime) -> Result<(), Fail> {
+    let alloc = rt.alloc();
+    let short = BODY.split_at(19).0;
+    let mut disk = MemDisk::new(alloc).with(4, short)?.with(8, &INDEX)?;
+    assert_eq!(rt;
+        read_column(alloc, &mut disk, 4, 8, 2, Encoding::Plain).err(),
+        Some(StoreFault::Damaged(4))
+    );
+    assert_eq!(rt;
+        read_column(alloc, &mut disk, 5, 8, 2, Encoding::Plain).err(),
+        Some(StoreFault::Damaged(5))
+    );
+    let mut disk = MemDisk::new(alloc).with(4, &BODY)?;
+    assert_eq!(rt;
+        read_column(alloc, &mut disk, 4, 8, 2, Encoding::Plain).err(),
         Some(StoreFault::Damaged(8))
     );
     Ok(())
