@@ -8,11 +8,10 @@ ghost use Rattle.catalog_types.specs.declared.catalogue.Container.{Container as 
 ghost use Rattle.col_disk.specs.Moved.{Moved, NoName, Named, Either};
 ghost use Rattle.col_file.specs.Column.{IsColumn};
 ghost use Rattle.col_file.specs.Held.{HoldsColumn};
-ghost use Rattle.col_value.specs.Order.{IsRow};
 ghost use Rattle.col_value.specs.declared.value.Value.TheVariants.{Null};
 ghost use Rattle.ros_container.specs.Files.{body_of, index_of, IsFileOf};
 ghost use Rattle.ros_container.specs.Held.{HoldsContainer};
-ghost use Rattle.ros_container.specs.Rows.{column_values, epoch_values, stored_values, AreWide, AreWithin};
+ghost use Rattle.ros_container.specs.Rows.{column_values, epoch_values, stored_values, AreRows, AreWide, AreWithin};
 
 use crate::files::{body_of, index_of};
 use catalog_types::Projection;
@@ -91,7 +90,7 @@ pub fn write_one<D: Disk>(
     requires column { column ≤ length shape.now.columns }
     requires some { 0 < length rows.now }
     requires wide { AreWide (length shape.now.columns) rows.now }
-    requires values { All (λ a. IsRow a.row) rows.now }
+    requires values { AreRows rows.now }
     requires epochs { All (λ a. a.ins ≤ 2 ^ 63 - 1) rows.now }
     ensures written { OnOk result (IsColumn (body_of base column) (index_of base column) (stored_values (length shape.now.columns) column rows.now) (D.holds disk.new)) }
     ensures held { OnOk result ((m : Contents) → D.holds disk.new ≡ Some m → HoldsColumn (body_of base column) (index_of base column) (length rows.now) m (stored_values (length shape.now.columns) column rows.now)) }
@@ -120,7 +119,7 @@ pub fn write_rows<D: Disk>(
     requires numbers { base + 2 * length shape.now.columns + 1 < 2 ^ 62 }
     requires some { 0 < length rows.now }
     requires wide { AreWide (length shape.now.columns) rows.now }
-    requires values { All (λ a. IsRow a.row) rows.now }
+    requires values { AreRows rows.now }
     requires epochs { All (λ a. a.ins ≤ 2 ^ 63 - 1) rows.now }
     ensures held { OnOk result ((m : Contents) → D.holds disk.new ≡ Some m → (k : Entry) → k.base ≡ base → k.rows ≡ length rows.now → AreWithin k rows.now → HoldsContainer m (length shape.now.columns) k rows.now) }
     ensures moved { Moved ⟦<D as Disk>⟧ (IsFileOf base (length shape.now.columns)) NoName disk.old disk.new }
