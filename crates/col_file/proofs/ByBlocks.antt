@@ -1,7 +1,8 @@
 -- Reading the blocks of a column one after the other.
 use Rattle.std.proofs.Common.{◌≡◌, ℕ, zero, suc, ◌+◌, ◌*◌, ◌<◌, ◌≤◌, true, eqb, ltb, List, [], ◌∷◌, ◌++◌, length, drop, Option, Some, None, refl, sym, ap, subst, ◌∙◌, append_assoc, arith}
 use Rattle.std.specs.Prelude.{min, ◌&&◌, IfSome, option_map}
-use Rattle.std.specs.List.{slice_get}
+use Rattle.std.specs.List.{All, slice_get}
+use Rattle.std.proofs.lemmas.List.Elements.{All-nil, All-append, All-weaker, All-from_recursion}
 use Rattle.std.specs.FinMap.{get}
 use Rattle.std.proofs.Math.ListN.{drop_of_length-le}
 use Rattle.std.proofs.lemmas.List.{length-append}
@@ -10,7 +11,10 @@ use Rattle.std.proofs.lemmas.List.{append-nil}
 use Rattle.col_base.specs.Maps.{Contents}
 use Rattle.col_bytes.proofs.Codecs.{some_is}
 use Rattle.col_disk.specs.declared.disk.StoreFault.{StoreFault}
+use Rattle.col_value.specs.Order.{IsValue}
 use Rattle.col_value.specs.declared.value.Value.{Value}
+use Rattle.col_value.specs.declared.value.Value.TheVariants as value
+use Rattle.value_bytes.specs.Spelling.{IsSpelled}
 use Rattle.col_file.specs.declared.index.Entry.{Entry}
 use Rattle.col_file.specs.declared.index.PosIndex.{PosIndex}
 use Rattle.col_file.specs.Plain.{plain}
@@ -65,13 +69,21 @@ pub record SoFar (body : ℕ) (at : PosIndex) (k : ℕ) (holds : Option Contents
   pub there : (m : Contents) → holds ≡ Some m → 0 < k → (bytes : List ℕ) × (get m body ≡ Some bytes)
   pub held : (m : Contents) → holds ≡ Some m → (bytes : List ℕ) → get m body ≡ Some bytes → (more : List Value) → HasBlocks at.rows bytes (drop k at.entries) more → HasBlocks at.rows bytes at.entries (vs ++ more)
   pub long : length vs ≡ min (1024 * k) at.rows
+  pub values : All IsValue vs
 
 pub started : (body : ℕ) (at : PosIndex) (holds : Option Contents) → SoFar body at 0 holds []
 started body at holds = record {
   there = λ m told some. absurd (omega (arith, some));
   held = λ m told bytes there more has. has;
   long = omega arith;
+  values = All-nil IsValue;
 }
+
+spelled_is_value : (v : Value) → IsSpelled v → IsValue v
+spelled_is_value value.Null is = tt
+spelled_is_value (value.Bool b) is = tt
+spelled_is_value (value.Int n) is = is
+spelled_is_value (value.Text t) is = is.0
 
 some_file : (f : List ℕ → List ℕ) (o : Option (List ℕ)) (piece : List ℕ) → option_map f o ≡ Some piece → (bytes : List ℕ) × (o ≡ Some bytes)
 some_file f None piece e = absurd cc
@@ -100,6 +112,7 @@ goes_on body at k holds now vs new is lt same so_far given =
           let whole = so_far.held m told bytes there (block ++ more) (subst (λ (es : List Entry). HasBlocks at.rows bytes es (block ++ more)) (sym s.behind) here) in
           subst (HasBlocks at.rows bytes at.entries) (sym (append_assoc vs block more) ∙ ap (λ (us : List Value). us ++ more) (sym one.2)) whole;
       long = omega (arith, size, first, so_far.long, are.values.long);
+      values = subst (All IsValue) (sym one.2) (All-append IsValue vs block so_far.values (All-weaker IsSpelled IsValue spelled_is_value block (All-from_recursion IsSpelled block are.values.values.values)));
     }
 
 pub ended : (body : ℕ) (at : PosIndex) (k : ℕ) (holds : Option Contents) (vs : List Value) → IsIndex at → length at.entries ≤ k → SoFar body at k holds vs → HoldsBlocks body at holds vs

@@ -1,10 +1,11 @@
 //! Reading a whole column.
 
 ghost use Rattle.std.specs.Prelude.{◌≡◌, ◌++◌, ◌+◌, ◌<◌, length, IfOk, IfErr, IfSome, OnOk, Some};
-ghost use Rattle.std.specs.List.{slice_get};
+ghost use Rattle.std.specs.List.{All, slice_get};
 ghost use Rattle.col_base.specs.Causes.{HasCause};
 ghost use Rattle.col_base.specs.Maps.{Contents};
 ghost use Rattle.col_disk.specs.Moved.{Moved, NoName};
+ghost use Rattle.col_value.specs.Order.{IsValue};
 ghost use Rattle.col_file.specs.Index.{IsIndex};
 ghost use Rattle.col_file.specs.Read.{Blames, IsNoPiece};
 ghost use Rattle.col_file.specs.Held.{HoldsColumn, BlamesColumn, HoldsBlocks, HoldsNoBlocks, GoesOn};
@@ -59,6 +60,7 @@ fn read_blocks<D: Disk>(
     requires { IsIndex at.now }
     ensures found { IfOk result (λ v. HoldsBlocks body at.now (D.holds disk.old) v.items) }
     ensures long { IfOk result (λ v. length v.items ≡ at.now.rows) }
+    ensures values { IfOk result (λ v. All IsValue v.items) }
     ensures blamed { IfErr result (Blames body (HoldsNoBlocks body at.now (D.holds disk.old))) }
     ensures kept { D.holds disk.new ≡ D.holds disk.old }
     ensures moved { Moved ⟦<D as Disk>⟧ NoName NoName disk.old disk.new }
@@ -90,6 +92,7 @@ pub fn read_column<D: Disk>(
 ) -> Result<Vec<Value>, StoreFault>
     ensures found { IfOk result (λ v. (m : Contents) → D.holds disk.old ≡ Some m → HoldsColumn body index rows m v.items) }
     ensures long { IfOk result (λ v. length v.items ≡ rows) }
+    ensures values { IfOk result (λ v. All IsValue v.items) }
     ensures blamed { IfErr result (BlamesColumn body index rows (D.holds disk.old)) }
     ensures kept { D.holds disk.new ≡ D.holds disk.old }
     ensures moved { Moved ⟦<D as Disk>⟧ NoName NoName disk.old disk.new }

@@ -2,14 +2,16 @@
 use Rattle.std.proofs.Common.{◌≡◌, ℕ, ◌+◌, ◌<◌, List, [], ◌∷◌, ◌++◌, length, get_or, refl, sym, ap, ap₂, ◌∙◌, arith, length-append}
 use Rattle.std.proofs.Math.ListN.{get_or-append}
 use Rattle.std.proofs.Math.Seq.{get_or-append_seam}
-use Rattle.std.proofs.lemmas.List.Elements.{All-nil, All-cons, All-head, All-tail}
+use Rattle.std.proofs.lemmas.List.Elements.{All-nil, All-cons, All-head, All-tail, All-push}
 use Rattle.std.specs.Prelude.{pos}
+use Rattle.std.specs.List.{All}
+use Rattle.col_value.specs.Order.{IsValue, IsRow}
 use Rattle.catalog_types.specs.declared.catalogue.Container.{Container}
 use Rattle.col_value.specs.declared.row.Asked.{Asked}
 use Rattle.col_value.specs.declared.value.Value.{Value}
 use Rattle.col_value.specs.declared.value.Value.TheVariants as value
 use Rattle.ros_container.specs.Parts.{with_value, with_values}
-use Rattle.ros_container.specs.Rows.{column_values, epoch_values, AreWide, AreWithin, IsWithin}
+use Rattle.ros_container.specs.Rows.{column_values, epoch_values, AreRows, AreWide, AreWithin, IsWithin}
 
 pub with_length : (rows : List Asked) (vs : List Value) → length rows ≡ length vs → length (with_values rows vs) ≡ length rows
 with_length [] [] long = refl
@@ -31,6 +33,15 @@ with_within k (a ∷ rows) [] long all = absurd (cc)
 with_within k (a ∷ rows) (v ∷ vs) long all =
     All-cons (λ (b : Asked). IsWithin k b.ins) (with_value a v) (with_values rows vs) (All-head (λ (b : Asked). IsWithin k b.ins) a rows all)
     (with_within k rows vs (omega arith) (All-tail (λ (b : Asked). IsWithin k b.ins) a rows all))
+
+-- the rows stay rows of values of a table
+pub with_rows : (rows : List Asked) (vs : List Value) → length rows ≡ length vs → AreRows rows → All IsValue vs → AreRows (with_values rows vs)
+with_rows [] [] long all values = All-nil (λ (a : Asked). IsRow a.row)
+with_rows [] (v ∷ vs) long all values = All-nil (λ (a : Asked). IsRow a.row)
+with_rows (a ∷ rows) [] long all values = absurd (cc)
+with_rows (a ∷ rows) (v ∷ vs) long all values =
+    All-cons (λ (b : Asked). IsRow b.row) (with_value a v) (with_values rows vs) (All-push IsValue a.row v (All-head (λ (b : Asked). IsRow b.row) a rows all) (All-head IsValue v vs values))
+    (with_rows rows vs (omega arith) (All-tail (λ (b : Asked). IsRow b.row) a rows all) (All-tail IsValue v vs values))
 
 -- each row is wider by one value
 pub with_wide : (i : ℕ) (rows : List Asked) (vs : List Value) → length rows ≡ length vs → AreWide i rows → AreWide (i + 1) (with_values rows vs)

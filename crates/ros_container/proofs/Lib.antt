@@ -5,3 +5,4 @@ pub mod Columns
 pub mod SameRows
 pub mod Blames
 pub mod Reading
+pub mod Values

@@ -1,7 +1,10 @@
 -- Writing one column after the other.
 use borrow.Author.Count.{below_more}
-use Rattle.std.proofs.Common.{◌≡◌, ℕ, ◌+◌, ◌<◌, Bool, true, false, List, length, refl, ap, ◌∙◌, arith}
-use Rattle.std.specs.Prelude.{◌==◌, Some, if◌then◌else◌}
+use Rattle.std.proofs.Common.{◌≡◌, ℕ, ◌+◌, ◌<◌, Bool, true, false, List, length, get_or, refl, ap, ◌∙◌, arith}
+use Rattle.std.specs.Prelude.{◌==◌, Option, Some, Result, Ok, Err, OnOk, pos, if◌then◌else◌}
+use Rattle.std.proofs.lemmas.List.{length-map}
+use Rattle.col_disk.specs.declared.disk.DiskFault.{DiskFault}
+use Rattle.col_value.specs.declared.value.Value.TheVariants as value
 use Rattle.std.proofs.lemmas.Bool.Decides.{nat_tests}
 use Rattle.catalog_types.specs.declared.catalogue.Container.{Container}
 use Rattle.col_base.specs.Maps.{Contents}
@@ -51,3 +54,17 @@ all_held base columns m rows k held wide same_base same_rows within = record {
   wide = wide;
   within = within;
 }
+
+-- a column of a container holds a value for each row
+pub stored_length : (columns i : ℕ) (rows : List Asked) → length (stored_values columns i rows) ≡ length rows
+stored_length columns i rows = there (i == columns) refl
+  where
+    there : (b : Bool) → (i == columns) ≡ b → length (stored_values columns i rows) ≡ length rows
+    there true is = rw is (length-map rows (λ (a : Asked). value.Int (pos a.ins)))
+    there false is = rw is (length-map rows (λ (a : Asked). get_or a.row i value.Null))
+
+-- the same column, by its own names
+pub held_of : (body index b x count : ℕ) (vs ws : List Value) (holds : Option Contents) (result : Result (Unit {0}) DiskFault) → body ≡ b → index ≡ x → vs ≡ ws → length ws ≡ count
+    → OnOk result ((m : Contents) → holds ≡ Some m → HoldsColumn body index (length vs) m vs) → OnOk result ((m : Contents) → holds ≡ Some m → HoldsColumn b x count m ws)
+held_of body index b x count vs ws holds (Err fault) same_body same_index same long held = tt
+held_of body index b x count vs ws holds (Ok done) same_body same_index same long held = λ m told. rw (← same_body, ← same_index, ← long, ← same) (held m told)

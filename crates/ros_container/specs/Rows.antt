@@ -2,6 +2,7 @@
 use Rattle.std.specs.Prelude.{◌≡◌, ◌≤◌, ℕ, slice_index_or, pos, List, length, map, ◌==◌, if◌then◌else◌}
 use Rattle.std.specs.List.{All}
 use Rattle.catalog_types.specs.declared.catalogue.Container.{Container}
+use Rattle.col_value.specs.Order.{IsRow}
 use Rattle.col_value.specs.declared.row.Asked.{Asked}
 use Rattle.col_value.specs.declared.value.Value.{Value}
 use Rattle.col_value.specs.declared.value.Value.TheVariants as value
@@ -21,6 +22,10 @@ stored_values columns i rows = if i == columns then epoch_values rows else colum
 -- rows of so many values
 abbrev pub AreWide : ℕ → List Asked → Type 0
 AreWide columns rows = All (λ a. length a.row ≡ columns) rows
+
+-- rows of values of a table
+abbrev pub AreRows : List Asked → Type 0
+AreRows rows = All (λ a. IsRow a.row) rows
 
 -- an epoch from the container's least to its greatest
 abbrev pub IsWithin : Container → ℕ → Type 0

@@ -2,19 +2,24 @@
 //!
 //! The files and their names are those of `specs/Files.antt`, and `HoldsContainer` of `specs/Held.antt` says that
 //! they hold some rows. `sort_rows` brings rows into the order that a container has, `write_rows` makes all its files and
-//! `write_one` those of one column, and `rows` reads all rows again; it blames a file only where the container holds
+//! `write_one` those of one column, of rows that `are_rows` takes, and `rows` reads all rows again; it blames a file only where the container holds
 //! no rows at all. A container holds one list of rows (`one_container`), and goes on holding it where other files
 //! change (`container_kept`).
 #![tactic(auto)]
 
 mod files;
+mod fitting;
 mod laws;
 mod order;
 mod read;
 mod transpose;
 mod write;
 
+pub use fitting::are_rows;
 pub use laws::{container_kept, one_container};
 pub use order::sort_rows;
 pub use read::rows;
 pub use write::{write_one, write_rows};
+
+#[cfg(test)]
+mod tests;

@@ -1,13 +1,15 @@
 //! Reading a container.
 
 ghost use Rattle.std.specs.Prelude.{◌≡◌, ◌≤◌, ◌<◌, ◌+◌, ◌*◌, ◌^◌, length, Some, IfOk, IfErr};
+ghost use Rattle.std.specs.List.{All};
 ghost use Rattle.col_base.specs.Causes.{HasCause};
 ghost use Rattle.col_base.specs.Maps.{Contents};
 ghost use Rattle.col_disk.specs.Moved.{Moved, NoName};
 ghost use Rattle.col_file.specs.Held.{HoldsColumn};
+ghost use Rattle.col_value.specs.Order.{IsValue};
 ghost use Rattle.ros_container.specs.Files.{body_of, index_of};
 ghost use Rattle.ros_container.specs.Held.{HoldsContainer, BlamesContainer, HoldsNoRows};
-ghost use Rattle.ros_container.specs.Rows.{epoch_values, AreWide, AreWithin};
+ghost use Rattle.ros_container.specs.Rows.{epoch_values, AreRows, AreWide, AreWithin};
 
 use crate::files::{body_of, index_of};
 use crate::transpose::{blank_rows, with_values};
@@ -30,6 +32,7 @@ fn read_one<D: Disk>(
     requires column { column ≤ columns }
     ensures found { IfOk result (λ v. (m : Contents) → D.holds disk.old ≡ Some m → HoldsColumn (body_of entry.now.base column) (index_of entry.now.base column) entry.now.rows m v.items) }
     ensures long { IfOk result (λ v. length v.items ≡ entry.now.rows) }
+    ensures values { IfOk result (λ v. All IsValue v.items) }
     ensures blamed { IfErr result (BlamesContainer columns entry.now (D.holds disk.old)) }
     ensures kept { D.holds disk.new ≡ D.holds disk.old }
     ensures moved { Moved ⟦<D as Disk>⟧ NoName NoName disk.old disk.new }
@@ -51,6 +54,7 @@ fn rows_of<D: Disk>(
     ensures found { IfOk result (λ v. (m : Contents) → D.holds disk.old ≡ Some m → HoldsColumn (body_of entry.now.base columns) (index_of entry.now.base columns) entry.now.rows m (epoch_values v.items)) }
     ensures long { IfOk result (λ v. length v.items ≡ entry.now.rows) }
     ensures wide { IfOk result (λ v. AreWide 0 v.items) }
+    ensures values { IfOk result (λ v. AreRows v.items) }
     ensures within { IfOk result (λ v. AreWithin entry.now v.items) }
     ensures blamed { IfErr result (BlamesContainer columns entry.now (D.holds disk.old)) }
     ensures kept { D.holds disk.new ≡ D.holds disk.old }
@@ -83,6 +87,7 @@ pub fn rows<D: Disk>(
     ensures found { IfOk result (λ v. (m : Contents) → D.holds disk.old ≡ Some m → HoldsContainer m (length shape.now.columns) entry.now v.items) }
     ensures long { IfOk result (λ v. length v.items ≡ entry.now.rows) }
     ensures wide { IfOk result (λ v. AreWide (length shape.now.columns) v.items) }
+    ensures values { IfOk result (λ v. AreRows v.items) }
     ensures within { IfOk result (λ v. AreWithin entry.now v.items) }
     ensures blamed { IfErr result (BlamesContainer (length shape.now.columns) entry.now (D.holds disk.old)) }
     ensures none { IfErr result (HoldsNoRows (length shape.now.columns) entry.now (D.holds disk.old)) }

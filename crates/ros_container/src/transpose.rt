@@ -5,7 +5,7 @@ ghost use Rattle.std.specs.List.{All};
 ghost use Rattle.std.specs.Prelude.{pos};
 ghost use Rattle.col_value.specs.declared.value.Value.TheVariants.{Int};
 ghost use Rattle.ros_container.specs.Parts.{with_value, with_values};
-ghost use Rattle.ros_container.specs.Rows.{epoch_values, AreWide, AreWithin, IsWithin, IsEpochOf};
+ghost use Rattle.ros_container.specs.Rows.{epoch_values, AreRows, AreWide, AreWithin, IsWithin, IsEpochOf};
 
 use catalog_types::Container;
 use col_value::{Asked, List, Value};
@@ -41,6 +41,7 @@ pub fn blank_rows(
 ) -> Result<Option<Vec<Asked>>, AllocError>
     ensures epochs { IfOk result (λ o. IfSome o (λ v. epoch_values v.items ≡ epochs.now)) }
     ensures wide { IfOk result (λ o. IfSome o (λ v. AreWide 0 v.items)) }
+    ensures values { IfOk result (λ o. IfSome o (λ v. AreRows v.items)) }
     ensures within { IfOk result (λ o. IfSome o (λ v. AreWithin entry.now v.items)) }
     ensures none { IfOk result (λ o. IfNone o (All (IsEpochOf entry.now) epochs.now → ⊥)) }
 {

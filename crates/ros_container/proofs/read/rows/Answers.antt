@@ -1,9 +1,9 @@
 use Rattle.std.proofs.Common.{◌≡◌, length, sym, subst, ap, ◌∙◌, ◌+◌, arith}
 use Rattle.col_disk.proofs.Moving.{moved_join}
 use Rattle.ros_container.specs.Held.{BlamesContainer}
-use Rattle.ros_container.specs.Rows.{AreWide, AreWithin}
+use Rattle.ros_container.specs.Rows.{AreRows, AreWide, AreWithin}
 use Rattle.ros_container.proofs.Blames.{blamed_holds_none}
-use Rattle.ros_container.proofs.Columns.{with_length, with_wide, with_within}
+use Rattle.ros_container.proofs.Columns.{with_length, with_rows, with_wide, with_within}
 use Rattle.ros_container.proofs.Reading.{each_more, epochs_more}
 use Rattle.ros_container.proofs.read.rows.Goals as goal
 
@@ -29,6 +29,7 @@ loop-i-preserved g c =
       epochs = epochs_more c.args.entry.now.base (length c.as_slice-columns.result.now) c.args.entry.now.rows (g.D.Disk.holds c.args.disk.now) c.loop-i.rows.items c.in-Ok-with_values.rows.items c.in-Ok-read_one.values.items is long now.epochs;
       long = ap length is ∙ with_length c.loop-i.rows.items c.in-Ok-read_one.values.items long ∙ now.long;
       wide = subst (AreWide (c.loop-i.i + 1)) (sym is) (with_wide c.loop-i.i c.loop-i.rows.items c.in-Ok-read_one.values.items long now.wide);
+      values = subst AreRows (sym is) (with_rows c.loop-i.rows.items c.in-Ok-read_one.values.items long now.values c.in-Ok-read_one.ensures.values);
       within = subst (AreWithin c.args.entry.now) (sym is) (with_within c.args.entry.now c.loop-i.rows.items c.in-Ok-read_one.values.items long now.within);
       kept = c.read_one.ensures.kept ∙ now.kept;
       moved = moved_join g.D.Disk now.moved c.read_one.ensures.moved;

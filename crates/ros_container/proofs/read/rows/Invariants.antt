@@ -4,7 +4,7 @@ use Rattle.col_base.specs.Maps.{Contents}
 use Rattle.col_disk.specs.Moved.{Moved, NoName}
 use Rattle.col_file.specs.Held.{HoldsColumn}
 use Rattle.ros_container.specs.Files.{body_of, index_of}
-use Rattle.ros_container.specs.Rows.{column_values, epoch_values, AreWide, AreWithin}
+use Rattle.ros_container.specs.Rows.{column_values, epoch_values, AreRows, AreWide, AreWithin}
 use Rattle.ros_container.proofs.read.rows.Given as goal
 
 abbrev pub invariant-loop-i : goal.invariant-loop-i
@@ -13,6 +13,7 @@ invariant-loop-i g l = record {
   epochs : (m : Contents) → g.D.Disk.holds l.fn.disk ≡ Some m → HoldsColumn (body_of l.entry.base (length l.columns)) (index_of l.entry.base (length l.columns)) l.entry.rows m (epoch_values l.rows.items);
   long : length l.rows.items ≡ l.entry.rows;
   wide : AreWide l.i l.rows.items;
+  values : AreRows l.rows.items;
   within : AreWithin l.entry l.rows.items;
   kept : g.D.Disk.holds l.disk ≡ g.D.Disk.holds l.fn.disk;
   moved : Moved g.D.Disk NoName NoName l.fn.disk l.disk;
