@@ -1,7 +1,6 @@
 -- Readings of all of the bytes, and how they are put together.
 use Rattle.std.proofs.Common.{◌≡◌, ℕ, Bool, true, cond, eqb, List, [], ◌∷◌, ◌++◌, length, Option, Some, None, refl, sym, ap, subst, ◌∙◌}
 use Rattle.std.specs.Prelude.{option_and_then, option_map, Result, Ok, Err, IfOk, IfSome, IfNone}
-use Rattle.std.specs.declared.alloc.AllocError.{AllocError}
 use Rattle.std.proofs.lemmas.Bool.{eqb-true, eq-eqb}
 use Rattle.std.proofs.lemmas.List.{append-nil, nil_from_length}
 use Rattle.std.proofs.lemmas.Option.{option_and_then_some, cond_some}
@@ -67,6 +66,13 @@ made_reader {A} {B} to from spell fits suits read reader there back = record {
   again = λ b suit.
       let w = back b suit in
       rw (reader.again (from b) w.0) (ap (λ (c : B). Some c) w.1);
+}
+
+-- the same reading, where another fact says the same of what fits
+pub refit_reader : {A : Type 0} (spell : A → List ℕ) (fits suits : A → Type 0) (read : List ℕ → Option A) → IsReader spell fits read → ((a : A) → fits a → suits a) → ((a : A) → suits a → fits a) → IsReader spell suits read
+refit_reader spell fits suits read reader there back = record {
+  takes = λ bytes x are e. let t = reader.takes bytes x are e in (t.0, there x t.1);
+  again = λ x suit. reader.again x (back x suit);
 }
 
 -- nothing is read only where nothing that fits is spelled
