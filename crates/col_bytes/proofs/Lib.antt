@@ -5,3 +5,4 @@ pub mod Texts
 pub mod Widths
 pub mod Combine
 pub mod ReadOn
+pub mod Whole

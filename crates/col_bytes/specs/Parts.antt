@@ -1,5 +1,7 @@
 -- Reading part after part: how readings of the front are put together, and what a reader owes.
-use Rattle.std.specs.Prelude.{◌≡◌, ℕ, zero, suc, ◌==◌, List, [], ◌∷◌, length, Option, Some, None, Result, Ok, Err, option_map, option_and_then, if◌then◌else◌}
+use Rattle.std.specs.Allocator.{alloc_error}
+use Rattle.std.specs.Prelude.{◌≡◌, ℕ, zero, suc, ◌==◌, Bool, List, [], ◌∷◌, length, Option, Some, None, Result, Ok, Err, option_map, option_and_then, if◌then◌else◌}
+use Rattle.std.specs.declared.alloc.AllocError.{AllocError}
 use Rattle.col_bytes.specs.Fronts.{vint_at}
 use Rattle.col_bytes.specs.declared.stop.Stop.{Stop}
 use Rattle.col_bytes.specs.declared.stop.Stop.TheVariants.{Memory, Malformed}
@@ -33,3 +35,22 @@ counted_at read bytes = option_and_then (λ n. many read n.0 n.1) (vint_at bytes
 -- nothing stands behind it
 abbrev pub ended : {A : Type 0} → A × List ℕ → Option A
 ended x = if length x.1 == 0 then Some x.0 else None
+
+-- the bytes behind this one
+abbrev pub after : ℕ → List ℕ → Option (List ℕ)
+after tag [] = None
+after tag (b ∷ rest) = if b == tag then Some rest else None
+
+-- what all of the bytes are: a tag, and what is read behind it
+abbrev pub whole : {A : Type 0} → ℕ → (List ℕ → Option (A × List ℕ)) → List ℕ → Option A
+whole tag read bytes = option_and_then ended (option_and_then read (after tag bytes))
+
+-- what is read, where it passes a test
+abbrev pub tested : {A : Type 0} → (A → Bool) → Option A → Option A
+tested test read = option_and_then (λ x. if test x then Some x else None) read
+
+-- the answer of a reader: None where nothing is spelled so
+abbrev pub told : {T : Type 0} → Result T Stop → Result (Option T) AllocError
+told (Ok x) = Ok (Some x)
+told (Err Malformed) = Ok None
+told (Err Memory) = Err alloc_error

@@ -70,3 +70,12 @@ fn laws_hold(_rt: HostRuntime) {
     one_form();
     shortest();
 }
+
+#[test]
+fn readers_of_more(rt: HostRuntime) {
+    assert!(rt; read_vint(&[0x80, 1, 9]) == Ok((128, [9u8].as_slice())));
+    assert!(rt; read_vint(&[0x80]) == Err(Stop::Malformed));
+    assert!(rt; read_tag(4, &[4, 9]) == Ok([9u8].as_slice()));
+    assert!(rt; read_tag(4, &[]) == Err(Stop::Malformed));
+    assert!(rt; told::<u8>(Err(Stop::Malformed)) == Ok(None));
+}

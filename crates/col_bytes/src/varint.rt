@@ -3,9 +3,7 @@
 ghost use Rattle.std.specs.Prelude.{◌≡◌, ◌<◌, ◌^◌, ◌++◌, ℕ, List, length, take, OnOk, OnErr, IfSome, IfNone, option_map};
 ghost use Rattle.col_bytes.specs.Spellings.{vint, Begins};
 ghost use Rattle.col_bytes.specs.Fronts.{groups_at, vint_at, Reads};
-ghost use Rattle.col_bytes.specs.Parts.{Gives};
 
-use crate::stop::Stop;
 use std::alloc::AllocError;
 
 /// How many bytes the longest number takes.
@@ -80,15 +78,4 @@ pub fn take_vint(bytes: &[u8]) -> Option<(u64, usize)>
     ensures exact { Reads bytes.now result (vint_at bytes.now) }
 {
     vint_of(bytes)
-}
-
-/// Reads the number at the front, and gives the bytes behind it. `Malformed` comes only where no front of the
-/// bytes spells a number.
-pub fn read_vint(bytes: &[u8]) -> Result<(u64, &[u8]), Stop>
-    ensures { Gives (λ x. (x.0, x.1.now)) result (vint_at bytes.now) }
-{
-    match take_vint(bytes) {
-        Some((n, len)) => Ok((n, bytes.split_at(len).1)),
-        None => Err(Stop::Malformed),
-    }
 }

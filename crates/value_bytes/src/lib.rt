@@ -8,11 +8,13 @@
 #![tactic(auto)]
 
 mod laws;
+mod lists;
 mod put;
 mod take;
 
 pub use laws::{one_form, read_again};
-pub use put::{is_value, put_value};
+pub use lists::{put_values, read_values};
+pub use put::{is_spelled, is_value, put_value};
 pub use take::{read_value, take_value};
 
 #[cfg(test)]

@@ -1,6 +1,6 @@
 ghost use Rattle.std.specs.Prelude.{◌≡◌, ◌↔◌, IsTrue, ◌≤◌, ◌++◌, length, take, OnOk, OnErr};
 ghost use Rattle.col_value.specs.Order.{IsValue};
-ghost use Rattle.value_bytes.specs.Spelling.{spelling, number_spelling, text_spelling};
+ghost use Rattle.value_bytes.specs.Spelling.{spelling, number_spelling, text_spelling, IsSpelled};
 
 use col_bytes::{put_be4, put_be8};
 use col_value::Value;
@@ -15,6 +15,18 @@ pub fn is_value(value: &Value) -> bool
         Value::Bool(_) => true,
         Value::Int(n) => *n > i64::MIN,
         Value::Text(t) => t.as_bytes().len() <= 65_000,
+    }
+}
+
+/// Whether it has a spelling: it is a value of a table.
+pub fn is_spelled(value: &Value) -> bool
+    ensures { IsTrue result ↔ IsSpelled value.now }
+{
+    match value {
+        Value::Null => true,
+        Value::Bool(_) => true,
+        Value::Int(n) => *n > i64::MIN,
+        Value::Text(t) => t.as_str().len() <= 65_000,
     }
 }
 

@@ -23,7 +23,7 @@ fn worked_values(rt: HostRuntime) -> Result<(), AllocError> {
     for (value, bytes) in &cases {
         let mut out = Vec::new(alloc);
         out.push(9)?;
-        assert!(rt; is_value(value));
+        assert!(rt; is_value(value) && is_spelled(value));
         put_value(&mut out, value)?;
         assert_eq!(rt; &out.as_slice()[1..], *bytes);
         out.push(9)?;
@@ -75,4 +75,20 @@ fn longest_text(rt: HostRuntime) -> Result<(), AllocError> {
 fn laws_hold(_rt: HostRuntime) {
     read_again();
     one_form();
+}
+
+#[test]
+fn values_in_a_row(rt: HostRuntime) -> Result<(), AllocError> {
+    let alloc = rt.alloc();
+    let mut out = Vec::new(alloc);
+    put_values(&mut out, &[Value::Null, Value::Bool(true)])?;
+    assert_eq!(rt; out.as_slice(), &[0u8, 4][..]);
+    match read_values(alloc, 1, out.as_slice()) {
+        Ok((values, rest)) => {
+            assert!(rt; values.as_slice() == &[Value::Null][..]);
+            assert_eq!(rt; rest, &[4u8][..]);
+        }
+        Err(_) => panic!(rt; "not read"),
+    }
+    Ok(())
 }

@@ -1,0 +1,48 @@
+//! The front of some bytes, for readers of more.
+
+ghost use Rattle.std.specs.Prelude.{◌≡◌};
+ghost use Rattle.col_bytes.specs.Fronts.{vint_at};
+ghost use Rattle.col_bytes.specs.Parts.{Gives, after, told};
+
+use crate::stop::Stop;
+use crate::varint::take_vint;
+use std::alloc::AllocError;
+
+/// Reads the number at the front, and gives the bytes behind it. `Malformed` comes only where no front of the
+/// bytes spells a number.
+pub fn read_vint(bytes: &[u8]) -> Result<(u64, &[u8]), Stop>
+    ensures { Gives (λ x. (x.0, x.1.now)) result (vint_at bytes.now) }
+{
+    match take_vint(bytes) {
+        Some((n, len)) => Ok((n, bytes.split_at(len).1)),
+        None => Err(Stop::Malformed),
+    }
+}
+
+/// Reads this byte at the front, and gives the bytes behind it. `Malformed` comes only where another or none is
+/// there.
+pub fn read_tag(tag: u8, bytes: &[u8]) -> Result<&[u8], Stop>
+    ensures { Gives (λ x. x.now) result (after tag bytes.now) }
+{
+    match bytes {
+        [b, rest @ ..] => {
+            if *b == tag {
+                Ok(rest)
+            } else {
+                Err(Stop::Malformed)
+            }
+        }
+        [] => Err(Stop::Malformed),
+    }
+}
+
+/// What was read, or None where nothing is spelled so.
+pub fn told<T: Drop>(read: Result<T, Stop>) -> Result<Option<T>, AllocError>
+    ensures { result ≡ told read }
+{
+    match read {
+        Ok(x) => Ok(Some(x)),
+        Err(Stop::Malformed) => Ok(None),
+        Err(Stop::Memory) => Err(AllocError),
+    }
+}

@@ -1,0 +1,12 @@
+//! The PLAIN encoding: the values of a block one after the other.
+//!
+//! `Plain` is a `BlockCodec` that takes every block. Its bytes are the tag 04, the varint of how many values there
+//! are, and the spelling of each: the definition `plain` of `specs/Plain.antt`.
+#![tactic(auto)]
+
+mod plain;
+
+pub use plain::Plain;
+
+#[cfg(test)]
+mod tests;

@@ -1,0 +1,67 @@
+ghost use Rattle.std.specs.Prelude.{◌≡◌, IfOk};
+ghost use Rattle.col_bytes.specs.Parts.{Gives};
+ghost use Rattle.block_codec.specs.Blocks.{IsOneBlock, flattened, HaveCounts};
+ghost use Rattle.enc_plain.specs.Plain.{plain, plain_of};
+
+use block_codec::{BlockCodec, are_one_block, read_count, single_runs};
+use col_bytes::{Stop, put_vint, read_tag, told};
+use col_value::{Run, Value};
+use std::alloc::{AllocError, Global};
+use value_bytes::{put_values, read_values};
+
+/// The tag of a block.
+const TAG: u8 = 4;
+
+/// The encoding that writes each value as it is.
+pub struct Plain;
+
+/// The values of the block that all of the bytes are.
+fn values_of(alloc: Global, bytes: &[u8]) -> Result<Vec<Value>, Stop>
+    ensures { Gives (λ v. v.items) result (plain_of bytes.now) }
+{
+    let rest = read_tag(TAG, bytes)?;
+    let (count, rest) = read_count(rest)?;
+    let (values, rest) = read_values(alloc, count, rest)?;
+    if rest.is_empty() {
+        Ok(values)
+    } else {
+        Err(Stop::Malformed)
+    }
+}
+
+/// A run for each of them.
+fn runs_of(alloc: Global, bytes: &[u8]) -> Result<Vec<Run>, Stop>
+    ensures values { Gives (λ v. flattened v.items) result (plain_of bytes.now) }
+    ensures counts { IfOk result (λ v. HaveCounts v.items) }
+{
+    let values = values_of(alloc, bytes)?;
+    Ok(single_runs(alloc, values)?)
+}
+
+impl BlockCodec for Plain {
+    ghost fits = { λ _. IsOneBlock };
+
+    ghost spelling = { λ _. plain };
+
+    fn takes(&self, values: &[Value]) -> bool {
+        are_one_block(values)
+    }
+
+    fn encode(&self, alloc: Global, values: &[Value]) -> Result<Vec<u8>, AllocError> {
+        let mut out = Vec::new(alloc);
+        out.push(TAG)?;
+        put_vint(&mut out, values.len() as u64)?;
+        put_values(&mut out, values)?;
+        Ok(out)
+    }
+
+    fn decode(&self, alloc: Global, bytes: &[u8]) -> Result<Option<Vec<Value>>, AllocError> {
+        told(values_of(alloc, bytes))
+    }
+
+    fn runs(&self, alloc: Global, bytes: &[u8]) -> Result<Option<Vec<Run>>, AllocError> {
+        told(runs_of(alloc, bytes))
+    }
+
+    fn laws(&self) {}
+}
