@@ -1,5 +1,5 @@
 -- The folder of a run, where the disk tells what it holds.
-use Rattle.std.specs.Prelude.{◌≡◌, ◌⊎◌, Option, Some}
+use Rattle.std.specs.Prelude.{◌≡◌, Option, Some}
 use Rattle.col_base.specs.Maps.{Contents}
 use Rattle.col_disk.specs.Calls.{Stepped}
 use Rattle.col_disk.specs.Moved.{Changed, NoName}

@@ -6,9 +6,10 @@ ghost use Rattle.vert_cli.specs.OneText.{HasOneText};
 use col_value::one_listing;
 use sql_reader::one_reading;
 
-/// A script has one text: two runs of it print the same bytes, and some statement is refused in both or in none. So what
-/// `run` says of the written bytes after `Done` and `Refused` leaves no choice. It rests on two laws: no symbols spell
-/// two statements, and the same rows have one ascending list.
+/// A script has one text: two runs of it over one database print the same bytes and leave the same state, and some
+/// statement is refused in both or in none. So over one database what `run` says of the written bytes after `Done` and
+/// `Refused` leaves no choice. It rests on two laws: no symbols spell two statements, and the same rows have one
+/// ascending list.
 pub fn a_script_has_one_text()
     ensures { HasOneText }
 {
