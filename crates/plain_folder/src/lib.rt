@@ -14,3 +14,6 @@ mod served;
 
 pub use closing::close_tables;
 pub use opening::{Opened, open_tables};
+
+#[cfg(test)]
+mod tests;

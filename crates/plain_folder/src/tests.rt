@@ -1,0 +1,153 @@
+use crate::{Opened, close_tables, open_tables};
+use col_disk::{DiskFault, MemDisk, StoreFault};
+use std::alloc::Global;
+use std::test::Fail;
+
+/// The text that the statements print, one after the other.
+fn printed(alloc: Global, opened: &mut Opened, statements: &[&str]) -> Result<Vec<u8>, Fail> {
+    let mut out = Vec::new(alloc);
+    for statement in statements {
+        let answer = opened.store.answer(alloc, statement.as_bytes())?;
+        out.extend_from_slice(answer.text.as_slice())?;
+    }
+    Ok(out)
+}
+
+/// A run of these statements over the disk, to its clean end: what they print.
+fn run(alloc: Global, disk: &mut MemDisk, statements: &[&str]) -> Result<Vec<u8>, Fail> {
+    let mut opened = match open_tables(alloc, disk) {
+        Ok(opened) => opened,
+        Err(_) => return Err(Fail::new("not opened")),
+    };
+    let out = printed(alloc, &mut opened, statements)?;
+    let Opened { store, kept } = opened;
+    match close_tables(alloc, disk, store, &kept) {
+        Ok(()) => Ok(out),
+        Err(_) => Err(Fail::new("not closed")),
+    }
+}
+
+// Two runs: the second one's rows are a container of their own, and the first one's catalogue goes.
+#[test]
+fn two_runs_are_one_table(rt: HostRuntime) -> Result<(), Fail> {
+    let alloc = rt.alloc();
+    let mut disk = MemDisk::new(alloc);
+    run(
+        alloc,
+        &mut disk,
+        &[
+            "CREATE TABLE t (a INTEGER)",
+            "INSERT INTO t VALUES (7), (-2)",
+            "COMMIT",
+        ],
+    )?;
+    assert!(rt; disk.bytes(21).is_some() && disk.bytes(22).is_some());
+    run(
+        alloc,
+        &mut disk,
+        &[
+            "CREATE TABLE b (x INTEGER)",
+            "INSERT INTO t VALUES (4)",
+            "COMMIT",
+        ],
+    )?;
+    assert!(rt; disk.bytes(21).is_none() && disk.bytes(22).is_none());
+    let text = run(
+        alloc,
+        &mut disk,
+        &[
+            "SELECT a FROM t",
+            "AT EPOCH 1 SELECT a FROM t",
+            "SELECT x FROM b",
+        ],
+    )?;
+    assert!(rt; text.as_slice() == b"-2\n4\n7\n(3 rows)\n-2\n7\n(2 rows)\n(0 rows)\n");
+    Ok(())
+}
+
+// Rows that nobody committed are gone, and a run that changes nothing calls the disk no more after the opening.
+#[test]
+fn nothing_changed_calls_nothing(rt: HostRuntime) -> Result<(), Fail> {
+    let alloc = rt.alloc();
+    let mut disk = MemDisk::new(alloc);
+    run(alloc, &mut disk, &["CREATE TABLE t (a INTEGER)"])?;
+    let mut opened = match open_tables(alloc, &mut disk) {
+        Ok(opened) => opened,
+        Err(_) => return Err(Fail::new("not opened")),
+    };
+    printed(
+        alloc,
+        &mut opened,
+        &["INSERT INTO t VALUES (1)", "SELECT a FROM t"],
+    )?;
+    let calls = disk.calls();
+    let Opened { store, kept } = opened;
+    assert!(rt; close_tables(alloc, &mut disk, store, &kept).is_ok());
+    assert_eq!(rt; disk.calls(), calls);
+    let text = run(alloc, &mut disk, &["SELECT a FROM t"])?;
+    assert!(rt; text.as_slice() == b"(0 rows)\n");
+    Ok(())
+}
+
+/// The fault of an opening, if it has one.
+fn fault(alloc: Global, disk: &mut MemDisk) -> Option<StoreFault> {
+    match open_tables(alloc, disk) {
+        Ok(_) => None,
+        Err(fault) => Some(fault),
+    }
+}
+
+// A lone data file; a table of two columns; a listed file that is absent.
+#[test]
+fn damaged_folders(rt: HostRuntime) -> Result<(), Fail> {
+    let alloc = rt.alloc();
+    let mut lone = MemDisk::new(alloc).with(8, &[1])?;
+    assert!(rt; fault(alloc, &mut lone) == Some(StoreFault::Damaged(8)));
+    let wide = [
+        0x56, 0x43, 0x41, 0x54, 1, 0, 0, 2, 1, 1, 0x74, 2, 1, 0x61, 1, 0, 1, 0x62, 1, 0, 1, 7,
+        0x74, 0x5f, 0x73, 0x75, 0x70, 0x65, 0x72, 2, 0, 4, 1, 4, 2, 0, 1, 1, 0, 0, 0,
+    ];
+    let mut foreign = MemDisk::new(alloc).with(5, &wide)?.with(6, &[0x56])?;
+    assert!(rt; fault(alloc, &mut foreign) == Some(StoreFault::Damaged(5)));
+    let listed = [
+        0x56, 0x43, 0x41, 0x54, 1, 1, 0, 6, 1, 1, 0x74, 1, 1, 0x61, 1, 0, 1, 7, 0x74, 0x5f, 0x73,
+        0x75, 0x70, 0x65, 0x72, 1, 0, 4, 1, 0, 1, 1, 1, 1, 1, 2, 1, 1, 0, 0, 0,
+    ];
+    let mut bare = MemDisk::new(alloc).with(21, &listed)?.with(22, &[0x56])?;
+    assert!(rt; fault(alloc, &mut bare) == Some(StoreFault::Damaged(8)));
+    Ok(())
+}
+
+// Each call of the clean end fails in turn: the folder opens to the table before or after.
+#[test]
+fn each_call_of_the_end_fails(rt: HostRuntime) -> Result<(), Fail> {
+    let alloc = rt.alloc();
+    for failing in 0..40 {
+        let mut disk = MemDisk::new(alloc).failing_at(&[failing])?;
+        let mut opened = match open_tables(alloc, &mut disk) {
+            Ok(opened) => opened,
+            Err(fault) => {
+                assert!(rt; fault == StoreFault::Disk);
+                continue;
+            }
+        };
+        printed(
+            alloc,
+            &mut opened,
+            &[
+                "CREATE TABLE t (a INTEGER)",
+                "INSERT INTO t VALUES (3)",
+                "COMMIT",
+            ],
+        )?;
+        let Opened { store, kept } = opened;
+        match close_tables(alloc, &mut disk, store, &kept) {
+            Ok(()) => {
+                let text = run(alloc, &mut disk, &["SELECT a FROM t"])?;
+                assert!(rt; text.as_slice() == b"3\n(1 rows)\n");
+            }
+            Err(fault) => assert!(rt; fault == DiskFault::Failed && disk.faults() == 1),
+        }
+    }
+    Ok(())
+}
