@@ -113,7 +113,7 @@ nothing_opens : (m : Contents) (q : ℕ) (c : Catalogue) → IsDamage m q → Op
 nothing_opens m q c (inl (v, is, gate, bare)) (inl (fresh, blank)) = fresh.closed v gate.is_open
 nothing_opens m q c (inl (v, is, gate, bare)) (inr (w, root)) =
     let same : w ≡ v = one_gate m w v root.gate gate in
-    bare c root.valid root.fits (subst (λ (x : ℕ). x < c.next) same root.below) (ap (λ (x : ℕ). get m (body_file x)) (sym same) ∙ root.body)
+    bare c (record { valid = root.valid; fits = root.fits; below = subst (λ (x : ℕ). x < c.next) same root.below }) (ap (λ (x : ℕ). get m (body_file x)) (sym same) ∙ root.body)
 nothing_opens m q c (inr (n, is, closed, first)) (inl (fresh, blank)) = no_bytes (get m (data_file n)) (fresh.blank n) first.there
 nothing_opens m q c (inr (n, is, closed, first)) (inr (w, root)) = closed w root.gate.is_open
 

@@ -8,4 +8,5 @@ pub mod Below
 pub mod Saved
 pub mod Held
 pub mod Closed
+pub mod OneFolder
 pub mod Rooted
