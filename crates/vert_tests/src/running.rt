@@ -30,13 +30,22 @@ pub fn words(alloc: Global, all: &[&str]) -> Result<Vec<String>, Fail> {
     Ok(words)
 }
 
-/// `vert DIR s.sql`, where these bytes are the file `s.sql`: the status and the sink.
-pub fn ran(alloc: Global, script: &[u8], trouble: &Trouble) -> Result<(Status, MemSink), Fail> {
+/// `vert DIR s.sql` over this disk, where these bytes are the file `s.sql`: the status and the sink.
+pub fn ran_on(
+    alloc: Global,
+    script: &[u8],
+    trouble: &Trouble,
+    disk: &mut MemDisk,
+) -> Result<(Status, MemSink), Fail> {
     let words = words(alloc, &["vert", "DIR", "s.sql"])?;
     let mut files = MemFiles::new(alloc, Vec::from_slice(alloc, trouble.reads)?);
     files.put(alloc, "s.sql", Vec::from_slice(alloc, script)?)?;
     let mut out = MemSink::new(alloc, trouble.most, Vec::from_slice(alloc, trouble.writes)?);
-    let mut disk = MemDisk::new(alloc);
-    let status = run(alloc, words.as_slice(), &mut files, &mut out, &mut disk);
+    let status = run(alloc, words.as_slice(), &mut files, &mut out, disk);
     Ok((status, out))
+}
+
+/// The same over an empty disk.
+pub fn ran(alloc: Global, script: &[u8], trouble: &Trouble) -> Result<(Status, MemSink), Fail> {
+    ran_on(alloc, script, trouble, &mut MemDisk::new(alloc))
 }

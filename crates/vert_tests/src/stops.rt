@@ -1,7 +1,7 @@
 //! Runs that stop, and runs that don't begin.
 
 use crate::running::{NONE, Trouble, ran, words};
-use col_disk::MemDisk;
+use col_disk::{Disk, MemDisk};
 use col_io::{MemFiles, MemSink};
 use std::test::Fail;
 use vert_cli::{Outcome, Session, Status, dir_of, run};
@@ -96,19 +96,26 @@ fn the_word_dir(rt: HostRuntime) -> Result<(), Fail> {
     Ok(())
 }
 
+// A session that makes a table, and one after it.
 #[test]
-fn one_session(rt: HostRuntime) -> Result<(), Fail> {
+fn two_sessions(rt: HostRuntime) -> Result<(), Fail> {
     let alloc = rt.alloc();
     let mut files = MemFiles::new(alloc, Vec::new(alloc));
     let mut out = MemSink::new(alloc, 100, Vec::new(alloc));
     let mut disk = MemDisk::new(alloc);
-    let mut session = Session::open(alloc, &mut disk).map_err(|_| "not opened")?;
-    for (text, done) in [(b"COMMIT".as_slice(), true), (b"SELECT a FROM t", false)] {
+    for (text, done) in [
+        (b"CREATE TABLE t (a INTEGER)".as_slice(), true),
+        (b"SELECT a FROM t", true),
+        (b"SELECT a FROM s", false),
+    ] {
+        let mut session = Session::open(alloc, &mut disk).map_err(|_| "not opened")?;
         let outcome = session
             .execute(alloc, text, &mut files, &mut disk, &mut out)
             .map_err(|_| "stopped")?;
         assert_eq!(rt; matches!(outcome, Outcome::Done), done);
+        session.close(alloc, &mut disk)?;
+        assert_eq!(rt; disk.names(alloc)?.as_slice(), [5, 6].as_slice());
     }
-    assert!(rt; out.bytes() == b"COMMIT\nERROR 1 Syntax 1\n".as_slice());
+    assert!(rt; out.bytes() == b"CREATE TABLE\n(0 rows)\nERROR 1 Syntax 1\n".as_slice());
     Ok(())
 }

@@ -1,0 +1,85 @@
+//! A disk that fails, and files that are not what they were.
+
+use crate::folders::{NAMES, QUERY, ROWS, two_rows};
+use crate::running::{NONE, ran_on};
+use col_disk::Disk;
+use std::test::Fail;
+use vert_cli::Status;
+
+const MORE: &[u8] =
+    b"INSERT INTO t VALUES (0); COMMIT; CREATE TABLE s (b INTEGER); SELECT a FROM t;";
+
+const MORE_TEXT: &[u8] = b"INSERT 1\nCOMMIT EPOCH 2\nCREATE TABLE\n0\n1\n2\n(3 rows)\n";
+
+const MORE_ROWS: &[u8] = b"0\n1\n2\n(3 rows)\n";
+
+// Each call of a run that opens, adds and ends fails in turn. Then the folder opens to the tables before it or after it.
+#[test]
+fn each_call_of_the_disk_fails_in_turn(rt: HostRuntime) -> Result<(), Fail> {
+    let alloc = rt.alloc();
+    for k in 0..1000 {
+        let made = two_rows(alloc)?;
+        let failing = made.calls() + k;
+        let mut disk = made.failing_at(&[failing])?;
+        let (status, out) = ran_on(alloc, MORE, &NONE, &mut disk)?;
+        if disk.calls() <= failing {
+            assert!(rt; k > 20, "{k}");
+            assert_eq!(rt; status, Status::Done);
+            assert!(rt; out.bytes() == MORE_TEXT);
+            return Ok(());
+        }
+        assert_eq!(rt; status, Status::DiskFault, "{k}");
+        assert_eq!(rt; disk.faults(), 1);
+        assert!(rt; out.bytes().is_empty() || out.bytes() == MORE_TEXT, "{k}");
+
+        let (status, out) = ran_on(alloc, QUERY, &NONE, &mut disk)?;
+        assert_eq!(rt; status, Status::Done, "{k}");
+        assert!(rt; out.bytes() == ROWS || out.bytes() == MORE_ROWS, "{k}");
+    }
+    Err("no run ended".into())
+}
+
+// What the query prints where this byte of this file is changed to that, if the folder opens. The files have no check of
+// their sums: a number that stays between the bounds of its block is another number.
+fn text_of(name: u64, at: usize, byte: u8) -> &'static [u8] {
+    match (name, at, byte) {
+        (4, 10, 2) => b"2\n2\n(2 rows)\n",
+        (4, 19, 1) => b"1\n1\n(2 rows)\n",
+        _ => ROWS,
+    }
+}
+
+// The place of the column's name in the catalogue: under another name it is not the column that is asked for.
+const NAMED: (u64, usize) = (21, 13);
+
+// Each bit of a byte, and some at once.
+const BITS: [u8; 10] = [1, 2, 3, 4, 8, 16, 32, 64, 128, 255];
+
+// Each byte of each file is changed in turn: the folder is damaged, or its rows are the right ones.
+#[test]
+fn each_byte_is_changed_in_turn(rt: HostRuntime) -> Result<(), Fail> {
+    let alloc = rt.alloc();
+    let mut disk = two_rows(alloc)?;
+    for name in NAMES {
+        let right = Vec::from_slice(alloc, disk.bytes(name).unwrap_or(b""))?;
+        assert!(rt; !right.is_empty());
+        for at in 0..right.len() {
+            let mut changed = Vec::from_slice(alloc, right.as_slice())?;
+            for bits in BITS {
+                changed[at] = right[at] ^ bits;
+                disk.write(name, changed.as_slice())?;
+                let (status, out) = ran_on(alloc, QUERY, &NONE, &mut disk)?;
+                let text = out.bytes();
+                let is_right = match status {
+                    Status::Done => text == text_of(name, at, changed[at]),
+                    Status::Damaged(_) => text.is_empty(),
+                    Status::Refused => (name, at) == NAMED && text.starts_with(b"ERROR "),
+                    _ => false,
+                };
+                assert!(rt; is_right, "{name} {at} {bits}");
+            }
+        }
+        disk.write(name, right.as_slice())?;
+    }
+    Ok(())
+}
