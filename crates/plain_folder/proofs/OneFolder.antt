@@ -34,9 +34,9 @@ one_table : OneContainer → (m : Contents) (last : ℕ) (t : Kept) (u v : Table
 one_table one m last t u v served first second =
     let (p, is) = one_projection last t served in
     let first_rows : HoldsRows m (length p.columns) p.containers u.rows =
-        All-head (λ x. HoldsRows m (length x.columns) x.containers u.rows) p [] (subst (All (λ x. HoldsRows m (length x.columns) x.containers u.rows)) is first.rows) in
+    All-head (λ x. HoldsRows m (length x.columns) x.containers u.rows) p [] (subst (All (λ x. HoldsRows m (length x.columns) x.containers u.rows)) is first.rows) in
     let second_rows : HoldsRows m (length p.columns) p.containers v.rows =
-        All-head (λ x. HoldsRows m (length x.columns) x.containers v.rows) p [] (subst (All (λ x. HoldsRows m (length x.columns) x.containers v.rows)) is second.rows) in
+    All-head (λ x. HoldsRows m (length x.columns) x.containers v.rows) p [] (subst (All (λ x. HoldsRows m (length x.columns) x.containers v.rows)) is second.rows) in
     let names : u.name ≡ v.name = first.name ∙ sym second.name in
     let columns : u.columns ≡ v.columns = first.columns ∙ sym second.columns in
     let shapes : u.shapes ≡ v.shapes = first.shapes ∙ sym second.shapes in
@@ -65,8 +65,8 @@ one_database one m d e first second =
     let same : second.kept ≡ first.kept = one_kept m second.kept first.kept second.opens first.opens in
     let also : IsDatabaseOf m first.kept e = subst (λ (c : Catalogue). IsDatabaseOf m c e) same second.database in
     let tables : d.tables ≡ e.tables =
-        one_tables one m first.kept.last first.kept.tables d.tables e.tables
-        (and_right (first.kept.ahm == 0) (list_all (is_served_table first.kept.last) first.kept.tables) first.served) first.database.tables also.tables in
+    one_tables one m first.kept.last first.kept.tables d.tables e.tables
+    (and_right (first.kept.ahm == 0) (list_all (is_served_table first.kept.last) first.kept.tables) first.served) first.database.tables also.tables in
     let last : d.last ≡ e.last = first.database.last ∙ sym also.last in
     let mark : d.ahm ≡ e.ahm = first.database.ahm ∙ sym also.ahm in
     ap (λ (x : List Table). record d { tables = x }) tables ∙ ap (λ (x : ℕ). record d { tables = e.tables; last = x }) last
