@@ -12,6 +12,7 @@ use Rattle.col_file.specs.Index.{index_spelling, IsIndex, Fits}
 use Rattle.col_file.specs.Column.{IsNoFile}
 use Rattle.col_file.specs.Read.{SpellsIndex, IsBlock, piece, AreValues}
 
+-- the entry that stands first, if there is one
 abbrev pub first_of : List Entry → Option Entry
 first_of [] = None
 first_of (e ∷ es) = Some e
