@@ -113,6 +113,12 @@ const OF_EPOCHS: &[u8] =
     b"(0 rows)\n-3\n5\n(2 rows)\n-3\n4\n5\n(3 rows)\n-9\n-3\n4\n5\n5\n(5 rows)\n\
     -9\n-3\n4\n5\n5\n(5 rows)\n(0 rows)\n9\n(1 rows)\n-9\n-3\n4\n5\n5\n(5 rows)\n";
 
+// The folder has the rows of each epoch.
+fn has_every_epoch(alloc: Global, disk: &mut MemDisk) -> Result<bool, Fail> {
+    let (status, out) = ran_on(alloc, EPOCHS, &NONE, disk)?;
+    Ok(status == Status::Done && out.bytes() == OF_EPOCHS)
+}
+
 // Three runs, and one of the same statements: each leaves the rows of every epoch.
 #[test]
 fn one_run_or_three(rt: HostRuntime) -> Result<(), Fail> {
@@ -126,11 +132,8 @@ fn one_run_or_three(rt: HostRuntime) -> Result<(), Fail> {
     let script = format!(in alloc; "{FIRST}{SECOND}{THIRD}")?;
     let (status, _) = ran_on(alloc, script.as_bytes(), &NONE, &mut one)?;
     assert_eq!(rt; status, Status::Done);
-    for disk in [&mut three, &mut one] {
-        let (status, out) = ran_on(alloc, EPOCHS, &NONE, disk)?;
-        assert!(rt; out.bytes() == OF_EPOCHS);
-        assert_eq!(rt; status, Status::Done);
-    }
+    assert!(rt; has_every_epoch(alloc, &mut three)?);
+    assert!(rt; has_every_epoch(alloc, &mut one)?);
     Ok(())
 }
 
