@@ -19,7 +19,7 @@ fn each_call_of_the_disk_fails_in_turn(rt: HostRuntime) -> Result<(), Fail> {
     let alloc = rt.alloc();
     for k in 0..1000 {
         let made = two_rows(alloc)?;
-        let failing = made.calls() + k;
+        let failing = made.calls().saturating_add(k);
         let mut disk = made.failing_at(&[failing])?;
         let (status, out) = ran_on(alloc, MORE, &NONE, &mut disk)?;
         if disk.calls() <= failing {
