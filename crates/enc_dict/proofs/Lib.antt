@@ -1,0 +1,5 @@
+pub mod Ascending
+pub mod Members
+pub mod Places
+pub mod Reading
+pub mod Steps
