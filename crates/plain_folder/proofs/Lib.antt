@@ -8,5 +8,6 @@ pub mod Below
 pub mod Saved
 pub mod Held
 pub mod Closed
+pub mod Keying
 pub mod OneFolder
 pub mod Rooted

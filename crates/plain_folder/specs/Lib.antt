@@ -5,3 +5,4 @@ pub mod Loading
 pub mod Opening
 pub mod Saving
 pub mod Closing
+pub mod Keys

@@ -2,6 +2,7 @@
 
 ghost use Rattle.std.specs.Prelude.{◌≡◌, ◌≤◌, ◌<◌, ◌+◌, ◌^◌, ℕ, Some, map, length, filter, IsTrue, OnOk, IfOk, IfSome, List};
 ghost use Rattle.std.specs.List.{All};
+ghost use Rattle.col_base.specs.Bags.{SameBag};
 ghost use Rattle.col_base.specs.Causes.{HasCause};
 ghost use Rattle.col_disk.specs.Moved.{Moved, NoName};
 ghost use Rattle.db_model.specs.Growth.{late};
@@ -9,6 +10,7 @@ ghost use Rattle.ros_container.specs.Files.{IsFileOf};
 ghost use Rattle.plain_folder.specs.Reopens.{undeleted};
 ghost use Rattle.plain_folder.specs.Saving.{IsWritable, IsOfOne, HoldsNew};
 
+use crate::presort::presorted;
 use catalog_types::{Container, Projection};
 use col_disk::{Disk, DiskFault};
 use col_value::{Asked, Stamped};
@@ -99,6 +101,14 @@ fn container_of(base: u64, rows: &[Asked]) -> Container
     }
 }
 
+/// The rows in the order of a container.
+fn in_order(alloc: Global, shape: &Projection, rows: Vec<Asked>) -> Result<Vec<Asked>, AllocError>
+    ensures { IfOk result (λ v. SameBag rows.items v.items) }
+{
+    let near = presorted(alloc, rows)?;
+    sort_rows(shape, near)
+}
+
 #[tactic(auto, using(crate::proofs::Writable::some_sorted))]
 /// Writes rows as a container with this base, in container order. Rows that can't stand in one are answered as want of
 /// memory: no store has such.
@@ -117,7 +127,7 @@ pub fn write_container<D: Disk>(
     ensures moved { Moved ⟦<D as Disk>⟧ (IsFileOf base 1) NoName disk.old disk.new }
     ensures cause { HasCause DiskFault.Failed (D.faults disk.old) (D.faults disk.new) result }
 {
-    let sorted = match sort_rows(shape, rows) {
+    let sorted = match in_order(alloc, shape, rows) {
         Ok(sorted) => sorted,
         Err(AllocError) => return Err(DiskFault::Memory),
     };

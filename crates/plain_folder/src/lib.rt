@@ -11,6 +11,7 @@ mod closing;
 mod laws;
 mod loading;
 mod opening;
+mod presort;
 mod saving;
 mod served;
 

@@ -13,7 +13,7 @@ returns-in-Ok-write_rows-clause-held g c =
     let first : c.in-Ok.sorted.items ≡ rows = search rules in
     let again : c.as_slice-in-Ok-write_rows.result.now ≡ rows = search rules in (
       c.in-Ok.sorted.items,
-      c.in-Ok.ensures.same,
+      c.in-Ok.ensures,
       λ m told.
           subst (λ (xs : List Asked). HoldsContainer m 1 k xs) (sym first)
           (subst (λ n. HoldsContainer m n k rows) c.requires.shape.columns
