@@ -1,0 +1,5 @@
+pub mod Values
+pub mod Kinds
+pub mod Bounds
+pub mod Outputs
+pub mod Printed
