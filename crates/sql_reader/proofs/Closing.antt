@@ -2,17 +2,17 @@
 use Rattle.std.proofs.Common.{◌≡◌, ℕ, ◌+◌, ◌<◌, ◌≤◌, List, [], ◌∷◌, length, arith, ap, sym, ◌∙◌}
 use Rattle.std.proofs.lemmas.List.{length-map}
 use Rattle.sql_words.specs.declared.token.Token.{Token}
-use Rattle.sql_reader.specs.Gives.{seen}
+use Rattle.sql_phrases.specs.Gives.{seen}
 use Rattle.sql_words.specs.declared.token.Sign.{Sign}
 use Rattle.sql_words.specs.Symbols.{Symbol, symbol_of}
 use Rattle.sql_tree.specs.declared.statement.Statement.{Statement}
 use Rattle.sql_tree.specs.Phrases.{IsPlace}
 use Rattle.sql_tree.specs.Spells.{Spells}
-use Rattle.sql_reader.specs.Readings.{Read}
-use Rattle.sql_reader.specs.Classes.{Class, in_set}
-use Rattle.sql_reader.specs.Readers.{reads}
-use Rattle.sql_reader.proofs.Placing.{placed_stopped, placed_rest, found_whole, took_left, stopped_left}
-use Rattle.sql_reader.proofs.Productions.{good_reads}
+use Rattle.sql_phrases.specs.Readings.{Read}
+use Rattle.sql_phrases.specs.Classes.{Class, in_set}
+use Rattle.sql_phrases.specs.Readers.{reads}
+use Rattle.sql_phrases.proofs.Placing.{placed_stopped, placed_rest, found_whole, took_left, stopped_left}
+use Rattle.sql_phrases.proofs.Productions.{good_reads}
 
 pub spelled_whole : (ts rest : List Symbol) (s : Statement) → reads ts ≡ Read.Took s rest → length rest ≡ 0 → Spells ts s
 spelled_whole ts [] s e h = found_whole Spells reads good_reads.judge ts s e

@@ -1,5 +1,1 @@
-pub mod Readings
-pub mod Classes
-pub mod Readers
-pub mod Gives
 pub mod Refusals

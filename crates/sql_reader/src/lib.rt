@@ -9,9 +9,7 @@
 mod literals;
 mod reader;
 mod statements;
-mod stop;
 #[cfg(test)]
 mod tests;
-mod tokens;
 
 pub use reader::{ReadFault, one_reading, read};

@@ -1,17 +1,16 @@
 ghost use Rattle.std.specs.Prelude.{◌≡◌, [], ◌∷◌};
-ghost use Rattle.sql_reader.specs.Readings.{joined, many};
-ghost use Rattle.sql_reader.specs.Classes.{is_sign};
-ghost use Rattle.sql_reader.specs.Gives.{Gives};
-ghost use Rattle.sql_reader.specs.Readers.{integer, tuple, listed, glyph};
+ghost use Rattle.sql_phrases.specs.Readings.{joined, many};
+ghost use Rattle.sql_phrases.specs.Classes.{is_sign};
+ghost use Rattle.sql_phrases.specs.Gives.{Gives};
+ghost use Rattle.sql_phrases.specs.Readers.{integer, tuple, listed, glyph};
 
-use crate::stop::Stop;
-use crate::tokens::Tokens;
+use sql_phrases::{Stop, Tokens};
 use col_value::{List, Wide, WideRow};
 use sql_words::Sign;
 use std::alloc::Global;
 
 /// `[-] int`
-#[tactic(auto, unfolding(crate::specs::Readings::choose, crate::specs::Readings::mark, crate::specs::Readings::both, crate::specs::Readings::nothing, crate::specs::Readers::integer))]
+#[tactic(auto, unfolding(sql_phrases::specs::Readings::choose, sql_phrases::specs::Readings::mark, sql_phrases::specs::Readings::both, sql_phrases::specs::Readings::nothing, sql_phrases::specs::Readers::integer))]
 fn integer(tokens: &mut Tokens<'_>) -> Result<Wide, Stop>
     ensures { Gives result tokens.new (integer tokens.old) }
 {
@@ -25,7 +24,7 @@ fn integer(tokens: &mut Tokens<'_>) -> Result<Wide, Stop>
 }
 
 /// `( integer )`
-#[tactic(auto, unfolding(crate::specs::Readings::mark, crate::specs::Readings::both, crate::specs::Readings::nothing, crate::specs::Readers::tuple))]
+#[tactic(auto, unfolding(sql_phrases::specs::Readings::mark, sql_phrases::specs::Readings::both, sql_phrases::specs::Readings::nothing, sql_phrases::specs::Readers::tuple))]
 fn tuple(alloc: Global, tokens: &mut Tokens<'_>) -> Result<WideRow, Stop>
     ensures { Gives result tokens.new (tuple tokens.old) }
 {
@@ -38,7 +37,7 @@ fn tuple(alloc: Global, tokens: &mut Tokens<'_>) -> Result<WideRow, Stop>
 }
 
 /// `, tuple`
-#[tactic(auto, unfolding(crate::specs::Readings::mark, crate::specs::Readings::both))]
+#[tactic(auto, unfolding(sql_phrases::specs::Readings::mark, sql_phrases::specs::Readings::both))]
 fn next_tuple(alloc: Global, tokens: &mut Tokens<'_>) -> Result<WideRow, Stop>
     ensures { Gives result tokens.new (glyph Sign.Comma tuple tokens.old) }
 {
@@ -67,7 +66,7 @@ fn more_tuples(
 }
 
 /// `tuple {, tuple}`
-#[tactic(auto, unfolding(crate::specs::Readings::both, crate::specs::Readings::nothing, crate::specs::Readers::listed))]
+#[tactic(auto, unfolding(sql_phrases::specs::Readings::both, sql_phrases::specs::Readings::nothing, sql_phrases::specs::Readers::listed))]
 pub fn tuples(alloc: Global, tokens: &mut Tokens<'_>) -> Result<List<WideRow>, Stop>
     ensures { Gives result tokens.new (listed tuple tokens.old) }
 {

@@ -6,8 +6,7 @@ ghost use Rattle.sql_tree.specs.Spells.{Spells};
 ghost use Rattle.sql_reader.specs.Refusals.{Refuses};
 
 use crate::statements::statement;
-use crate::stop::Stop;
-use crate::tokens::Tokens;
+use sql_phrases::{Stop, Tokens};
 use sql_tree::Statement;
 use sql_words::Token;
 use std::alloc::Global;

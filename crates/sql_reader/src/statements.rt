@@ -1,11 +1,10 @@
 ghost use Rattle.std.specs.Prelude.{◌≡◌, [], ◌∷◌, IfOk};
 ghost use Rattle.sql_tree.specs.Spells.{plain_query};
-ghost use Rattle.sql_reader.specs.Gives.{Gives};
-ghost use Rattle.sql_reader.specs.Readers.{creates_table, inserts, commits, queries, selects, selects_at, reads};
+ghost use Rattle.sql_phrases.specs.Gives.{Gives};
+ghost use Rattle.sql_phrases.specs.Readers.{creates_table, inserts, commits, queries, selects, selects_at, reads};
 
 use crate::literals::tuples;
-use crate::stop::Stop;
-use crate::tokens::Tokens;
+use sql_phrases::{Stop, Tokens};
 use col_value::{ColType, List, Name};
 use sql_tree::{At, ColRef, Insert, Item, Items, NewColumn, Query, Source, Statement, Tree};
 use sql_words::{Key, Sign};
@@ -50,7 +49,7 @@ fn plain_query(alloc: Global, column: Name, table: Name) -> Result<Query, AllocE
 }
 
 /// `CREATE TABLE name ( name INTEGER )`
-#[tactic(auto, unfolding(crate::specs::Readings::mark, crate::specs::Readings::both, crate::specs::Readings::nothing, crate::specs::Readers::creates_table))]
+#[tactic(auto, unfolding(sql_phrases::specs::Readings::mark, sql_phrases::specs::Readings::both, sql_phrases::specs::Readings::nothing, sql_phrases::specs::Readers::creates_table))]
 fn creates_table(alloc: Global, tokens: &mut Tokens<'_>) -> Result<Statement, Stop>
     ensures { Gives result tokens.new (creates_table tokens.old) }
 {
@@ -70,7 +69,7 @@ fn creates_table(alloc: Global, tokens: &mut Tokens<'_>) -> Result<Statement, St
 }
 
 /// `INSERT INTO name VALUES tuple {, tuple}`
-#[tactic(auto, unfolding(crate::specs::Readings::mark, crate::specs::Readings::both, crate::specs::Readings::nothing, crate::specs::Readers::inserts))]
+#[tactic(auto, unfolding(sql_phrases::specs::Readings::mark, sql_phrases::specs::Readings::both, sql_phrases::specs::Readings::nothing, sql_phrases::specs::Readers::inserts))]
 fn inserts(alloc: Global, tokens: &mut Tokens<'_>) -> Result<Statement, Stop>
     ensures { Gives result tokens.new (inserts tokens.old) }
 {
@@ -83,7 +82,7 @@ fn inserts(alloc: Global, tokens: &mut Tokens<'_>) -> Result<Statement, Stop>
 }
 
 /// `COMMIT`
-#[tactic(auto, unfolding(crate::specs::Readings::mark, crate::specs::Readings::both, crate::specs::Readings::nothing, crate::specs::Readers::commits))]
+#[tactic(auto, unfolding(sql_phrases::specs::Readings::mark, sql_phrases::specs::Readings::both, sql_phrases::specs::Readings::nothing, sql_phrases::specs::Readers::commits))]
 fn commits(tokens: &mut Tokens<'_>) -> Result<Statement, Stop>
     ensures { Gives result tokens.new (commits tokens.old) }
 {
@@ -92,7 +91,7 @@ fn commits(tokens: &mut Tokens<'_>) -> Result<Statement, Stop>
 }
 
 /// `name FROM name`
-#[tactic(auto, unfolding(crate::specs::Readings::mark, crate::specs::Readings::both, crate::specs::Readings::nothing, crate::specs::Readers::queries))]
+#[tactic(auto, unfolding(sql_phrases::specs::Readings::mark, sql_phrases::specs::Readings::both, sql_phrases::specs::Readings::nothing, sql_phrases::specs::Readers::queries))]
 fn queries(alloc: Global, tokens: &mut Tokens<'_>) -> Result<Query, Stop>
     ensures { Gives result tokens.new (queries tokens.old) }
 {
@@ -103,7 +102,7 @@ fn queries(alloc: Global, tokens: &mut Tokens<'_>) -> Result<Query, Stop>
 }
 
 /// `SELECT query`
-#[tactic(auto, unfolding(crate::specs::Readings::mark, crate::specs::Readings::both, crate::specs::Readings::nothing, crate::specs::Readers::selects))]
+#[tactic(auto, unfolding(sql_phrases::specs::Readings::mark, sql_phrases::specs::Readings::both, sql_phrases::specs::Readings::nothing, sql_phrases::specs::Readers::selects))]
 fn selects(alloc: Global, tokens: &mut Tokens<'_>) -> Result<Statement, Stop>
     ensures { Gives result tokens.new (selects tokens.old) }
 {
@@ -113,7 +112,7 @@ fn selects(alloc: Global, tokens: &mut Tokens<'_>) -> Result<Statement, Stop>
 }
 
 /// `AT EPOCH int SELECT query`
-#[tactic(auto, unfolding(crate::specs::Readings::mark, crate::specs::Readings::both, crate::specs::Readings::nothing, crate::specs::Readers::selects_at))]
+#[tactic(auto, unfolding(sql_phrases::specs::Readings::mark, sql_phrases::specs::Readings::both, sql_phrases::specs::Readings::nothing, sql_phrases::specs::Readers::selects_at))]
 fn selects_at(alloc: Global, tokens: &mut Tokens<'_>) -> Result<Statement, Stop>
     ensures { Gives result tokens.new (selects_at tokens.old) }
 {
@@ -126,7 +125,7 @@ fn selects_at(alloc: Global, tokens: &mut Tokens<'_>) -> Result<Statement, Stop>
 }
 
 /// A statement.
-#[tactic(auto, unfolding(crate::specs::Readings::choose, crate::specs::Readers::reads))]
+#[tactic(auto, unfolding(sql_phrases::specs::Readings::choose, sql_phrases::specs::Readers::reads))]
 pub fn statement(alloc: Global, tokens: &mut Tokens<'_>) -> Result<Statement, Stop>
     ensures { Gives result tokens.new (reads tokens.old) }
 {

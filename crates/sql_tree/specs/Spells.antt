@@ -1,105 +1,118 @@
 -- Which symbols spell which statement: one line for each production.
-use Rattle.std.specs.Prelude.{ℕ, ℤ, pos, negsuc, neg_ℤ, List, [], ◌∷◌, Option, Some, None, false}
-use Rattle.col_value.specs.declared.wide.Wide.{Wide}
+use Rattle.std.specs.Prelude.{ℕ, Bool, true, false, List, Option, Some, None}
 use Rattle.col_value.specs.declared.kinds.ColType.{ColType}
+use Rattle.col_value.specs.declared.kinds.Encoding.{Encoding}
+use Rattle.col_value.specs.declared.wide.Wide.{Wide}
+use Rattle.sql_words.specs.declared.token.Back.{Back}
 use Rattle.sql_words.specs.declared.token.Key.{Key}
 use Rattle.sql_words.specs.declared.token.Sign.{Sign}
-use Rattle.sql_words.specs.Symbols.{Symbol}
-use Rattle.sql_tree.specs.declared.tree.Tree.{Tree}
 use Rattle.sql_tree.specs.declared.query.At.{At}
-use Rattle.sql_tree.specs.declared.query.Items.{Items}
-use Rattle.sql_tree.specs.declared.query.Query.{Query}
+use Rattle.sql_tree.specs.declared.statement.Function.{Function}
 use Rattle.sql_tree.specs.declared.statement.NewColumn.{NewColumn}
+use Rattle.sql_tree.specs.declared.statement.NewPart.{NewPart}
+use Rattle.sql_tree.specs.declared.statement.Setting.{Setting}
 use Rattle.sql_tree.specs.declared.statement.Statement.{Statement}
-use Rattle.sql_tree.specs.Phrases.{Phrase, One, Mark, Nothing, Then, Either, Chain}
+use Rattle.sql_tree.specs.Phrases.{One, Nothing, Then, Either}
+use Rattle.sql_tree.specs.Symbols.{Spelling, Word, Glyph, Command, Inside, Listed, name_of, text_of, number_of, width_of, session_of}
+use Rattle.sql_tree.specs.Expressions.{Literal, Expr}
+use Rattle.sql_tree.specs.Queries.{Where, Queries}
 
--- a phrase over symbols
-abbrev pub Spelling : Type 0 → Type 1
-Spelling V = Phrase Symbol V
+-- type = INTEGER | INT | BIGINT | BOOLEAN | VARCHAR ( int )
+abbrev pub Kind : Spelling ColType
+Kind = Either (Word Key.Integer (Nothing ColType.Integer)) (Either (Word Key.Int (Nothing ColType.Integer)) (Either (Word Key.Bigint (Nothing ColType.Integer)) (Either (Word Key.Boolean (Nothing ColType.Boolean)) (Word Key.Varchar (Then (Inside (One width_of)) (λ n. Nothing (ColType.Varchar n)))))))
 
--- a keyword, then A
-abbrev pub Word : {V : Type 0} → Key → Spelling V → Spelling V
-Word k A = Mark (Symbol.Keyword k) A
+-- [NOT NULL]
+abbrev pub NotNull : Spelling Bool
+NotNull = Either (Word Key.Not (Word Key.Null (Nothing true))) (Nothing false)
 
--- a sign, then A
-abbrev pub Glyph : {V : Type 0} → Sign → Spelling V → Spelling V
-Glyph s A = Mark (Symbol.Mark s) A
+-- column = name type [NOT NULL]
+abbrev pub NewColumns : Spelling NewColumn
+NewColumns = Then (One name_of) (λ n. Then Kind (λ k. Then NotNull (λ b. Nothing (record { name = n; kind = k; not_null = b }))))
 
-abbrev pub name_of : Symbol → Option (List ℕ)
-name_of (Symbol.Keyword k) = None
-name_of (Symbol.Name n) = Some n
-name_of (Symbol.Number n) = None
-name_of (Symbol.Text t) = None
-name_of (Symbol.Mark s) = None
-name_of (Symbol.Command b) = None
-name_of Symbol.Unknown = None
-
--- a number without a sign
-abbrev pub natural_of : ℤ → Option ℕ
-natural_of (pos n) = Some n
-natural_of (negsuc n) = None
-
-abbrev pub number_of : Symbol → Option ℕ
-number_of (Symbol.Keyword k) = None
-number_of (Symbol.Name n) = None
-number_of (Symbol.Number n) = natural_of n
-number_of (Symbol.Text t) = None
-number_of (Symbol.Mark s) = None
-number_of (Symbol.Command b) = None
-number_of Symbol.Unknown = None
-
--- [-] int
-abbrev pub Integer : Spelling Wide
-Integer = Either (Glyph Sign.Minus (Then (One number_of) (λ n. Nothing (Wide.Int (neg_ℤ (pos n)))))) (Then (One number_of) (λ n. Nothing (Wide.Int (pos n))))
-
--- ( integer )
-abbrev pub Tuple : Spelling (List Wide)
-Tuple = Glyph Sign.Open (Then Integer (λ w. Glyph Sign.Close (Nothing (w ∷ []))))
-
--- A {, A}
-abbrev pub Listed : {V : Type 0} → Spelling V → Spelling (List V)
-Listed A = Chain (Symbol.Mark Sign.Comma) A (λ x xs. x ∷ xs)
-
--- a column of numbers that may be NULL
-abbrev pub integer_column : List ℕ → NewColumn
-integer_column name = record { name = name; kind = ColType.Integer; not_null = false }
-
--- CREATE TABLE name ( name INTEGER )
+-- TABLE name ( column {, column} )
 abbrev pub CreatesTable : Spelling Statement
-CreatesTable = Word Key.Create (Word Key.Table (Then (One name_of) (λ t. Glyph Sign.Open (Then (One name_of) (λ c. Word Key.Integer (Glyph Sign.Close (Nothing (Statement.CreateTable t (integer_column c ∷ [])))))))))
+CreatesTable = Word Key.Table (Then (One name_of) (λ t. Then (Inside (Listed NewColumns)) (λ cs. Nothing (Statement.CreateTable t cs))))
+
+-- AUTO | RLE | DELTAVAL | BLOCK_DICT | PLAIN
+abbrev pub EncodingName : Spelling Encoding
+EncodingName = Either (Word Key.Auto (Nothing Encoding.Auto)) (Either (Word Key.Rle (Nothing Encoding.Rle)) (Either (Word Key.Deltaval (Nothing Encoding.DeltaVal)) (Either (Word Key.BlockDict (Nothing Encoding.BlockDict)) (Word Key.Plain (Nothing Encoding.Plain)))))
+
+-- [ENCODING (AUTO | RLE | DELTAVAL | BLOCK_DICT | PLAIN)]
+abbrev pub Encoded : Spelling Encoding
+Encoded = Either (Word Key.Encoding EncodingName) (Nothing Encoding.Auto)
+
+-- pcol = name [ENCODING (AUTO | RLE | DELTAVAL | BLOCK_DICT | PLAIN)]
+abbrev pub NewParts : Spelling NewPart
+NewParts = Then (One name_of) (λ n. Then Encoded (λ e. Nothing (record { name = n; encoding = e })))
+
+-- [ORDER BY name {, name}]
+abbrev pub SortedBy : Spelling (Option (List (List ℕ)))
+SortedBy = Either (Word Key.Order (Word Key.By (Then (Listed (One name_of)) (λ ns. Nothing (Some ns))))) (Nothing None)
+
+-- PROJECTION name ( pcol {, pcol} ) AS SELECT name {, name} FROM name [ORDER BY name {, name}]
+abbrev pub CreatesProjection : Spelling Statement
+CreatesProjection = Word Key.Projection (Then (One name_of) (λ p. Then (Inside (Listed NewParts)) (λ ps. Word Key.As (Word Key.Select (Then (Listed (One name_of)) (λ ns. Word Key.From (Then (One name_of) (λ t. Then SortedBy (λ o. Nothing (Statement.CreateProjection (record { name = p; parts = ps; selected = ns; table = t; sort = o })))))))))))
+
+-- CREATE (TABLE .. | PROJECTION ..)
+abbrev pub Creates : Spelling Statement
+Creates = Word Key.Create (Either CreatesTable CreatesProjection)
+
+-- DROP (TABLE | PROJECTION) name
+abbrev pub Drops : Spelling Statement
+Drops = Word Key.Drop (Either (Word Key.Table (Then (One name_of) (λ t. Nothing (Statement.DropTable t)))) (Word Key.Projection (Then (One name_of) (λ p. Nothing (Statement.DropProjection p)))))
+
+-- tuple = ( literal {, literal} )
+abbrev pub Tuple : Spelling (List Wide)
+Tuple = Inside (Listed Literal)
 
 -- INSERT INTO name VALUES tuple {, tuple}
 abbrev pub Inserts : Spelling Statement
 Inserts = Word Key.Insert (Word Key.Into (Then (One name_of) (λ t. Word Key.Values (Then (Listed Tuple) (λ rows. Nothing (Statement.Insert (record { table = t; rows = rows })))))))
 
--- COMMIT
-abbrev pub Commits : Spelling Statement
-Commits = Word Key.Commit (Nothing Statement.Commit)
+-- DELETE FROM name [WHERE expr]
+abbrev pub Deletes : Spelling Statement
+Deletes = Word Key.Delete (Word Key.From (Then (One name_of) (λ t. Then Where (λ w. Nothing (Statement.Delete (record { table = t; keep = w }))))))
 
--- the query of one column of one table
-abbrev pub plain_query : List ℕ → List ℕ → Query
-plain_query column table = record {
-  items = Items.Listed (record { tree = Tree.Col (record { qualifier = None; name = column }); alias = None } ∷ []);
-  sources = record { table = table; alias = None; on = None } ∷ [];
-  keep = None;
-  group = [];
-  having = None;
-  order = [];
-  limit = None;
-}
+-- name = expr
+abbrev pub Sets : Spelling Setting
+Sets = Then (One name_of) (λ c. Glyph Sign.Equal (Then Expr (λ e. Nothing (record { column = c; tree = e }))))
 
--- name FROM name
-abbrev pub Queries : Spelling Query
-Queries = Then (One name_of) (λ c. Word Key.From (Then (One name_of) (λ t. Nothing (plain_query c t))))
+-- UPDATE name SET name = expr {, name = expr} [WHERE expr]
+abbrev pub Updates : Spelling Statement
+Updates = Word Key.Update (Then (One name_of) (λ t. Word Key.Set (Then (Listed Sets) (λ ss. Then Where (λ w. Nothing (Statement.Update (record { table = t; settings = ss; keep = w })))))))
 
--- SELECT query
+-- COPY name FROM text
+abbrev pub Copies : Spelling Statement
+Copies = Word Key.Copy (Then (One name_of) (λ t. Word Key.From (Then (One text_of) (λ f. Nothing (Statement.Copy t f)))))
+
+-- function = GET_LAST_GOOD_EPOCH ( ) | GET_CURRENT_EPOCH ( )
+abbrev pub Calls : Spelling Function
+Calls = Either (Word Key.GetLastGoodEpoch (Glyph Sign.Open (Glyph Sign.Close (Nothing Function.Lge)))) (Word Key.GetCurrentEpoch (Glyph Sign.Open (Glyph Sign.Close (Nothing Function.Current))))
+
+-- SELECT (function | query)
 abbrev pub Selects : Spelling Statement
-Selects = Word Key.Select (Then Queries (λ q. Nothing (Statement.Select At.View q)))
+Selects = Word Key.Select (Either (Then Calls (λ f. Nothing (Statement.Call f))) (Then Queries (λ q. Nothing (Statement.Select At.View q))))
 
--- AT EPOCH int SELECT query
+-- int | LATEST
+abbrev pub Epochs : Spelling At
+Epochs = Either (Then (One number_of) (λ n. Nothing (At.Epoch n))) (Word Key.Latest (Nothing At.Latest))
+
+-- AT EPOCH (int | LATEST) SELECT query
 abbrev pub SelectsAt : Spelling Statement
-SelectsAt = Word Key.At (Word Key.Epoch (Then (One number_of) (λ n. Word Key.Select (Then Queries (λ q. Nothing (Statement.Select (At.Epoch n) q))))))
+SelectsAt = Word Key.At (Word Key.Epoch (Then Epochs (λ at. Word Key.Select (Then Queries (λ q. Nothing (Statement.Select at q))))))
+
+-- EXPLAIN SELECT query
+abbrev pub Explains : Spelling Statement
+Explains = Word Key.Explain (Word Key.Select (Then Queries (λ q. Nothing (Statement.Explain q))))
+
+-- \session int
+abbrev pub Sessions : Spelling Statement
+Sessions = Command Back.Session (Then (One session_of) (λ n. Nothing (Statement.Session n)))
+
+-- COMMIT | ROLLBACK | \session int | \step
+abbrev pub Controls : Spelling Statement
+Controls = Either (Word Key.Commit (Nothing Statement.Commit)) (Either (Word Key.Rollback (Nothing Statement.Rollback)) (Either Sessions (Command Back.Step (Nothing Statement.Step))))
 
 -- the statement that symbols spell
 abbrev pub Spells : Spelling Statement
-Spells = Either CreatesTable (Either Inserts (Either Commits (Either Selects SelectsAt)))
+Spells = Either Creates (Either Drops (Either Inserts (Either Deletes (Either Updates (Either Copies (Either Selects (Either SelectsAt (Either Explains Controls))))))))

@@ -4,11 +4,13 @@
 //! trees are equal values.
 #![tactic(auto)]
 
+mod part;
 mod query;
 mod refusal;
 mod statement;
 mod tree;
 
+pub use part::{Addend, Part};
 pub use query::{At, Item, Items, KeyRef, Query, SortKey, Source};
 pub use refusal::{Refusal, Which};
 pub use statement::{

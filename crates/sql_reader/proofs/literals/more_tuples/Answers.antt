@@ -1,13 +1,13 @@
 -- A turn takes one more tuple, or the loop ends with what was taken so far.
 use Rattle.std.proofs.Common.{◌∙◌, sym, ap}
 use Rattle.sql_words.specs.declared.token.Sign.{Sign}
-use Rattle.sql_reader.specs.Readings.{Read, joined, many}
-use Rattle.sql_reader.specs.Classes.{is_sign}
-use Rattle.sql_reader.specs.Readers.{tuple, glyph}
-use Rattle.sql_reader.proofs.Repeats.{Shortens}
-use Rattle.sql_reader.proofs.Rolling.{roll_goes, roll_ends, roll_err}
-use Rattle.sql_reader.proofs.Goods.{good_sign, good_shortens}
-use Rattle.sql_reader.proofs.Productions.{good_tuple}
+use Rattle.sql_phrases.specs.Readings.{Read, joined, many}
+use Rattle.sql_phrases.specs.Classes.{is_sign}
+use Rattle.sql_phrases.specs.Readers.{tuple, glyph}
+use Rattle.sql_phrases.proofs.Repeats.{Shortens}
+use Rattle.sql_phrases.proofs.Rolling.{roll_goes, roll_ends, roll_err}
+use Rattle.sql_phrases.proofs.Goods.{good_sign, good_shortens}
+use Rattle.sql_phrases.proofs.Productions.{good_tuple}
 use Rattle.sql_reader.proofs.literals.more_tuples.Goals as goal
 
 shorter : Shortens (glyph Sign.Comma tuple)

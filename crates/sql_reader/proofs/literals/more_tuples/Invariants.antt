@@ -1,8 +1,8 @@
 use Rattle.std.proofs.Common.{◌≡◌, [], ◌∷◌, length}
 use Rattle.sql_words.specs.declared.token.Sign.{Sign}
-use Rattle.sql_reader.specs.Readings.{joined, many}
-use Rattle.sql_reader.specs.Classes.{is_sign}
-use Rattle.sql_reader.specs.Readers.{tuple, glyph}
+use Rattle.sql_phrases.specs.Readings.{joined, many}
+use Rattle.sql_phrases.specs.Classes.{is_sign}
+use Rattle.sql_phrases.specs.Readers.{tuple, glyph}
 use Rattle.sql_reader.proofs.literals.more_tuples.Given as goal
 
 abbrev pub invariant-loop-alloc : goal.invariant-loop-alloc

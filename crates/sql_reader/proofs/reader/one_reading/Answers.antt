@@ -2,10 +2,10 @@
 use Rattle.std.proofs.Common.{[], ◌∷◌}
 use Rattle.sql_words.specs.declared.token.Sign.{Sign}
 use Rattle.sql_tree.specs.Spells.{Spells}
-use Rattle.sql_reader.specs.Classes.{Class, in_set}
-use Rattle.sql_reader.specs.Readers.{reads}
-use Rattle.sql_reader.proofs.Agains.{again_one_value}
-use Rattle.sql_reader.proofs.Productions.{good_reads}
+use Rattle.sql_phrases.specs.Classes.{Class, in_set}
+use Rattle.sql_phrases.specs.Readers.{reads}
+use Rattle.sql_phrases.proofs.Agains.{again_one_value}
+use Rattle.sql_phrases.proofs.Productions.{good_reads}
 use Rattle.sql_reader.proofs.reader.one_reading.Goals as goal
 
 pub returns : goal.returns

@@ -44,6 +44,15 @@ is_sign s (Symbol.Mark r) = signs.ghosts.eq r s
 is_sign s (Symbol.Command b) = false
 is_sign s Symbol.Unknown = false
 
+abbrev pub is_back : Back → Symbol → Bool
+is_back b (Symbol.Keyword k) = false
+is_back b (Symbol.Name n) = false
+is_back b (Symbol.Number n) = false
+is_back b (Symbol.Text t) = false
+is_back b (Symbol.Mark s) = false
+is_back b (Symbol.Command a) = backs.ghosts.eq a b
+is_back b Symbol.Unknown = false
+
 abbrev pub same_class : Class → Class → Bool
 same_class (Class.OfKey j) (Class.OfKey k) = keys.ghosts.eq j k
 same_class (Class.OfSign r) (Class.OfSign s) = signs.ghosts.eq r s
@@ -69,3 +78,34 @@ disjoint (c ∷ cs) ds = if has ds c then false else disjoint cs ds
 abbrev pub subset : List Class → List Class → Bool
 subset [] ds = true
 subset (c ∷ cs) ds = if has ds c then subset cs ds else false
+
+-- the sets of classes that readers look for
+
+abbrev pub name_classes : List Class
+name_classes = Class.OfName ∷ []
+
+abbrev pub number_classes : List Class
+number_classes = Class.OfNumber ∷ []
+
+abbrev pub text_classes : List Class
+text_classes = Class.OfText ∷ []
+
+-- what compares
+abbrev pub cmp_classes : List Class
+cmp_classes = Class.OfSign Sign.Equal ∷ (Class.OfSign Sign.NotEqual ∷ (Class.OfSign Sign.Less ∷ (Class.OfSign Sign.AtMost ∷ (Class.OfSign Sign.Greater ∷ (Class.OfSign Sign.AtLeast ∷ [])))))
+
+-- what goes on with a sum
+abbrev pub signed_classes : List Class
+signed_classes = Class.OfSign Sign.Plus ∷ (Class.OfSign Sign.Minus ∷ [])
+
+-- what begins an aggregate
+abbrev pub aggregate_classes : List Class
+aggregate_classes = Class.OfKey Key.Count ∷ (Class.OfKey Key.Sum ∷ (Class.OfKey Key.Min ∷ (Class.OfKey Key.Max ∷ [])))
+
+-- what goes on with the list of sources
+abbrev pub source_classes : List Class
+source_classes = Class.OfSign Sign.Comma ∷ (Class.OfKey Key.Inner ∷ (Class.OfKey Key.Join ∷ []))
+
+-- what begins the call of a function
+abbrev pub call_classes : List Class
+call_classes = Class.OfKey Key.GetLastGoodEpoch ∷ (Class.OfKey Key.GetCurrentEpoch ∷ [])

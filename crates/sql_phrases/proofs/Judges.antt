@@ -1,7 +1,7 @@
 -- What a reader takes is spelled, and where it stops something is begun: the judge of each word.
 use Rattle.std.proofs.Common.{◌≡◌, inl, inr, Bool, true, false, if◌then◌else◌, List, [], ◌∷◌, ◌++◌, Option, Some, None, refl, sym, ◌∙◌, ap, append_assoc}
 use Rattle.sql_tree.specs.Phrases.{One, Mark, Nothing, Then, Either, Opens}
-use Rattle.sql_reader.specs.Readings.{Read, after, picked, one, nothing, both, head_is, choose, marked, the, mark}
+use Rattle.sql_phrases.specs.Readings.{Read, after, picked, one, nothing, both, head_is, choose, marked, the, mark}
 
 -- v was taken from the front and `rest` is left, whatever stands behind the first element of `rest`
 pub record Takes {T V : Type 0} (L : List T → V → Type 0) (read : List T → Read T V) (ts : List T) (v : V) (rest : List T) : Type 0 where

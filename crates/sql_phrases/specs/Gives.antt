@@ -2,8 +2,8 @@
 use Rattle.std.specs.Prelude.{◌≡◌, ℕ, List, map, Result, Ok, Err}
 use Rattle.sql_words.specs.declared.token.Token.{Token}
 use Rattle.sql_words.specs.Symbols.{Symbol, symbol_of}
-use Rattle.sql_reader.specs.Readings.{Read}
-use Rattle.sql_reader.specs.declared.stop.Stop.{Stop}
+use Rattle.sql_phrases.specs.Readings.{Read}
+use Rattle.sql_phrases.specs.declared.stop.Stop.{Stop}
 
 -- what tokens of a text say
 abbrev pub seen : List ℕ → List Token → List Symbol

@@ -2,11 +2,11 @@
 use Rattle.std.proofs.Common.{◌≡◌, Bool, true, false, if◌then◌else◌, List, [], ◌∷◌, ◌++◌, refl, sym, ◌∙◌, ap, append_assoc, append-nil}
 use Rattle.std.specs.Prelude.{Err}
 use Rattle.sql_words.specs.Symbols.{Symbol}
-use Rattle.sql_reader.specs.declared.stop.Stop.{Stop}
-use Rattle.sql_reader.specs.Gives.{Gives}
-use Rattle.sql_reader.specs.Readings.{Read, after, nothing, both, head_is, choose, turn, many, joined}
-use Rattle.sql_reader.proofs.Repeats.{Shortens, many_is}
-use Rattle.sql_reader.proofs.Agains.{turn_ends}
+use Rattle.sql_phrases.specs.declared.stop.Stop.{Stop}
+use Rattle.sql_phrases.specs.Gives.{Gives}
+use Rattle.sql_phrases.specs.Readings.{Read, after, nothing, both, head_is, choose, turn, many, joined}
+use Rattle.sql_phrases.proofs.Repeats.{Shortens, many_is}
+use Rattle.sql_phrases.proofs.Agains.{turn_ends}
 
 joined_step : {T V : Type 0} (vs : List V) (v : V) (q : Read T (List V)) → joined vs (after q (λ ws. nothing (v ∷ ws))) ≡ joined (vs ++ (v ∷ [])) q
 unfolding nothing

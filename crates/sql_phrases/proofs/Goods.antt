@@ -13,13 +13,13 @@ use Rattle.sql_words.specs.contracts.token.SignPartialEq.TheImpl as signs
 use Rattle.sql_words.specs.contracts.token.BackPartialEq.TheImpl as backs
 use Rattle.sql_words.specs.Symbols.{Symbol}
 use Rattle.sql_tree.specs.Phrases.{One, Nothing, Then, Either, Many}
-use Rattle.sql_tree.specs.Spells.{Word, Glyph}
-use Rattle.sql_reader.specs.Readings.{Read, one, nothing, both, head_is, choose, many}
-use Rattle.sql_reader.specs.Classes.{Class, class_of, is_key, is_sign, same_class, has, in_set, disjoint, subset}
-use Rattle.sql_reader.specs.Readers.{word, glyph}
-use Rattle.sql_reader.proofs.Judges.{Takes, Judged, Judge, judge_nothing, judge_one, judge_both, judge_choose, judge_mark}
-use Rattle.sql_reader.proofs.Repeats.{Shortens, judge_many}
-use Rattle.sql_reader.proofs.Agains.{Ends, Again, again_one, again_nothing, again_both, again_choose, again_mark, again_many}
+use Rattle.sql_tree.specs.Symbols.{Word, Glyph}
+use Rattle.sql_phrases.specs.Readings.{Read, one, nothing, both, head_is, choose, many}
+use Rattle.sql_phrases.specs.Classes.{Class, class_of, is_key, is_sign, same_class, has, in_set, disjoint, subset}
+use Rattle.sql_phrases.specs.Readers.{word, glyph}
+use Rattle.sql_phrases.proofs.Judges.{Takes, Judged, Judge, judge_nothing, judge_one, judge_both, judge_choose, judge_mark}
+use Rattle.sql_phrases.proofs.Repeats.{Shortens, judge_many}
+use Rattle.sql_phrases.proofs.Agains.{Ends, Again, again_one, again_nothing, again_both, again_choose, again_mark, again_many}
 
 pub key_same : (j k : Key) → keys.ghosts.eq j k ≡ true → j ≡ k
 key_same j k h = same_true the_key.the_type (search rules) _ _ h

@@ -1,9 +1,9 @@
 ghost use Rattle.std.specs.Prelude.{◌≡◌, ◌==◌, ◌<◌, ◌^◌, length, All, IfOk};
-ghost use Rattle.sql_tree.specs.Spells.{name_of, number_of};
-ghost use Rattle.sql_reader.specs.Readings.{one, the, head_is};
-ghost use Rattle.sql_reader.specs.Classes.{is_key, is_sign};
+ghost use Rattle.sql_tree.specs.Symbols.{name_of, number_of};
+ghost use Rattle.sql_phrases.specs.Readings.{one, the, head_is};
+ghost use Rattle.sql_phrases.specs.Classes.{is_key, is_sign};
 ghost use Rattle.sql_words.specs.Words.{IsWithin};
-ghost use Rattle.sql_reader.specs.Gives.{Gives, seen};
+ghost use Rattle.sql_phrases.specs.Gives.{Gives, seen};
 
 use crate::stop::Stop;
 use col_value::Name;
@@ -23,7 +23,7 @@ impl<'a> Model for Tokens<'a> {
     ghost use Rattle.sql_words.specs.Symbols.{Symbol};
     ghost use Rattle.std.specs.Prelude.{All, length};
     ghost use Rattle.sql_words.specs.Words.{IsWithin};
-    ghost use Rattle.sql_reader.specs.Gives.{seen};
+    ghost use Rattle.sql_phrases.specs.Gives.{seen};
 
     ghost Value = { List Symbol };
 

@@ -1,8 +1,8 @@
 -- The judge of a repetition, and that its count of turns makes no difference.
 use Rattle.std.proofs.Common.{◌≡◌, ℕ, zero, suc, ◌<◌, ◌≤◌, inl, inr, Bool, if◌then◌else◌, List, [], ◌∷◌, ◌++◌, length, refl, sym, ◌∙◌, ap, subst, append-nil, arith}
 use Rattle.sql_tree.specs.Phrases.{Nothing, Then, Either, Many, Opens}
-use Rattle.sql_reader.specs.Readings.{Read, after, nothing, both, head_is, choose, turn, many_within, many}
-use Rattle.sql_reader.proofs.Judges.{Judged, Judge, widen, judge_nothing, both_at, choose_at}
+use Rattle.sql_phrases.specs.Readings.{Read, after, nothing, both, head_is, choose, turn, many_within, many}
+use Rattle.sql_phrases.proofs.Judges.{Judged, Judge, widen, judge_nothing, both_at, choose_at}
 
 -- what a takes is not empty
 abbrev pub Shortens : {T V : Type 0} → (List T → Read T V) → Type 0

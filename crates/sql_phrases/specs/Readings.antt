@@ -37,6 +37,14 @@ head_is p (t ∷ ts) = p t
 unfoldable pub choose : {T V : Type 0} → (T → Bool) → (List T → Read T V) → (List T → Read T V) → List T → Read T V
 choose p a b ts = if head_is p ts then a ts else b ts
 
+-- to take nothing
+unfoldable pub stop : {T V : Type 0} → List T → Read T V
+stop ts = Read.Stopped ts
+
+-- a, where p doesn't hold of the first element: no such element may stand there
+unfoldable pub refuse : {T V : Type 0} → (T → Bool) → (List T → Read T V) → List T → Read T V
+refuse p a = choose p stop a
+
 -- an element that p holds of carries no value
 abbrev pub marked : Bool → Option (Unit {0})
 marked true = Some tt

@@ -1,9 +1,9 @@
 -- The place of a refusal, from the judge of a reader and from what it reads again.
 use Rattle.std.proofs.Common.{◌≡◌, ℕ, zero, suc, ◌+◌, ◌-◌, ◌<◌, ◌≤◌, ◌⊎◌, inl, inr, Bool, List, [], ◌∷◌, ◌++◌, length, take, refl, sym, ◌∙◌, ap, subst, append_assoc, append-nil, arith, length-append}
 use Rattle.sql_tree.specs.Phrases.{Opens, IsPlace}
-use Rattle.sql_reader.specs.Readings.{Read}
-use Rattle.sql_reader.proofs.Judges.{Takes, Stops, Judged, Judge}
-use Rattle.sql_reader.proofs.Agains.{Again}
+use Rattle.sql_phrases.specs.Readings.{Read}
+use Rattle.sql_phrases.proofs.Judges.{Takes, Stops, Judged, Judge}
+use Rattle.sql_phrases.proofs.Agains.{Again}
 
 take_front : {T : Type 0} (front rest : List T) → take (length front) (front ++ rest) ≡ front
 take_front [] rest = refl

@@ -1,0 +1,2 @@
+//! The readers of expressions, which call one another.
+#![tactic(auto)]

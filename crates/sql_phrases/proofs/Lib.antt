@@ -1,0 +1,7 @@
+pub mod Judges
+pub mod Repeats
+pub mod Agains
+pub mod Placing
+pub mod Goods
+pub mod Rolling
+pub mod Productions

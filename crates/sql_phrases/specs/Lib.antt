@@ -1,0 +1,4 @@
+pub mod Readings
+pub mod Classes
+pub mod Readers
+pub mod Gives

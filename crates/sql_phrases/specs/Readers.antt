@@ -1,0 +1,284 @@
+-- How each production is read from the front.
+use Rattle.std.specs.Prelude.{ℕ, zero, suc, pos, neg_ℤ, Bool, true, false, List, [], ◌∷◌, Option, Some, None}
+use Rattle.col_value.specs.declared.kinds.ColType.{ColType}
+use Rattle.col_value.specs.declared.kinds.Encoding.{Encoding}
+use Rattle.col_value.specs.declared.wide.Wide.{Wide}
+use Rattle.sql_words.specs.declared.token.Back.{Back}
+use Rattle.sql_words.specs.declared.token.Key.{Key}
+use Rattle.sql_words.specs.declared.token.Sign.{Sign}
+use Rattle.sql_words.specs.Symbols.{Symbol}
+use Rattle.sql_tree.specs.declared.part.Addend.{Addend}
+use Rattle.sql_tree.specs.declared.part.Part.{Part}
+use Rattle.sql_tree.specs.declared.query.At.{At}
+use Rattle.sql_tree.specs.declared.query.Item.{Item}
+use Rattle.sql_tree.specs.declared.query.Items.{Items}
+use Rattle.sql_tree.specs.declared.query.KeyRef.{KeyRef}
+use Rattle.sql_tree.specs.declared.query.Query.{Query}
+use Rattle.sql_tree.specs.declared.query.SortKey.{SortKey}
+use Rattle.sql_tree.specs.declared.query.Source.{Source}
+use Rattle.sql_tree.specs.declared.statement.Function.{Function}
+use Rattle.sql_tree.specs.declared.statement.NewColumn.{NewColumn}
+use Rattle.sql_tree.specs.declared.statement.NewPart.{NewPart}
+use Rattle.sql_tree.specs.declared.statement.Setting.{Setting}
+use Rattle.sql_tree.specs.declared.statement.Statement.{Statement}
+use Rattle.sql_tree.specs.declared.tree.AggKind.{AggKind}
+use Rattle.sql_tree.specs.declared.tree.ColRef.{ColRef}
+use Rattle.sql_tree.specs.declared.tree.Tree.{Tree}
+use Rattle.sql_tree.specs.declared.tree.Tree
+use Rattle.sql_tree.specs.Symbols.{name_of, text_of, number_of, width_of, session_of, cmp_of}
+use Rattle.sql_tree.specs.Makers.{constant, column, negated, denied, is_null, compared, between, one_of, chained, addend, summed, count_all, aggregated}
+use Rattle.sql_tree.specs.Queries.{joined_on}
+use Rattle.sql_phrases.specs.Readings.{Read, one, nothing, both, choose, refuse, mark, many}
+use Rattle.sql_phrases.specs.Classes.{is_key, is_sign, is_back, in_set, name_classes, number_classes, text_classes, cmp_classes, signed_classes, aggregate_classes, source_classes, call_classes}
+
+abbrev pub Reads : Type 0 → Type 0
+Reads V = List Symbol → Read Symbol V
+
+-- a keyword, and behind it a
+abbrev pub word : {V : Type 0} → Key → Reads V → Reads V
+word k a = mark (is_key k) a
+
+-- a sign, and behind it a
+abbrev pub glyph : {V : Type 0} → Sign → Reads V → Reads V
+glyph s a = mark (is_sign s) a
+
+-- a command, and behind it a
+abbrev pub command : {V : Type 0} → Back → Reads V → Reads V
+command b a = mark (is_back b) a
+
+-- a between parentheses
+unfoldable pub inside : {V : Type 0} → Reads V → Reads V
+inside a = glyph Sign.Open (both a (λ x. glyph Sign.Close (nothing x)))
+
+-- a once or more, with a keyword between two
+unfoldable pub by_word : {X V : Type 0} → Key → Reads X → (X → List X → V) → Reads V
+by_word k a f = both a (λ x. both (many (is_key k) (word k a)) (λ xs. nothing (f x xs)))
+
+-- a once or more, with a sign between two
+unfoldable pub by_glyph : {X V : Type 0} → Sign → Reads X → (X → List X → V) → Reads V
+by_glyph s a f = both a (λ x. both (many (is_sign s) (glyph s a)) (λ xs. nothing (f x xs)))
+
+-- a once or more, with commas
+unfoldable pub listed : {V : Type 0} → Reads V → Reads (List V)
+listed a = both a (λ x. both (many (is_sign Sign.Comma) (glyph Sign.Comma a)) (λ xs. nothing (x ∷ xs)))
+
+-- expressions
+
+unfoldable pub named_constant : Reads Wide
+named_constant = choose (is_key Key.True) (word Key.True (nothing (Wide.Bool true))) (choose (is_key Key.False) (word Key.False (nothing (Wide.Bool false))) (word Key.Null (nothing Wide.Null)))
+
+unfoldable pub a_constant : Reads Wide
+a_constant = choose (in_set number_classes) (both (one number_of) (λ n. nothing (Wide.Int (pos n)))) (choose (in_set text_classes) (both (one text_of) (λ t. nothing (Wide.Text t))) named_constant)
+
+unfoldable pub literal : Reads Wide
+literal = choose (is_sign Sign.Minus) (glyph Sign.Minus (both (one number_of) (λ n. nothing (Wide.Int (neg_ℤ (pos n)))))) a_constant
+
+unfoldable pub qualified : List ℕ → Reads ColRef
+qualified n = choose (is_sign Sign.Dot) (glyph Sign.Dot (both (one name_of) (λ m. nothing (record { qualifier = Some n; name = m })))) (nothing (record { qualifier = None; name = n }))
+
+unfoldable pub reference : Reads ColRef
+reference = both (one name_of) qualified
+
+unfoldable pub atom : Reads Part
+atom = choose (in_set name_classes) (both reference (λ c. nothing (column c))) (both a_constant (λ w. nothing (constant w)))
+
+unfoldable pub unary : Reads Part → Reads Part
+unary p = choose (is_sign Sign.Minus) (glyph Sign.Minus (both p (λ x. nothing (negated x)))) p
+
+unfoldable pub product : Reads Part → Reads Part
+product p = by_glyph Sign.Star (unary p) (chained Tree.Product)
+
+unfoldable pub signed : Reads Part → Reads Addend
+signed p = choose (is_sign Sign.Plus) (glyph Sign.Plus (both (product p) (λ x. nothing (addend false x)))) (glyph Sign.Minus (both (product p) (λ x. nothing (addend true x))))
+
+unfoldable pub sum : Reads Part → Reads Part
+sum p = both (product p) (λ x. both (many (in_set signed_classes) (signed p)) (λ ys. nothing (summed x ys)))
+
+unfoldable pub comparison : Reads Part → Part → Reads Part
+comparison p x = both (one cmp_of) (λ cmp. both (sum p) (λ y. nothing (compared x cmp y)))
+
+unfoldable pub null_test : Part → Reads Part
+null_test x = word Key.Is (choose (is_key Key.Not) (word Key.Not (word Key.Null (nothing (denied (is_null x))))) (word Key.Null (nothing (is_null x))))
+
+unfoldable pub betweens : Reads Part → Part → Reads Part
+betweens p x = word Key.Between (both (sum p) (λ y. word Key.And (both (sum p) (λ z. nothing (between x y z)))))
+
+unfoldable pub among : Reads Part → Part → Reads Part
+among p x = word Key.In (inside (by_glyph Sign.Comma (sum p) (one_of x)))
+
+unfoldable pub ranged : Reads Part → Part → Bool → Reads Part
+ranged p x true = refuse (is_key Key.Between) (refuse (is_key Key.In) (nothing x))
+ranged p x false = choose (is_key Key.Between) (betweens p x) (choose (is_key Key.In) (among p x) (nothing x))
+
+unfoldable pub tail : Reads Part → Part → Reads Part
+tail p x = choose (in_set cmp_classes) (comparison p x) (choose (is_key Key.Is) (null_test x) (ranged p x x.holds))
+
+unfoldable pub predicate : Reads Part → Reads Part
+predicate p = both (sum p) (tail p)
+
+unfoldable pub negation : Reads Part → Reads Part
+negation p = choose (is_key Key.Not) (word Key.Not (both (predicate p) (λ x. nothing (denied x)))) (predicate p)
+
+unfoldable pub conjunction : Reads Part → Reads Part
+conjunction p = by_word Key.And (negation p) (chained Tree.And)
+
+unfoldable pub over : Reads Part → Reads Part
+over p = by_word Key.Or (conjunction p) (chained Tree.Or)
+
+unfoldable pub argument : AggKind → Reads Part → Reads Part
+argument kind e = both (inside e) (λ x. nothing (aggregated kind x))
+
+unfoldable pub counted : Reads Part → Reads Part
+counted e = inside (choose (is_sign Sign.Star) (glyph Sign.Star (nothing count_all)) (both e (λ x. nothing (aggregated AggKind.Count x))))
+
+unfoldable pub aggregate : Reads Part → Reads Part
+aggregate e = choose (is_key Key.Count) (word Key.Count (counted e)) (choose (is_key Key.Sum) (word Key.Sum (argument AggKind.Sum e)) (choose (is_key Key.Min) (word Key.Min (argument AggKind.Min e)) (word Key.Max (argument AggKind.Max e))))
+
+unfoldable pub primary : ℕ → Reads Part
+primary zero = atom
+primary (suc depth) = choose (is_sign Sign.Open) (inside (over (primary depth))) atom
+
+unfoldable pub leaf : ℕ → Reads Part
+leaf depth = choose (in_set aggregate_classes) (aggregate (over (primary depth))) atom
+
+unfoldable pub grouped : ℕ → Reads Part
+grouped zero = leaf zero
+grouped (suc depth) = choose (is_sign Sign.Open) (inside (over (grouped depth))) (leaf (suc depth))
+
+-- the primary of a gexpr, or of an expr
+abbrev pub base : Bool → ℕ → Reads Part
+base true depth = grouped depth
+base false depth = primary depth
+
+unfoldable pub expr : Reads Tree
+expr = both (over (base false 32)) (λ x. nothing x.tree)
+
+unfoldable pub grouped_expr : Reads Tree
+grouped_expr = both (over (base true 32)) (λ x. nothing x.tree)
+
+-- queries
+
+unfoldable pub alias : Reads (Option (List ℕ))
+alias = choose (is_key Key.As) (word Key.As (both (one name_of) (λ n. nothing (Some n)))) (nothing None)
+
+unfoldable pub select_item : Reads Item
+select_item = both grouped_expr (λ e. both alias (λ a. nothing (record { tree = e; alias = a })))
+
+unfoldable pub select_list : Reads Items
+select_list = choose (is_sign Sign.Star) (glyph Sign.Star (nothing Items.Star)) (both (listed select_item) (λ is. nothing (Items.Listed is)))
+
+unfoldable pub from_item : Reads Source
+from_item = both (one name_of) (λ t. both alias (λ a. nothing (record { table = t; alias = a; on = None })))
+
+unfoldable pub joins : Reads Source
+joins = both from_item (λ s. word Key.On (both expr (λ e. nothing (joined_on s e))))
+
+unfoldable pub next_source : Reads Source
+next_source = choose (is_sign Sign.Comma) (glyph Sign.Comma from_item) (choose (is_key Key.Inner) (word Key.Inner (word Key.Join joins)) (word Key.Join joins))
+
+unfoldable pub sources : Reads (List Source)
+sources = both from_item (λ s. both (many (in_set source_classes) next_source) (λ ss. nothing (s ∷ ss)))
+
+unfoldable pub where_clause : Reads (Option Tree)
+where_clause = choose (is_key Key.Where) (word Key.Where (both expr (λ e. nothing (Some e)))) (nothing None)
+
+unfoldable pub group_by : Reads (List ColRef)
+group_by = choose (is_key Key.Group) (word Key.Group (word Key.By (listed reference))) (nothing [])
+
+unfoldable pub having : Reads (Option Tree)
+having = choose (is_key Key.Having) (word Key.Having (both grouped_expr (λ e. nothing (Some e)))) (nothing None)
+
+unfoldable pub key_name : Reads KeyRef
+key_name = choose (in_set number_classes) (both (one number_of) (λ n. nothing (KeyRef.Number (pos n)))) (both (one name_of) (λ n. nothing (KeyRef.Name n)))
+
+unfoldable pub descending : Reads Bool
+descending = choose (is_key Key.Asc) (word Key.Asc (nothing false)) (choose (is_key Key.Desc) (word Key.Desc (nothing true)) (nothing false))
+
+unfoldable pub order_key : Reads SortKey
+order_key = both key_name (λ k. both descending (λ d. nothing (record { key = k; descending = d })))
+
+unfoldable pub order_by : Reads (List SortKey)
+order_by = choose (is_key Key.Order) (word Key.Order (word Key.By (listed order_key))) (nothing [])
+
+unfoldable pub limit : Reads (Option ℕ)
+limit = choose (is_key Key.Limit) (word Key.Limit (both (one number_of) (λ n. nothing (Some n)))) (nothing None)
+
+unfoldable pub queries : Reads Query
+queries = both select_list (λ is. word Key.From (both sources (λ ss. both where_clause (λ w. both group_by (λ g. both having (λ h. both order_by (λ o. both limit (λ l. nothing (record { items = is; sources = ss; keep = w; group = g; having = h; order = o; limit = l })))))))))
+
+-- statements
+
+unfoldable pub kind : Reads ColType
+kind = choose (is_key Key.Integer) (word Key.Integer (nothing ColType.Integer)) (choose (is_key Key.Int) (word Key.Int (nothing ColType.Integer)) (choose (is_key Key.Bigint) (word Key.Bigint (nothing ColType.Integer)) (choose (is_key Key.Boolean) (word Key.Boolean (nothing ColType.Boolean)) (word Key.Varchar (both (inside (one width_of)) (λ n. nothing (ColType.Varchar n)))))))
+
+unfoldable pub not_null : Reads Bool
+not_null = choose (is_key Key.Not) (word Key.Not (word Key.Null (nothing true))) (nothing false)
+
+unfoldable pub new_column : Reads NewColumn
+new_column = both (one name_of) (λ n. both kind (λ k. both not_null (λ b. nothing (record { name = n; kind = k; not_null = b }))))
+
+unfoldable pub creates_table : Reads Statement
+creates_table = word Key.Table (both (one name_of) (λ t. both (inside (listed new_column)) (λ cs. nothing (Statement.CreateTable t cs))))
+
+unfoldable pub encoding_name : Reads Encoding
+encoding_name = choose (is_key Key.Auto) (word Key.Auto (nothing Encoding.Auto)) (choose (is_key Key.Rle) (word Key.Rle (nothing Encoding.Rle)) (choose (is_key Key.Deltaval) (word Key.Deltaval (nothing Encoding.DeltaVal)) (choose (is_key Key.BlockDict) (word Key.BlockDict (nothing Encoding.BlockDict)) (word Key.Plain (nothing Encoding.Plain)))))
+
+unfoldable pub encoded : Reads Encoding
+encoded = choose (is_key Key.Encoding) (word Key.Encoding encoding_name) (nothing Encoding.Auto)
+
+unfoldable pub new_part : Reads NewPart
+new_part = both (one name_of) (λ n. both encoded (λ e. nothing (record { name = n; encoding = e })))
+
+unfoldable pub sorted_by : Reads (Option (List (List ℕ)))
+sorted_by = choose (is_key Key.Order) (word Key.Order (word Key.By (both (listed (one name_of)) (λ ns. nothing (Some ns))))) (nothing None)
+
+unfoldable pub creates_projection : Reads Statement
+creates_projection = word Key.Projection (both (one name_of) (λ p. both (inside (listed new_part)) (λ ps. word Key.As (word Key.Select (both (listed (one name_of)) (λ ns. word Key.From (both (one name_of) (λ t. both sorted_by (λ o. nothing (Statement.CreateProjection (record { name = p; parts = ps; selected = ns; table = t; sort = o })))))))))))
+
+unfoldable pub creates : Reads Statement
+creates = word Key.Create (choose (is_key Key.Table) creates_table creates_projection)
+
+unfoldable pub drops : Reads Statement
+drops = word Key.Drop (choose (is_key Key.Table) (word Key.Table (both (one name_of) (λ t. nothing (Statement.DropTable t)))) (word Key.Projection (both (one name_of) (λ p. nothing (Statement.DropProjection p)))))
+
+unfoldable pub tuple : Reads (List Wide)
+tuple = inside (listed literal)
+
+unfoldable pub inserts : Reads Statement
+inserts = word Key.Insert (word Key.Into (both (one name_of) (λ t. word Key.Values (both (listed tuple) (λ rows. nothing (Statement.Insert (record { table = t; rows = rows })))))))
+
+unfoldable pub deletes : Reads Statement
+deletes = word Key.Delete (word Key.From (both (one name_of) (λ t. both where_clause (λ w. nothing (Statement.Delete (record { table = t; keep = w }))))))
+
+unfoldable pub sets : Reads Setting
+sets = both (one name_of) (λ c. glyph Sign.Equal (both expr (λ e. nothing (record { column = c; tree = e }))))
+
+unfoldable pub updates : Reads Statement
+updates = word Key.Update (both (one name_of) (λ t. word Key.Set (both (listed sets) (λ ss. both where_clause (λ w. nothing (Statement.Update (record { table = t; settings = ss; keep = w })))))))
+
+unfoldable pub copies : Reads Statement
+copies = word Key.Copy (both (one name_of) (λ t. word Key.From (both (one text_of) (λ f. nothing (Statement.Copy t f)))))
+
+unfoldable pub calls : Reads Function
+calls = choose (is_key Key.GetLastGoodEpoch) (word Key.GetLastGoodEpoch (glyph Sign.Open (glyph Sign.Close (nothing Function.Lge)))) (word Key.GetCurrentEpoch (glyph Sign.Open (glyph Sign.Close (nothing Function.Current))))
+
+unfoldable pub selects : Reads Statement
+selects = word Key.Select (choose (in_set call_classes) (both calls (λ f. nothing (Statement.Call f))) (both queries (λ q. nothing (Statement.Select At.View q))))
+
+unfoldable pub epochs : Reads At
+epochs = choose (in_set number_classes) (both (one number_of) (λ n. nothing (At.Epoch n))) (word Key.Latest (nothing At.Latest))
+
+unfoldable pub selects_at : Reads Statement
+selects_at = word Key.At (word Key.Epoch (both epochs (λ at. word Key.Select (both queries (λ q. nothing (Statement.Select at q))))))
+
+unfoldable pub explains : Reads Statement
+explains = word Key.Explain (word Key.Select (both queries (λ q. nothing (Statement.Explain q))))
+
+unfoldable pub sessions : Reads Statement
+sessions = command Back.Session (both (one session_of) (λ n. nothing (Statement.Session n)))
+
+unfoldable pub controls : Reads Statement
+controls = choose (is_key Key.Commit) (word Key.Commit (nothing Statement.Commit)) (choose (is_key Key.Rollback) (word Key.Rollback (nothing Statement.Rollback)) (choose (is_back Back.Session) sessions (command Back.Step (nothing Statement.Step))))
+
+unfoldable pub reads : Reads Statement
+reads = choose (is_key Key.Create) creates (choose (is_key Key.Drop) drops (choose (is_key Key.Insert) inserts (choose (is_key Key.Delete) deletes (choose (is_key Key.Update) updates (choose (is_key Key.Copy) copies (choose (is_key Key.Select) selects (choose (is_key Key.At) selects_at (choose (is_key Key.Explain) explains controls))))))))

@@ -1,0 +1,103 @@
+-- What one symbol spells, and the words of the grammar over symbols.
+use Rattle.std.specs.Prelude.{ℕ, ◌^◌, ◌&&◌, nat_lt, nat_le, if◌then◌else◌, Bool, ℤ, pos, negsuc, List, ◌∷◌, Option, Some, None}
+use Rattle.sql_words.specs.declared.token.Key.{Key}
+use Rattle.sql_words.specs.declared.token.Sign.{Sign}
+use Rattle.sql_words.specs.declared.token.Back.{Back}
+use Rattle.sql_words.specs.Symbols.{Symbol}
+use Rattle.sql_tree.specs.declared.tree.Cmp.{Cmp}
+use Rattle.sql_tree.specs.Phrases.{Phrase, Mark, Nothing, Then, Chain}
+
+-- a phrase over symbols
+abbrev pub Spelling : Type 0 → Type 1
+Spelling V = Phrase Symbol V
+
+-- a keyword, then A
+abbrev pub Word : {V : Type 0} → Key → Spelling V → Spelling V
+Word k A = Mark (Symbol.Keyword k) A
+
+-- a sign, then A
+abbrev pub Glyph : {V : Type 0} → Sign → Spelling V → Spelling V
+Glyph s A = Mark (Symbol.Mark s) A
+
+-- a command, then A
+abbrev pub Command : {V : Type 0} → Back → Spelling V → Spelling V
+Command b A = Mark (Symbol.Command b) A
+
+-- ( A )
+abbrev pub Inside : {V : Type 0} → Spelling V → Spelling V
+Inside A = Glyph Sign.Open (Then A (λ x. Glyph Sign.Close (Nothing x)))
+
+-- A {, A}
+abbrev pub Listed : {V : Type 0} → Spelling V → Spelling (List V)
+Listed A = Chain (Symbol.Mark Sign.Comma) A (λ x xs. x ∷ xs)
+
+abbrev pub name_of : Symbol → Option (List ℕ)
+name_of (Symbol.Keyword k) = None
+name_of (Symbol.Name n) = Some n
+name_of (Symbol.Number n) = None
+name_of (Symbol.Text t) = None
+name_of (Symbol.Mark s) = None
+name_of (Symbol.Command b) = None
+name_of Symbol.Unknown = None
+
+abbrev pub text_of : Symbol → Option (List ℕ)
+text_of (Symbol.Keyword k) = None
+text_of (Symbol.Name n) = None
+text_of (Symbol.Number n) = None
+text_of (Symbol.Text t) = Some t
+text_of (Symbol.Mark s) = None
+text_of (Symbol.Command b) = None
+text_of Symbol.Unknown = None
+
+-- a number without a sign
+abbrev pub natural_of : ℤ → Option ℕ
+natural_of (pos n) = Some n
+natural_of (negsuc n) = None
+
+abbrev pub number_of : Symbol → Option ℕ
+number_of (Symbol.Keyword k) = None
+number_of (Symbol.Name n) = None
+number_of (Symbol.Number n) = natural_of n
+number_of (Symbol.Text t) = None
+number_of (Symbol.Mark s) = None
+number_of (Symbol.Command b) = None
+number_of Symbol.Unknown = None
+
+-- a number that p holds of
+abbrev pub kept : (ℕ → Bool) → Option ℕ → Option ℕ
+kept p None = None
+kept p (Some n) = if p n then Some n else None
+
+-- the number of a VARCHAR: below 2^32
+abbrev pub width_of : Symbol → Option ℕ
+width_of t = kept (λ n. nat_lt n (2 ^ 32)) (number_of t)
+
+-- the number of a session: 1 to 8
+abbrev pub session_of : Symbol → Option ℕ
+session_of t = kept (λ n. nat_le 1 n && nat_le n 8) (number_of t)
+
+-- how a sign compares
+abbrev pub compares : Sign → Option Cmp
+compares Sign.Open = None
+compares Sign.Close = None
+compares Sign.Comma = None
+compares Sign.Dot = None
+compares Sign.Star = None
+compares Sign.Plus = None
+compares Sign.Minus = None
+compares Sign.Equal = Some Cmp.Eq
+compares Sign.NotEqual = Some Cmp.Ne
+compares Sign.Less = Some Cmp.Lt
+compares Sign.AtMost = Some Cmp.Le
+compares Sign.Greater = Some Cmp.Gt
+compares Sign.AtLeast = Some Cmp.Ge
+
+-- "=" | "<>" | "!=" | "<" | "<=" | ">" | ">="
+abbrev pub cmp_of : Symbol → Option Cmp
+cmp_of (Symbol.Keyword k) = None
+cmp_of (Symbol.Name n) = None
+cmp_of (Symbol.Number n) = None
+cmp_of (Symbol.Text t) = None
+cmp_of (Symbol.Mark s) = compares s
+cmp_of (Symbol.Command b) = None
+cmp_of Symbol.Unknown = None
