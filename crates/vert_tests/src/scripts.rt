@@ -1,6 +1,6 @@
 //! Scripts that run to their end.
 
-use crate::running::{NONE, ran};
+use vert_harness::{NONE, ran};
 use std::test::Fail;
 use vert_cli::Status;
 

@@ -1,6 +1,6 @@
 //! Runs that stop, and runs that don't begin.
 
-use crate::running::{NONE, Trouble, ran, words};
+use vert_harness::{NONE, Trouble, ran, words};
 use col_disk::{Disk, MemDisk};
 use col_io::{MemFiles, MemSink};
 use std::test::Fail;

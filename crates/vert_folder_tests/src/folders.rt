@@ -1,6 +1,6 @@
 //! Runs one after the other on one disk.
 
-use crate::running::{NONE, ran, ran_on};
+use vert_harness::{NONE, ran, ran_on};
 use col_disk::{Disk, MemDisk};
 use std::alloc::Global;
 use std::test::Fail;

@@ -2,8 +2,7 @@
 
 use col_disk::MemDisk;
 use col_io::{MemFiles, MemSink};
-use std::alloc::Global;
-use std::test::Fail;
+use std::alloc::{AllocError, Global};
 use vert_cli::{Status, run};
 
 /// What fails, and how much the sink takes at once.
@@ -22,7 +21,7 @@ pub const NONE: Trouble<'static> = Trouble {
 };
 
 /// These words, the program's name first.
-pub fn words(alloc: Global, all: &[&str]) -> Result<Vec<String>, Fail> {
+pub fn words(alloc: Global, all: &[&str]) -> Result<Vec<String>, AllocError> {
     let mut words = Vec::new(alloc);
     for word in all {
         words.push(String::from_str(alloc, word)?)?;
@@ -36,7 +35,7 @@ pub fn ran_on(
     script: &[u8],
     trouble: &Trouble,
     disk: &mut MemDisk,
-) -> Result<(Status, MemSink), Fail> {
+) -> Result<(Status, MemSink), AllocError> {
     let words = words(alloc, &["vert", "DIR", "s.sql"])?;
     let mut files = MemFiles::new(alloc, Vec::from_slice(alloc, trouble.reads)?);
     files.put(alloc, "s.sql", Vec::from_slice(alloc, script)?)?;
@@ -46,6 +45,6 @@ pub fn ran_on(
 }
 
 /// The same over an empty disk.
-pub fn ran(alloc: Global, script: &[u8], trouble: &Trouble) -> Result<(Status, MemSink), Fail> {
+pub fn ran(alloc: Global, script: &[u8], trouble: &Trouble) -> Result<(Status, MemSink), AllocError> {
     ran_on(alloc, script, trouble, &mut MemDisk::new(alloc))
 }

@@ -1,7 +1,7 @@
 //! A disk that fails, and files that are not what they were.
 
 use crate::folders::{NAMES, QUERY, ROWS, two_rows};
-use crate::running::{NONE, ran_on};
+use vert_harness::{NONE, ran_on};
 use col_disk::Disk;
 use std::test::Fail;
 use vert_cli::Status;
