@@ -1,5 +1,5 @@
 -- Each production is good.
-use Rattle.std.proofs.Common.{◌≡◌, ℕ, pos, true, false, List, [], ◌∷◌, Some, refl}
+use Rattle.std.proofs.Common.{◌≡◌, ℕ, true, false, List, [], ◌∷◌, Some, refl}
 use Rattle.sql_words.specs.declared.token.Key.{Key}
 use Rattle.sql_words.specs.declared.token.Sign.{Sign}
 use Rattle.sql_words.specs.Symbols.{Symbol}
@@ -33,7 +33,7 @@ pub good_name : Good (One name_of) (one name_of) (Class.OfName ∷ []) false []
 good_name = good_one name_of (Class.OfName ∷ []) (Symbol.Name []) [] refl name_only
 
 pub good_number : Good (One number_of) (one number_of) (Class.OfNumber ∷ []) false []
-good_number = good_one number_of (Class.OfNumber ∷ []) (Symbol.Number (pos 0)) 0 refl number_only
+good_number = good_one number_of (Class.OfNumber ∷ []) (Symbol.Number 0) 0 refl number_only
 
 pub good_integer : Good Integer integer (Class.OfSign Sign.Minus ∷ (Class.OfNumber ∷ [])) false []
 unfolding integer

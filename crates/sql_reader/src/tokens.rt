@@ -7,7 +7,7 @@ ghost use Rattle.sql_reader.specs.Gives.{Gives, seen};
 
 use crate::stop::Stop;
 use col_value::Name;
-use sql_words::{Key, Sign, Token, TokenKind, name_bytes};
+use sql_words::{Key, Sign, Token, TokenKind, name_bytes, number_at};
 use std::alloc::Global;
 use std::marker::Model;
 
@@ -140,13 +140,13 @@ impl<'a> Tokens<'a> {
     {
         match self.left {
             [token, rest @ ..] => match token.kind {
-                TokenKind::Int(number) => {
-                    if number < 0 {
-                        return Err(Stop::Here);
+                TokenKind::Int => match number_at(self.text, token) {
+                    Some(number) => {
+                        self.left = rest;
+                        Ok(number)
                     }
-                    self.left = rest;
-                    Ok(number as u128)
-                }
+                    None => Err(Stop::Here),
+                },
                 _ => Err(Stop::Here),
             },
             [] => Err(Stop::Here),

@@ -1,5 +1,5 @@
 -- Which symbols spell which statement: one line for each production.
-use Rattle.std.specs.Prelude.{ℕ, ℤ, pos, negsuc, neg_ℤ, List, [], ◌∷◌, Option, Some, None, false}
+use Rattle.std.specs.Prelude.{ℕ, pos, neg_ℤ, List, [], ◌∷◌, Option, Some, None, false}
 use Rattle.col_value.specs.declared.wide.Wide.{Wide}
 use Rattle.col_value.specs.declared.kinds.ColType.{ColType}
 use Rattle.sql_words.specs.declared.token.Key.{Key}
@@ -34,15 +34,10 @@ name_of (Symbol.Mark s) = None
 name_of (Symbol.Command b) = None
 name_of Symbol.Unknown = None
 
--- a number without a sign
-abbrev pub natural_of : ℤ → Option ℕ
-natural_of (pos n) = Some n
-natural_of (negsuc n) = None
-
 abbrev pub number_of : Symbol → Option ℕ
 number_of (Symbol.Keyword k) = None
 number_of (Symbol.Name n) = None
-number_of (Symbol.Number n) = natural_of n
+number_of (Symbol.Number n) = Some n
 number_of (Symbol.Text t) = None
 number_of (Symbol.Mark s) = None
 number_of (Symbol.Command b) = None
