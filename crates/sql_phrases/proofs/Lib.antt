@@ -5,4 +5,6 @@ pub mod Placing
 pub mod Goods
 pub mod Shapes
 pub mod Rolling
-pub mod Productions
+pub mod Sets
+pub mod Leaves
+pub mod GoodExpressions

@@ -4,9 +4,9 @@ use Rattle.sql_words.specs.declared.token.Key.{Key}
 use Rattle.sql_words.specs.declared.token.Sign.{Sign}
 use Rattle.sql_words.specs.declared.token.Back.{Back}
 use Rattle.sql_words.specs.Symbols.{Symbol}
-use Rattle.sql_tree.specs.Phrases.{Nothing, Then, Either, Many, Chain}
+use Rattle.sql_tree.specs.Phrases.{Either, Chain}
 use Rattle.sql_tree.specs.Symbols.{Inside, Listed}
-use Rattle.sql_phrases.specs.Readings.{Read, nothing, both, choose, many}
+use Rattle.sql_phrases.specs.Readings.{Read, choose}
 use Rattle.sql_phrases.specs.Classes.{Class, is_key, is_sign, is_back, in_set, disjoint, subset}
 use Rattle.sql_phrases.specs.Readers.{inside, by_word, by_glyph, listed}
 use Rattle.sql_phrases.proofs.Goods.{Good, key_hits, sign_hits, back_hits, key_tells, sign_tells, back_tells, good_nothing, good_key, good_sign, good_then, good_made, empty_more, good_either, good_many}
