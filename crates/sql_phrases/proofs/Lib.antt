@@ -3,5 +3,8 @@ pub mod Repeats
 pub mod Agains
 pub mod Placing
 pub mod Goods
+pub mod Shapes
 pub mod Rolling
-pub mod Productions
+pub mod Sets
+pub mod Leaves
+pub mod GoodExpressions
