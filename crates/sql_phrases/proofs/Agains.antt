@@ -1,8 +1,8 @@
 -- What is spelled is read again, where nothing that could go on stands behind it.
 use Rattle.std.proofs.Common.{◌≡◌, inl, inr, Bool, true, false, if◌then◌else◌, List, [], ◌∷◌, ◌++◌, Option, sym, ◌∙◌, ap, append_assoc}
 use Rattle.sql_tree.specs.Phrases.{One, Mark, Nothing, Then, Either, Many}
-use Rattle.sql_phrases.specs.Readings.{Read, after, picked, one, nothing, both, head_is, choose, marked, mark, turn, many}
-use Rattle.sql_phrases.proofs.Repeats.{Shortens, many_is}
+use Rattle.sql_phrases.specs.Readings.{Read, Shortens, after, picked, one, nothing, both, head_is, choose, marked, mark, turn, many}
+use Rattle.sql_phrases.proofs.Repeats.{many_is}
 
 -- no element that `more` holds of stands at the front
 abbrev pub Ends : {T : Type 0} → (T → Bool) → List T → Type 0

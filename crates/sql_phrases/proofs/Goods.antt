@@ -14,11 +14,11 @@ use Rattle.sql_words.specs.contracts.token.BackPartialEq.TheImpl as backs
 use Rattle.sql_words.specs.Symbols.{Symbol}
 use Rattle.sql_tree.specs.Phrases.{One, Nothing, Then, Either, Many}
 use Rattle.sql_tree.specs.Symbols.{Word, Glyph}
-use Rattle.sql_phrases.specs.Readings.{Read, one, nothing, both, head_is, choose, many}
+use Rattle.sql_phrases.specs.Readings.{Read, Shortens, one, nothing, both, head_is, choose, many}
 use Rattle.sql_phrases.specs.Classes.{Class, class_of, is_key, is_sign, same_class, has, in_set, disjoint, subset}
 use Rattle.sql_phrases.specs.Readers.{word, glyph}
 use Rattle.sql_phrases.proofs.Judges.{Takes, Judged, Judge, judge_nothing, judge_one, judge_both, judge_choose, judge_mark}
-use Rattle.sql_phrases.proofs.Repeats.{Shortens, judge_many}
+use Rattle.sql_phrases.proofs.Repeats.{judge_many}
 use Rattle.sql_phrases.proofs.Agains.{Ends, Again, again_one, again_nothing, again_both, again_choose, again_mark, again_many}
 
 pub key_same : (j k : Key) → keys.ghosts.eq j k ≡ true → j ≡ k

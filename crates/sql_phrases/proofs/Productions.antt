@@ -1,5 +1,5 @@
 -- Each production is good.
-use Rattle.std.proofs.Common.{◌≡◌, ℕ, pos, true, false, List, [], ◌∷◌, Some, refl}
+use Rattle.std.proofs.Common.{◌≡◌, ℕ, true, false, List, [], ◌∷◌, Some, refl}
 use Rattle.sql_words.specs.Symbols.{Symbol}
 use Rattle.sql_tree.specs.Phrases.{One}
 use Rattle.sql_tree.specs.Symbols.{name_of, number_of}
@@ -29,4 +29,4 @@ pub good_name : Good (One name_of) (one name_of) (Class.OfName ∷ []) false []
 good_name = good_one name_of (Class.OfName ∷ []) (Symbol.Name []) [] refl name_only
 
 pub good_number : Good (One number_of) (one number_of) (Class.OfNumber ∷ []) false []
-good_number = good_one number_of (Class.OfNumber ∷ []) (Symbol.Number (pos 0)) 0 refl number_only
+good_number = good_one number_of (Class.OfNumber ∷ []) (Symbol.Number 0) 0 refl number_only

@@ -1,12 +1,22 @@
 -- The turns of a loop that reads again and again.
-use Rattle.std.proofs.Common.{◌≡◌, Bool, true, false, if◌then◌else◌, List, [], ◌∷◌, ◌++◌, refl, sym, ◌∙◌, ap, append_assoc, append-nil}
+use Rattle.std.proofs.Common.{◌≡◌, Bool, true, false, if◌then◌else◌, List, [], ◌∷◌, ◌++◌, length, ◌<◌, arith, refl, sym, ◌∙◌, ap, append_assoc, append-nil}
 use Rattle.std.specs.Prelude.{Err}
 use Rattle.sql_words.specs.Symbols.{Symbol}
 use Rattle.sql_phrases.specs.declared.stop.Stop.{Stop}
 use Rattle.sql_phrases.specs.Gives.{Gives}
-use Rattle.sql_phrases.specs.Readings.{Read, after, nothing, both, head_is, choose, turn, many, joined}
-use Rattle.sql_phrases.proofs.Repeats.{Shortens, many_is}
+use Rattle.sql_phrases.specs.Readings.{Read, Shortens, after, picked, one, nothing, both, head_is, choose, marked, mark, turn, many, joined}
+use Rattle.sql_phrases.proofs.Repeats.{many_is}
 use Rattle.sql_phrases.proofs.Agains.{turn_ends}
+
+mark_takes : {T V : Type 0} (a : List T → Read T V) → Shortens a → (t : T) (ts : List T) (v : V) (rest : List T) (b : Bool) → after (picked t ts (marked b)) (λ u. a) ≡ Read.Took v rest → length rest < length (t ∷ ts)
+mark_takes a shorter t ts v rest true e = let s = shorter ts v rest e in omega arith
+mark_takes a shorter t ts v rest false e = absurd cc
+
+-- what stands behind a mark is shorter still
+pub mark_shortens : {T V : Type 0} (p : T → Bool) (a : List T → Read T V) → Shortens a → Shortens (mark p a)
+unfolding mark both one
+mark_shortens p a shorter [] v rest e = absurd cc
+mark_shortens p a shorter (t ∷ ts) v rest e = mark_takes a shorter t ts v rest (p t) e
 
 joined_step : {T V : Type 0} (vs : List V) (v : V) (q : Read T (List V)) → joined vs (after q (λ ws. nothing (v ∷ ws))) ≡ joined (vs ++ (v ∷ [])) q
 unfolding nothing

@@ -7,8 +7,10 @@
 //! spelled is read and has one value, and where a reader stops is the exact place of the refusal.
 #![tactic(auto)]
 
+mod list;
 mod stop;
 mod tokens;
 
+pub use list::{Spelled, listed};
 pub use stop::Stop;
 pub use tokens::Tokens;
