@@ -1,2 +1,12 @@
 //! The readers of expressions, which call one another.
+//!
+//! `expr` and `grouped_expr` read what `sql_tree` calls Expr and GroupedExpr, `literal` and `reference` its Literal and
+//! Reference: each promises `Gives` of its reader on lists. Time is linear in the tokens: chains and lists are loops, and
+//! the recursion is no deeper than the parentheses, of which 32 may nest.
 #![tactic(auto)]
+
+mod expressions;
+mod leaves;
+
+pub use expressions::{expr, grouped_expr};
+pub use leaves::{literal, reference};
