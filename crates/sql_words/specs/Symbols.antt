@@ -1,5 +1,5 @@
 -- What tokens say: a token with the bytes of its span.
-use Rattle.std.specs.Prelude.{ℕ, ◌+◌, ◌-◌, List, map, Option, Some, None}
+use Rattle.std.specs.Prelude.{◌≡◌, ℕ, ◌+◌, ◌-◌, List, map, Option, Some, None}
 use Rattle.std.specs.Str.{IsUtf8}
 use Rattle.std.specs.Char.{to_ascii_lowercase}
 use Rattle.sql_words.specs.declared.token.Key.{Key}
@@ -33,7 +33,7 @@ name_at text span = map to_ascii_lowercase (cut text span)
 abbrev pub number_at : List ℕ → (ℕ × ℕ) → Option ℕ
 number_at text span = number_of (cut text span)
 
--- what a span of digits says; no token of a text spells too great a number
+-- what a span of digits says
 abbrev pub number_symbol : Option ℕ → Symbol
 number_symbol (Some n) = Symbol.Number n
 number_symbol None = Symbol.Unknown
@@ -54,6 +54,10 @@ symbol_of_kind text span TokenKind.Bad = Symbol.Unknown
 -- what a token of a text says
 abbrev pub symbol_of : List ℕ → Token → Symbol
 symbol_of text token = symbol_of_kind text (token.start, token.end) token.kind
+
+-- a token that says nothing is Bad: no number of a text is too great
+abbrev pub SaysSomething : List ℕ → Token → Type 0
+SaysSomething text token = symbol_of text token ≡ Symbol.Unknown → token.kind ≡ TokenKind.Bad
 
 -- what the tokens of a text say, in order
 abbrev pub symbols_of : List ℕ → List Symbol

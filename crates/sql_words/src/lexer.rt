@@ -2,7 +2,7 @@
 #![tactic(auto)]
 
 ghost use Rattle.std.specs.Prelude.{◌≡◌, ◌+◌, ◌<◌, ◌^◌, ◌++◌, length, All, IfOk, OnOk};
-ghost use Rattle.sql_words.specs.Symbols.{SaysUtf8};
+ghost use Rattle.sql_words.specs.Symbols.{SaysUtf8, SaysSomething};
 ghost use Rattle.sql_words.specs.Words.{placed, tokens_of, IsWithin, AreInOrder};
 
 use crate::bytes::behind;
@@ -23,12 +23,14 @@ const MOST: usize = 4294967295;
 /// - A command is `\session` or `\step`, in lower case.
 /// - What begins none of these is one token `Bad` that goes on to the end: other bytes, a text that has no end or is not UTF-8, a number that is too great.
 ///
-/// The bytes of a `Text` token between its quotes are UTF-8, and so is what it says. The one error is that memory ran out;
-/// a text of 2^32 bytes or more, whose places don't fit a token, is answered so. Time is linear in the text.
+/// The bytes of a `Text` token between its quotes are UTF-8, and so is what it says. Each token but `Bad` says something.
+/// The one error is that memory ran out; a text of 2^32 bytes or more, whose places don't fit a token, is answered so.
+/// Time is linear in the text.
 pub fn words(alloc: Global, text: &[u8]) -> Result<Vec<Token>, AllocError>
     ensures tokens { IfOk result (λ v. v.items ≡ tokens_of text.now) }
     ensures within { IfOk result (λ v. All (IsWithin (length text.now)) v.items) }
     ensures utf8 { IfOk result (λ v. All (SaysUtf8 text.now) v.items) }
+    ensures something { IfOk result (λ v. All (SaysSomething text.now) v.items) }
     ensures order { IfOk result (λ v. AreInOrder 0 (length text.now) v.items) }
 {
     if text.len() > MOST {

@@ -19,7 +19,7 @@ pub fn name_bytes(alloc: Global, text: &[u8], token: &Token) -> Result<Vec<u8>, 
     span.iter().map(|b| b.to_ascii_lowercase()).collect(alloc)
 }
 
-/// The number that a token of a text spells: the digits of its span, or None where they spell more than 2^127 - 1, as none of `words` do.
+/// The number that the digits of a token's span spell, or None where it is more than 2^127 - 1; no number of `words` is.
 pub fn number_at(text: &[u8], token: &Token) -> Option<u128>
     requires order { token.now.start ≤ token.now.end }
     requires within { token.now.end ≤ length text.now }

@@ -1,11 +1,11 @@
 //! Tables of texts and scripts with what they are cut into, written by hand.
 #![tactic(auto)]
 
-use crate::{TokenKind, name_bytes, split, text_bytes, words};
+use crate::{Token, TokenKind, name_bytes, number_at, split, text_bytes, words};
 use std::alloc::{AllocError, Global};
 
 /// A text and its tokens, each as its kind, the byte that it begins at and the one before which it ends.
-const TEXTS: [(&[u8], &[u8]); 44] = [
+const TEXTS: [(&[u8], &[u8]); 52] = [
     (b"", b""),
     (b" \t\r\n", b""),
     (b"-- all of it", b""),
@@ -13,6 +13,10 @@ const TEXTS: [(&[u8], &[u8]); 44] = [
     (b"sElEcT", b"Word(Some(Select)) 0 6;"),
     (b"selects", b"Word(None) 0 7;"),
     (b"selec", b"Word(None) 0 5;"),
+    (
+        b"integers integer int in",
+        b"Word(None) 0 8;Word(Some(Integer)) 9 16;Word(Some(Int)) 17 20;Word(Some(In)) 21 23;",
+    ),
     (b"_a9 A_1", b"Word(None) 0 3;Word(None) 4 7;"),
     (
         b"Get_Last_Good_Epoch",
@@ -26,6 +30,7 @@ const TEXTS: [(&[u8], &[u8]); 44] = [
     (b"007", b"Int 0 3;"),
     (b"12ab", b"Int 0 2;Word(None) 2 4;"),
     (b"ab12", b"Word(None) 0 4;"),
+    (b"1e5", b"Int 0 1;Word(None) 1 3;"),
     (b"-5", b"Sign(Minus) 0 1;Int 1 2;"),
     (b"1.5", b"Int 0 1;Sign(Dot) 1 2;Int 2 3;"),
     (b"170141183460469231731687303715884105727", b"Int 0 39;"),
@@ -40,9 +45,12 @@ const TEXTS: [(&[u8], &[u8]); 44] = [
     (b"''''", b"Text 0 4;"),
     (b"'a;b--c'", b"Text 0 8;"),
     (b"'a' 'b'", b"Text 0 3;Text 4 7;"),
+    (b"'a'''b", b"Text 0 5;Word(None) 5 6;"),
     (b"x'a'y", b"Word(None) 0 1;Text 1 4;Word(None) 4 5;"),
     (b"'\xc3\xa9'", b"Text 0 4;"),
     (b"'\xff' a", b"Bad 0 5;"),
+    (b"'\xed\xa0\x80'", b"Bad 0 5;"),
+    (b"'\xc3''\xa9'", b"Bad 0 6;"),
     (b"a '\xc3", b"Word(None) 0 1;Bad 2 4;"),
     (b"a 'b''", b"Word(None) 0 1;Bad 2 6;"),
     (
@@ -57,9 +65,18 @@ const TEXTS: [(&[u8], &[u8]); 44] = [
         b"<<=>",
         b"Sign(Less) 0 1;Sign(AtMost) 1 3;Sign(Greater) 3 4;",
     ),
+    (
+        b"a<>b<>=",
+        b"Word(None) 0 1;Sign(NotEqual) 1 3;Word(None) 3 4;Sign(NotEqual) 4 6;Sign(Equal) 6 7;",
+    ),
     (b"a-b", b"Word(None) 0 1;Sign(Minus) 1 2;Word(None) 2 3;"),
     (b"a --b\rc\nd", b"Word(None) 0 1;Word(None) 8 9;"),
     (b"a--", b"Word(None) 0 1;"),
+    (b"--\na", b"Word(None) 3 4;"),
+    (
+        b"(12, 'n', -3), ",
+        b"Sign(Open) 0 1;Int 1 3;Sign(Comma) 3 4;Text 5 8;Sign(Comma) 8 9;Sign(Minus) 10 11;Int 11 12;Sign(Close) 12 13;Sign(Comma) 13 14;",
+    ),
     (b"\\session 2", b"Back(Session) 0 8;Int 9 10;"),
     (b"\\session2", b"Back(Session) 0 8;Int 8 9;"),
     (b"\\sessionx", b"Back(Session) 0 8;Word(None) 8 9;"),
@@ -71,7 +88,7 @@ const TEXTS: [(&[u8], &[u8]); 44] = [
 ];
 
 /// A script and the spans of its statement texts.
-const SCRIPTS: [(&[u8], &[u8]); 18] = [
+const SCRIPTS: [(&[u8], &[u8]); 20] = [
     (b"", b""),
     (b" \n", b""),
     (b";;", b""),
@@ -87,6 +104,8 @@ const SCRIPTS: [(&[u8], &[u8]); 18] = [
     (b"'--';b", b"0 4;5 6;"),
     (b"--'\n;b", b"5 6;"),
     (b"a;'b;c", b"0 1;2 6;"),
+    (b"a;'b'';c", b"0 1;2 8;"),
+    (b"a --;\n;b", b"0 6;7 8;"),
     (b"-;-;", b"0 1;2 3;"),
     (b"\xff;\x00", b"0 1;2 3;"),
     (b"CREATE TABLE t (a INTEGER);\nCOMMIT;\n", b"0 26;27 34;"),
@@ -123,6 +142,20 @@ fn shown_bytes(alloc: Global, text: &[u8]) -> Result<Vec<u8>, AllocError> {
     Ok(shown)
 }
 
+/// What the numbers of a text are, each with a `|` behind it; a `-` for each other token.
+fn shown_numbers(alloc: Global, text: &[u8]) -> Result<String, AllocError> {
+    let mut shown = String::new(alloc);
+    for token in &words(alloc, text)? {
+        match (token.kind, number_at(text, token)) {
+            (TokenKind::Int, Some(number)) => {
+                shown.push_str(format!(in alloc; "{number}|")?.as_str())?
+            }
+            _ => shown.push_str("-")?,
+        }
+    }
+    Ok(shown)
+}
+
 #[test]
 fn texts_have_these_tokens(rt: HostRuntime) {
     for (text, want) in TEXTS {
@@ -143,4 +176,34 @@ fn scripts_have_these_spans(rt: HostRuntime) {
 fn names_and_texts_say_this(rt: HostRuntime) {
     let got = shown_bytes(rt.alloc(), b"Tab_1 'It''s' '' ''''").expect(&rt, "memory");
     assert!(rt; got.as_slice() == b"tab_1|It's||'|".as_slice());
+}
+
+#[test]
+fn numbers_say_this(rt: HostRuntime) {
+    let got = shown_numbers(
+        rt.alloc(),
+        b"0 007 12ab 170141183460469231731687303715884105727",
+    )
+    .expect(&rt, "memory");
+    assert_eq!(rt;
+        got.as_str(),
+        "0|7|12|-170141183460469231731687303715884105727|"
+    );
+}
+
+#[test]
+fn a_number_too_great_is_none(rt: HostRuntime) {
+    let token = Token {
+        kind: TokenKind::Int,
+        start: 1,
+        end: 40,
+    };
+    assert_eq!(&rt;
+        number_at(b"1170141183460469231731687303715884105728", &token),
+        None
+    );
+    assert_eq!(&rt;
+        number_at(b"1000000000000000000000000000000000000019", &token),
+        Some(19)
+    );
 }

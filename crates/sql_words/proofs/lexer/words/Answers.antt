@@ -1,4 +1,5 @@
 use Rattle.std.proofs.Common.{arith, ◌≡◌, ◌+◌, length, length-drop, subst, sym, List, ap, drop, ℕ}
+use Rattle.sql_words.proofs.Counts.{counts_on}
 use Rattle.sql_words.proofs.Says.{says_on}
 use Rattle.sql_words.proofs.Tokens.{found_on, order_piece, order_wider, all_within}
 use Rattle.sql_words.specs.declared.token.Token.{Token}
@@ -17,6 +18,7 @@ loop-at-preserved c =
       place = omega arith;
       order = subst Ordered (sym c.in_ok-push_placed.ensures) (order_piece 0 c.loop-at.at c.loop-at.found.items piece c.loop-at.invariant.order c.piece_at-piece.ensures.some);
       says = says_on c.args.text.now c.behind.result.now c.loop-at.at piece c.loop-at.found.items c.push_placed.new.found.items c.behind.ensures c.piece_at-piece.ensures.piece c.in_ok-push_placed.ensures c.loop-at.invariant.says;
+      counts = counts_on c.args.text.now c.behind.result.now c.loop-at.at piece c.loop-at.found.items c.push_placed.new.found.items c.behind.ensures c.piece_at-piece.ensures.piece c.in_ok-push_placed.ensures c.loop-at.invariant.counts;
     }
 
 pub returns-clause-within : goal.returns-clause-within

@@ -1,5 +1,5 @@
 use Rattle.std.proofs.Common.{◌≡◌, ◌-◌, ◌≤◌, ◌++◌, drop, length, All}
-use Rattle.sql_words.specs.Symbols.{SaysUtf8}
+use Rattle.sql_words.specs.Symbols.{SaysUtf8, SaysSomething}
 use Rattle.sql_words.specs.Words.{tokens_of, tokens_behind, AreInOrder}
 use Rattle.sql_words.proofs.lexer.words.Given as goal
 
@@ -9,6 +9,7 @@ invariant-loop-at l = record {
   place : l.at ≤ length l.text;
   order : AreInOrder 0 l.at l.found.items;
   says : All (SaysUtf8 l.text) l.found.items;
+  counts : All (SaysSomething l.text) l.found.items;
 }
 
 abbrev pub decreases-loop-at : goal.decreases-loop-at
