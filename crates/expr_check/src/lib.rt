@@ -5,5 +5,7 @@
 #![tactic(auto)]
 
 mod kinds;
+mod narrow;
 
 pub use kinds::{Places, is_condition, kind_of};
+pub use narrow::is_narrow;
