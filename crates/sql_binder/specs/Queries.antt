@@ -6,7 +6,8 @@ use Rattle.std.specs.Fmt.{signed_decimal}
 use Rattle.sql_tree.specs.declared.tree.ColRef.{ColRef}
 use Rattle.sql_tree.specs.declared.tree.Tree.{Tree}
 use Rattle.sql_tree.specs.declared.tree.Tree.TheOpen.{Tree-F, Term-F}
-use Rattle.sql_tree.specs.declared.tree.Tree.TheFolds.{fold-Tree}
+use Rattle.sql_tree.specs.declared.tree.Tree.TheFolds.{fold-Tree, fold-Term}
+use Rattle.sql_tree.specs.declared.tree.Term.{Term}
 use Rattle.sql_tree.specs.declared.query.Item.{Item}
 use Rattle.sql_tree.specs.declared.query.Items.{Items}
 use Rattle.sql_tree.specs.declared.query.KeyRef.{KeyRef}
@@ -164,6 +165,9 @@ aggregate_term t = t.part
 
 abbrev pub has_aggregate : Tree → Bool
 has_aggregate = fold-Tree Bool Bool aggregate_step aggregate_term
+
+abbrev pub term_has_aggregate : Term → Bool
+term_has_aggregate = fold-Term Bool Bool aggregate_step aggregate_term
 
 abbrev pub is_without_aggregates : Items → Bool
 is_without_aggregates Items.Star = true

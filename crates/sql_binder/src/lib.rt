@@ -9,7 +9,9 @@
 mod fault;
 mod inserts;
 mod queries;
+mod single;
 
 pub use fault::{BindFault, Found};
 pub use inserts::bind_insert;
-pub use queries::{bind_query, is_single};
+pub use queries::bind_query;
+pub use single::is_single;

@@ -7,14 +7,6 @@ use sql_bound::BoundQuery;
 use sql_tree::Query;
 use std::alloc::Global;
 
-/// Whether a query is over one FROM item, and not grouped.
-pub fn is_single(query: &Query) -> bool
-    ensures { result ≡ is_single query.now }
-{
-    let _value = query;
-    false
-}
-
 /// The bound tree of a query over one FROM item without groups, whose table was found, or was not.
 pub fn bind_query(
     _alloc: Global,
