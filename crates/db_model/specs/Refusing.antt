@@ -49,9 +49,12 @@ width_limit kind = refused_where (is_wrong_width kind) (Refusal.Limit Which.Leng
 abbrev pub column_limit : ℕ × NewColumn → Option Refusal
 column_limit c = first_of (refused_where (nat_le 64 c.0) (Refusal.Limit Which.Columns 64)) (first_of (name_limit c.1.name) (width_limit c.1.kind))
 
+abbrev pub columns_limit : List NewColumn → Option Refusal
+columns_limit columns = first_given column_limit (enumerate_from 0 columns)
+
 -- the first limit in the text that a new table passes
 abbrev pub create_limit : List Table → List ℕ → List NewColumn → Option Refusal
-create_limit tables name columns = first_of (first_of (tables_limit tables) (name_limit name)) (first_given column_limit (enumerate_from 0 columns))
+create_limit tables name columns = first_of (first_of (tables_limit tables) (name_limit name)) (columns_limit columns)
 
 abbrev pub create_refusal : List Table → List ℕ → List NewColumn → Option Refusal
 create_refusal tables name columns = first_of (option_map Refusal.Exists (taken_name tables name columns)) (create_limit tables name columns)

@@ -1,2 +1,4 @@
 pub mod Views
 pub mod Places
+pub mod Plans
+pub mod Readings

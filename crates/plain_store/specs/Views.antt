@@ -2,8 +2,6 @@
 use Rattle.std.specs.Prelude.{ℕ, true, false, List, [], ◌∷◌, ◌++◌, map}
 use Rattle.std.specs.List.{enumerate_from}
 use Rattle.col_value.specs.declared.value.Value.{Value}
-use Rattle.col_value.specs.declared.wide.Wide.{Wide}
-use Rattle.col_value.specs.declared.kinds.Encoding.{Encoding}
 use Rattle.db_model.specs.Database.{Shape, Database}
 use Rattle.db_model.specs.Database as model
 use Rattle.db_model.specs.State.{State, Changes, inserted_at}
@@ -14,7 +12,7 @@ use Rattle.plain_store.specs.declared.table.Pending.{Pending}
 abbrev pub projection_of : Table → Shape
 projection_of t = record {
   name = t.projection;
-  columns = map (λ e. (e.0, Encoding.Plain)) (enumerate_from 0 t.columns);
+  columns = enumerate_from 0 t.encodings;
   sort = map (λ e. e.0) (enumerate_from 0 t.columns);
   fresh = true;
   lge = t.born;
@@ -42,7 +40,3 @@ state_of tables last pending = record {
 -- a table with rows more, inserted at an epoch
 abbrev pub with_committed : ℕ → List (List Value) → model.Table → model.Table
 with_committed epoch rows t = record t { rows = t.rows ++ map (inserted_at epoch) rows }
-
--- rows of one value each
-abbrev pub singles : List Wide → List (List Wide)
-singles values = map (λ w. w ∷ []) values

@@ -7,11 +7,12 @@
 #![tactic(auto)]
 
 mod answering;
-mod forms;
+mod creating;
 mod laws;
 mod listing;
 mod lists;
-mod refusing;
+mod planning;
+mod selecting;
 mod store;
 mod table;
 

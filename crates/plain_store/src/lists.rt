@@ -3,14 +3,21 @@ ghost use Rattle.std.specs.Str.{bytes_eq};
 ghost use Rattle.std.specs.Option.{option_map, option_copied};
 ghost use Rattle.std.specs.List.{flat_map};
 ghost use Rattle.db_model.specs.Database.{table_named, is_taken, put_table};
+ghost use Rattle.db_model.specs.Forms.{table_place};
 ghost use Rattle.db_model.specs.State.{has_changes, with_rows, joined, change_named, commit_changes};
 ghost use Rattle.plain_store.specs.Views.{table_of, changes_of, with_committed};
 ghost use Rattle.plain_store.specs.Places.{StandsAt, StandsNowhere, IsTableAt, IsNoTable};
 
-use crate::forms::same;
 use crate::table::{Pending, Table};
 use col_value::{Name, Row, Stamped};
 use std::alloc::{AllocError, Global};
+
+/// Whether two lists of bytes are equal.
+pub fn same(a: &[u8], b: &[u8]) -> bool
+    ensures { result ≡ bytes_eq a.now b.now }
+{
+    a == b
+}
 
 /// The table of a name.
 pub fn find_table<'a>(tables: &'a [Table], name: &[u8]) -> Option<&'a Table>
@@ -22,6 +29,13 @@ pub fn find_table<'a>(tables: &'a [Table], name: &[u8]) -> Option<&'a Table>
         }
     }
     None
+}
+
+/// Where the table of a name stands among all tables.
+pub fn table_place(tables: &[Table], name: &[u8]) -> Option<usize>
+    ensures { result ≡ table_place name.now (map table_of tables.now) }
+{
+    tables.iter().position(|table| same(table.name.as_slice(), name))
 }
 
 /// Where a table stands by its name: before the first table of a greater one.
