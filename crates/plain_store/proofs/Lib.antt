@@ -1,6 +1,0 @@
-pub mod Places
-pub mod Seen
-pub mod Singles
-pub mod Named
-pub mod Growing
-pub mod Alike

@@ -2,8 +2,6 @@
 use Rattle.std.specs.Prelude.{◌≡◌, ℕ, ◌+◌, ◌&&◌, nat_le, if◌then◌else◌, Bool, true, false, List, [], length, map, filter, Option, Some, None, option_map, option_and_then}
 use Rattle.std.specs.List.{All}
 use Rattle.std.specs.Option.{option_map_or}
-use Rattle.col_value.specs.declared.value.Value.{Value}
-use Rattle.col_value.specs.declared.wide.Wide.{Wide}
 use Rattle.sql_tree.specs.declared.query.At.{At}
 use Rattle.sql_tree.specs.declared.query.Query.{Query}
 use Rattle.sql_tree.specs.declared.refusal.Refusal.{Refusal}
@@ -11,9 +9,6 @@ use Rattle.sql_tree.specs.declared.statement.Insert.{Insert}
 use Rattle.sql_tree.specs.declared.statement.NewColumn.{NewColumn}
 use Rattle.sql_tree.specs.declared.statement.Statement.{Statement}
 use Rattle.sql_bound.specs.declared.query.BoundQuery.{BoundQuery}
-use Rattle.sql_bound.specs.Values.{of_row, value_of}
-use Rattle.sql_bound.specs.Bounds.{is_narrow}
-use Rattle.sql_bound.specs.Outputs.{is_kept}
 use Rattle.sql_binder.specs.Names.{first_of}
 use Rattle.sql_binder.specs.Queries.{bound_query, source_table, query_refusal, refused_where}
 use Rattle.sql_binder.specs.Inserts.{inserted_rows, insert_refusal, stored_refusal}
@@ -21,12 +16,8 @@ use Rattle.db_model.specs.Database.{Table, table_named}
 use Rattle.db_model.specs.State.{State, Changes, pending_rows, has_changes}
 use Rattle.db_model.specs.Forms.{table_place, columns_named}
 use Rattle.db_model.specs.Refusing.{refusal_of, rows_limit, epoch_refusal}
+use Rattle.plain_tables.specs.Outputs.{AreNarrow}
 use Rattle.plain_store.specs.declared.planning.Plan.{Plan}
-
--- each number in a query has a static bound that a result holds
-pub record AreNarrow (q : BoundQuery) : Type 0 where
-  pub items : All (λ e. is_narrow [] e ≡ true) q.items
-  pub keep : All (λ e. is_narrow [] e ≡ true) q.keep
 
 -- the bound tree of a query whose table is there
 pub record IsBoundIn (tables : List Table) (q : Query) (b : BoundQuery) : Type 0 where
@@ -52,10 +43,6 @@ IsPlanOf state s plan = ⊥
 pub record IsPlanned (state : State) (s : Statement) (plan : Plan) : Type 0 where
   pub accepted : refusal_of state s ≡ None
   pub of : IsPlanOf state s plan
-
--- the output rows of a query without groups over these rows of its table
-abbrev pub outputs_of : BoundQuery → List (List Value) → List (List Wide)
-outputs_of q rows = map (λ row. map (value_of (of_row row)) q.items) (filter (is_kept q.keep) rows)
 
 -- the place and the columns of the table of a name, where there is one
 abbrev pub found_in : List ℕ → List Table → Option (ℕ × List NewColumn)

@@ -9,15 +9,14 @@ ghost use Rattle.db_model.specs.Forms as form;
 ghost use Rattle.db_model.specs.Refusing as rule;
 ghost use Rattle.db_model.specs.State.{pending_rows};
 ghost use Rattle.plain_store.specs.declared.planning.Plan.{Plan};
-ghost use Rattle.plain_store.specs.Views.{table_of, changes_of};
+ghost use Rattle.plain_tables.specs.Views.{table_of, changes_of};
 ghost use Rattle.plain_store.specs.Plans.{IsPlanned, IsPlanOf, IsBoundIn, found_in, is_late, in_order, insert_refusal_over, select_refusal_over, commit_refusal_over};
 
-use crate::creating::create_refusal;
-use crate::listing::waiting_rows;
-use crate::lists::{find_table, has_rows, table_place};
 use crate::store::PlainStore;
-use crate::table::{Pending, Table};
 use col_value::{List, Name, Row};
+use plain_tables::{
+    Pending, Table, create_refusal, find_table, has_rows, table_place, waiting_rows,
+};
 use sql_binder::{BindFault, Found, bind_insert, bind_query, is_single};
 use sql_bound::BoundQuery;
 use sql_tree::{At, Function, Insert, NewColumn, Query, Refusal, Statement, Which};

@@ -2,17 +2,17 @@ ghost use Rattle.std.specs.Prelude.{◌≡◌, map, IfOk, OnOk, [], ◌∷◌};
 ghost use Rattle.db_model.specs.State.{empty_state, opened_state};
 ghost use Rattle.db_model.specs.Step.{Prints, after};
 ghost use Rattle.db_model.specs.Answers.{listing_text, IsAnswer};
+ghost use Rattle.plain_store.specs.declared.planning.Plan.{Plan};
 ghost use Rattle.sql_tree.specs.declared.statement.Statement.{Statement as AStatement};
-ghost use Rattle.plain_store.specs.Views.{table_of, changes_of};
+ghost use Rattle.plain_tables.specs.Views.{table_of, changes_of};
 ghost use Rattle.plain_store.specs.Plans.{IsPlanned, IsBoundIn};
 
-use crate::creating::{auto_encodings, copied_columns, projection_name};
-use crate::listing::{commit_text, epoch_text, insert_text, listing};
-use crate::lists::{add_rows, commit_all, find_table, has_rows, put};
 use crate::planning::{Plan, source_table};
-use crate::selecting::output_rows;
-use crate::table::{Pending, Table};
 use col_value::{List, Name};
+use plain_tables::{
+    Pending, Table, add_rows, auto_encodings, commit_all, commit_text, copied_columns, epoch_text,
+    find_table, has_rows, insert_text, listing, output_rows, projection_name, put,
+};
 use query_order::order_rows;
 use sql_bound::BoundQuery;
 use sql_tree::{At, NewColumn, Query, Statement};
@@ -29,7 +29,7 @@ pub struct PlainStore {
 
 impl Model for PlainStore {
     ghost use Rattle.db_model.specs.State.{State};
-    ghost use Rattle.plain_store.specs.Views.{state_of};
+    ghost use Rattle.plain_tables.specs.Views.{state_of};
 
     ghost Value = { State };
 
