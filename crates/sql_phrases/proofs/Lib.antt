@@ -8,3 +8,5 @@ pub mod Rolling
 pub mod Sets
 pub mod Leaves
 pub mod GoodExpressions
+pub mod GoodQueries
+pub mod GoodStatements
