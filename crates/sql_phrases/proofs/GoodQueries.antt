@@ -13,7 +13,7 @@ use Rattle.sql_phrases.specs.Classes.{in_set, name_classes, number_classes, sour
 use Rattle.sql_phrases.specs.Readers.{alias, select_item, select_list, from_item, joins, next_source, sources, where_clause, group_by, having, key_name, descending, order_key, order_by, limit, queries}
 use Rattle.sql_phrases.proofs.Goods.{Good, good_nothing, good_key, good_sign, good_then, good_made, good_many, good_wider}
 use Rattle.sql_phrases.proofs.Shapes.{good_at_key, good_at_sign, good_at_set, good_listed}
-use Rattle.sql_phrases.proofs.Leaves.{good_name, good_number}
+use Rattle.sql_phrases.proofs.Picks.{good_name, good_number}
 use Rattle.sql_phrases.proofs.GoodExpressions.{good_reference, good_expr, good_grouped_expr}
 use Rattle.sql_phrases.proofs.Sets.{of_keys, over_first, over_more, item_more, select_first, select_more, sources_more, where_more, group_more, having_more, key_first, key_more, order_more, query_more}
 

@@ -1,11 +1,12 @@
 -- Each production of statements is good.
-use Rattle.std.proofs.Common.{ℕ, Bool, true, false, List, [], ◌∷◌, Option, Some, None, refl}
+use Rattle.std.proofs.Common.{◌≡◌, ℕ, Bool, true, false, List, [], ◌∷◌, Option, Some, None, refl}
 use Rattle.col_value.specs.declared.kinds.ColType.{ColType}
 use Rattle.col_value.specs.declared.kinds.Encoding.{Encoding}
 use Rattle.col_value.specs.declared.wide.Wide.{Wide}
 use Rattle.sql_words.specs.declared.token.Back.{Back}
 use Rattle.sql_words.specs.declared.token.Key.{Key}
 use Rattle.sql_words.specs.declared.token.Sign.{Sign}
+use Rattle.sql_words.specs.Symbols.{Symbol}
 use Rattle.sql_tree.specs.declared.query.At.{At}
 use Rattle.sql_tree.specs.declared.statement.Function.{Function}
 use Rattle.sql_tree.specs.declared.statement.NewColumn.{NewColumn}
@@ -14,11 +15,12 @@ use Rattle.sql_tree.specs.declared.statement.Setting.{Setting}
 use Rattle.sql_tree.specs.declared.statement.Statement.{Statement}
 use Rattle.sql_tree.specs.declared.tree.Tree.{Tree}
 use Rattle.sql_tree.specs.Spells.{Kind, NotNull, NewColumns, CreatesTable, EncodingName, Encoded, NewParts, SortedBy, CreatesProjection, Creates, Drops, Tuple, Inserts, Deletes, Sets, Updates, Copies, Calls, Selects, Epochs, SelectsAt, Explains, Sessions, Controls, Spells}
-use Rattle.sql_phrases.specs.Classes.{Class, name_classes, number_classes, call_classes}
+use Rattle.sql_phrases.specs.Classes.{Class, in_set, name_classes, number_classes, call_classes}
 use Rattle.sql_phrases.specs.Readers.{kind, not_null, new_column, creates_table, encoding_name, encoded, new_part, sorted_by, creates_projection, creates, drops, tuple, inserts, deletes, sets, updates, copies, calls, selects, epochs, selects_at, explains, sessions, controls, reads}
+use Rattle.sql_phrases.proofs.Agains.{again_one_value}
 use Rattle.sql_phrases.proofs.Goods.{Good, good_nothing, good_key, good_sign, good_back, good_then, good_made, good_wider}
 use Rattle.sql_phrases.proofs.Shapes.{good_at_key, good_at_back, good_at_set, good_inside, good_listed}
-use Rattle.sql_phrases.proofs.Leaves.{good_name, good_number, good_text, good_width, good_session}
+use Rattle.sql_phrases.proofs.Picks.{good_name, good_number, good_text, good_width, good_session}
 use Rattle.sql_phrases.proofs.GoodExpressions.{good_literal, good_expr}
 use Rattle.sql_phrases.proofs.GoodQueries.{good_where, good_queries}
 use Rattle.sql_phrases.proofs.Sets.{of_keys, over_more, where_more, query_more, kind_first, encoding_first, sorted_more, control_first, statement_first}
@@ -136,3 +138,7 @@ good_controls = good_at_key Key.Commit refl (good_key Key.Commit (good_nothing S
 pub good_reads : Good Spells reads statement_first false query_more
 unfolding reads
 good_reads = good_wider statement_first false query_more refl refl refl (good_at_key Key.Create refl good_creates (good_at_key Key.Drop refl good_drops (good_at_key Key.Insert refl good_inserts (good_at_key Key.Delete refl good_deletes (good_at_key Key.Update refl good_updates (good_at_key Key.Copy refl good_copies (good_at_key Key.Select refl good_selects (good_at_key Key.At refl good_selects_at (good_at_key Key.Explain refl good_explains good_controls)))))))))
+
+-- no symbols spell two statements
+pub spelled_once : (ts : List Symbol) (s t : Statement) → Spells ts s → Spells ts t → s ≡ t
+spelled_once = again_one_value Spells (in_set query_more) reads good_reads.again
