@@ -15,7 +15,7 @@ use Rattle.sql_phrases.specs.Classes.{Class, is_key, in_set, name_classes, numbe
 use Rattle.sql_phrases.specs.Readers.{named_constant, a_constant, literal, qualified, reference, atom, unary, product, signed, sum, comparison, null_test, betweens, among, ranged, tail, predicate, negation, conjunction, over, argument, counted, aggregate, primary, leaf, grouped, base, expr, grouped_expr}
 use Rattle.sql_phrases.proofs.Goods.{Good, key_tells, good_nothing, good_key, good_sign, good_then, good_made, good_many, good_refuse, good_wider}
 use Rattle.sql_phrases.proofs.Shapes.{good_at_key, good_at_sign, good_at_set, good_inside, good_by_word, good_by_glyph}
-use Rattle.sql_phrases.proofs.Leaves.{good_name, good_text, good_number, good_cmp}
+use Rattle.sql_phrases.proofs.Picks.{good_name, good_text, good_number, good_cmp}
 use Rattle.sql_phrases.proofs.Sets.{of_keys, constant_first, literal_first, atom_first, leaf_first, base_first, sum_first, over_first, dot, product_more, sum_more, ranged_first, tail_first, predicate_more, conjunction_more, over_more}
 
 pub good_named_constant : Good NamedConstant named_constant (of_keys (Key.True ∷ (Key.False ∷ (Key.Null ∷ [])))) false []

@@ -6,5 +6,7 @@ pub mod Goods
 pub mod Shapes
 pub mod Rolling
 pub mod Sets
-pub mod Leaves
+pub mod Picks
 pub mod GoodExpressions
+pub mod GoodQueries
+pub mod GoodStatements
