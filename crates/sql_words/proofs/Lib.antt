@@ -1,6 +1,7 @@
 pub mod Counts
 pub mod Ends
 pub mod Joined
+pub mod Letters
 pub mod Numbers
 pub mod Quotes
 pub mod Says

@@ -1,7 +1,7 @@
 -- Kinds of bytes, and the runs that a text is made of.
-use Rattle.std.specs.Prelude.{ℕ, ◌+◌, ◌-◌, ◌*◌, ◌==◌, ◌&&◌, ◌||◌, not, if◌then◌else◌, Bool, false, List, [], ◌∷◌, Option, Some, None, length, slice_index, fold, bytes_eq, take}
+use Rattle.std.specs.Prelude.{ℕ, min, ◌+◌, ◌-◌, ◌*◌, ◌==◌, ◌&&◌, ◌||◌, not, if◌then◌else◌, Bool, false, List, [], ◌∷◌, Option, Some, None, length, slice_index, fold, bytes_eq, take}
 use Rattle.std.specs.List.{prefix_len}
-use Rattle.std.specs.Char.{is_ascii_alphabetic, is_ascii_alphanumeric}
+use Rattle.std.specs.Char.{is_ascii_alphabetic, is_ascii_alphanumeric, to_ascii_lowercase}
 
 -- tab, LF, CR and the space
 abbrev pub is_space : ℕ → Bool
@@ -42,6 +42,10 @@ unquoted_behind twin (b ∷ rest) = if twin && (b == 39) then unquoted_behind fa
 -- what a text between its two quotes says, `''` read as one quote
 abbrev pub unquoted : List ℕ → List ℕ
 unquoted inner = unquoted_behind false inner
+
+-- the place in the alphabet of a word's first letter; 0 for what is before `a`, and 26 for what is behind `z`
+abbrev pub letter_of : List ℕ → ℕ
+letter_of word = min (to_ascii_lowercase (slice_index word 0) - 97) 26
 
 -- the number that digits spell
 abbrev pub value_of : List ℕ → ℕ

@@ -16,9 +16,13 @@ use Rattle.sql_words.specs.Bytes.{is_space, begins_word, is_of_word, begins_comm
 unfoldable pub key_in : List (List ℕ × Key) → List ℕ → Option Key
 key_in table word = option_map (λ e. e.1) (find (λ e. str_eq_ignore_ascii_case e.0 word) table)
 
+-- the reserved words in the order of the alphabet, each with its keyword
+abbrev pub reserved_words : List (List ℕ × Key)
+reserved_words = map (λ e. (e.0.now, e.1)) RESERVED
+
 -- the keyword that a word is; None where it is a name
 unfoldable pub key_of : List ℕ → Option Key
-key_of word = key_in (map (λ e. (e.0.now, e.1)) RESERVED) word
+key_of word = key_in reserved_words word
 
 -- what begins no token: it goes on to the end
 abbrev pub bad_piece : List ℕ → Piece

@@ -1,9 +1,11 @@
 //! The reserved words, each with its keyword.
 #![tactic(auto)]
 
-ghost use Rattle.std.specs.Prelude.{◌≡◌, map};
+ghost use Rattle.std.specs.Prelude.{◌≡◌, ◌≤◌, ◌+◌, get_or, length, map};
+ghost use Rattle.sql_words.specs.Bytes.{letter_of};
+ghost use Rattle.sql_words.specs.declared.reserved.TheConstants.{STARTS};
 ghost use Rattle.std.specs.Str.{str_eq_ignore_ascii_case};
-ghost use Rattle.sql_words.specs.Words.{key_in, key_of};
+ghost use Rattle.sql_words.specs.Words.{key_in, key_of, reserved_words};
 
 use crate::token::Key;
 
@@ -75,6 +77,33 @@ pub const RESERVED: [(&str, Key); 64] = [
     ("where", Key::Where),
 ];
 
+/// The place in `RESERVED` at which each letter's words begin, so that a word is compared with few of them.
+const STARTS: [usize; 28] = [
+    0, 5, 10, 14, 19, 22, 24, 28, 29, 36, 37, 37, 39, 42, 44, 47, 50, 50, 53, 58, 60, 61, 63, 64,
+    64, 64, 64, 64,
+];
+
+/// The place in the alphabet of a word's first letter. What is before `a` counts as it, and what is behind `z` is 26.
+fn letter_of(word: &[u8]) -> usize
+    ensures letter { result ≡ letter_of word.now }
+    ensures within { result ≤ 26 }
+{
+    match word {
+        [first, ..] => usize::from(first.to_ascii_lowercase().saturating_sub(b'a')).min(26),
+        [] => 0,
+    }
+}
+
+/// The places in `RESERVED` from which and below which a letter's words stand.
+fn places_of(letter: usize) -> (usize, usize)
+    requires { letter ≤ 26 }
+    ensures places { result ≡ (get_or STARTS letter 0, get_or STARTS (letter + 1) 0) }
+    ensures order { result.0 ≤ result.1 }
+    ensures within { result.1 ≤ 64 }
+{
+    (STARTS[letter], STARTS[letter + 1])
+}
+
 /// The keyword of the table's first entry that the word is.
 #[tactic(auto, unfolding(crate::specs::Words::key_in))]
 fn key_in(table: &[(&'static str, Key)], word: &[u8]) -> Option<Key>
@@ -86,6 +115,16 @@ fn key_in(table: &[(&'static str, Key)], word: &[u8]) -> Option<Key>
         }
     }
     None
+}
+
+/// The keyword of the first reserved word that the word is, looked for among those of its first letter.
+fn key_among(table: &[(&'static str, Key)], word: &[u8]) -> Option<Key>
+    requires size { length table.now ≡ 64 }
+    requires words { map (λ e. (e.0.now, e.1)) table.now ≡ reserved_words }
+    ensures { result ≡ key_of word.now }
+{
+    let (from, to) = places_of(letter_of(word));
+    key_in(&table[from..to], word)
 }
 
 /// The word is the entry, without regard to ASCII case.
@@ -100,5 +139,5 @@ fn is_spelled(word: &[u8], entry: &str) -> bool
 pub fn key_of(word: &[u8]) -> Option<Key>
     ensures { result ≡ key_of word.now }
 {
-    key_in(&RESERVED, word)
+    key_among(&RESERVED, word)
 }
