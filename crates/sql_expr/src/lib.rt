@@ -7,6 +7,7 @@
 
 mod expressions;
 mod leaves;
+mod level;
 
 pub use expressions::{expr, grouped_expr};
 pub use leaves::{literal, reference};
