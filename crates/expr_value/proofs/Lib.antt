@@ -1,2 +1,4 @@
 pub mod Bounded
 pub mod Magnitudes
+pub mod Narrow
+pub mod Steps
