@@ -2,3 +2,4 @@ pub mod Bounded
 pub mod Magnitudes
 pub mod Narrow
 pub mod Steps
+pub mod Settled
