@@ -7,6 +7,7 @@
 //! spelled is read and has one value, and where a reader stops is the exact place of the refusal.
 #![tactic(auto)]
 
+mod leaves;
 mod stop;
 mod tokens;
 

@@ -2,6 +2,7 @@ ghost use Rattle.std.specs.Prelude.{◌≡◌, ◌==◌, ◌<◌, ◌^◌, lengt
 ghost use Rattle.sql_tree.specs.Symbols.{name_of, number_of};
 ghost use Rattle.sql_phrases.specs.Readings.{one, the, head_is};
 ghost use Rattle.sql_phrases.specs.Classes.{is_key, is_sign};
+ghost use Rattle.sql_words.specs.Symbols.{SaysUtf8};
 ghost use Rattle.sql_words.specs.Words.{IsWithin};
 ghost use Rattle.sql_phrases.specs.Gives.{Gives, seen};
 
@@ -14,14 +15,15 @@ use std::marker::Model;
 /// The tokens of a text that are still to be read. Contracts see what they say.
 #[derive(Drop)]
 pub struct Tokens<'a> {
-    text: &'a [u8],
-    left: &'a [Token],
+    pub(crate) text: &'a [u8],
+    pub(crate) left: &'a [Token],
 }
 
 impl<'a> Model for Tokens<'a> {
     ghost use Rattle.std.specs.Prelude.{List};
     ghost use Rattle.sql_words.specs.Symbols.{Symbol};
     ghost use Rattle.std.specs.Prelude.{All, length};
+    ghost use Rattle.sql_words.specs.Symbols.{SaysUtf8};
     ghost use Rattle.sql_words.specs.Words.{IsWithin};
     ghost use Rattle.sql_phrases.specs.Gives.{seen};
 
@@ -29,13 +31,14 @@ impl<'a> Model for Tokens<'a> {
 
     ghost view = { λ t. seen t.text.now t.left.now };
 
-    ghost invariant = { λ t. All (IsWithin (length t.text.now)) t.left.now };
+    ghost invariant = { λ t. record { within : All (IsWithin (length t.text.now)) t.left.now; utf8 : All (SaysUtf8 t.text.now) t.left.now } };
 }
 
 impl<'a> Tokens<'a> {
-    /// The tokens of a text, each of which lies in it.
+    /// The tokens of a text, each of which lies in it; what a text token says is UTF-8.
     pub fn new(text: &'a [u8], left: &'a [Token]) -> Tokens<'a>
-        requires { All (IsWithin (length text.now)) left.now }
+        requires within { All (IsWithin (length text.now)) left.now }
+        requires utf8 { All (SaysUtf8 text.now) left.now }
         ensures { result ≡ seen text.now left.now }
     {
         Tokens { text, left }
