@@ -6,10 +6,12 @@
 //! exact one, by `IsPlace`. Time is linear in the tokens; lists are read by loops.
 #![tactic(auto)]
 
-mod literals;
-mod reader;
+mod changes;
+mod clauses;
+mod creations;
+mod lists;
+mod queries;
+mod sources;
 mod statements;
-#[cfg(test)]
-mod tests;
 
-pub use reader::{ReadFault, one_reading, read};
+pub use statements::statement;
