@@ -8,12 +8,12 @@ use Rattle.sql_phrases.specs.Readings.{Read, after, nothing, both, head_is, choo
 use Rattle.sql_phrases.proofs.Repeats.{Shortens, many_is}
 use Rattle.sql_phrases.proofs.Agains.{turn_ends}
 
-joined_step : {T V : Type 0} (vs : List V) (v : V) (q : Read T (List V)) → joined vs (after q (λ ws. nothing (v ∷ ws))) ≡ joined (vs ++ (v ∷ [])) q
+pub joined_step : {T V : Type 0} (vs : List V) (v : V) (q : Read T (List V)) → joined vs (after q (λ ws. nothing (v ∷ ws))) ≡ joined (vs ++ (v ∷ [])) q
 unfolding nothing
 joined_step vs v (Read.Took ws rest) = ap (λ z. Read.Took z rest) (sym (append_assoc vs (v ∷ []) ws))
 joined_step vs v (Read.Stopped rest) = refl
 
-turn_true : {T V : Type 0} (p : T → Bool) (a : List T → Read T V) (m : List T → Read T (List V)) (ts : List T) (q : Read T V) → head_is p ts ≡ true → a ts ≡ q → turn p a m ts ≡ after q (λ v. both m (λ vs. nothing (v ∷ vs)))
+pub turn_true : {T V : Type 0} (p : T → Bool) (a : List T → Read T V) (m : List T → Read T (List V)) (ts : List T) (q : Read T V) → head_is p ts ≡ true → a ts ≡ q → turn p a m ts ≡ after q (λ v. both m (λ vs. nothing (v ∷ vs)))
 unfolding turn choose both
 turn_true p a m ts q h e = ap (λ z. if z then after (a ts) (λ v. both m (λ vs. nothing (v ∷ vs))) else nothing [] ts) h ∙ ap (λ z. after z (λ v. both m (λ vs. nothing (v ∷ vs)))) e
 
