@@ -1,8 +1,8 @@
 -- What is spelled is read again, where nothing that could go on stands behind it.
 use Rattle.std.proofs.Common.{◌≡◌, inl, inr, Bool, true, false, if◌then◌else◌, List, [], ◌∷◌, ◌++◌, Option, sym, ◌∙◌, ap, append_assoc}
 use Rattle.sql_tree.specs.Phrases.{One, Mark, Nothing, Then, Either, Many}
-use Rattle.sql_phrases.specs.Readings.{Read, after, picked, one, nothing, both, head_is, choose, marked, mark, turn, many}
-use Rattle.sql_phrases.proofs.Repeats.{Shortens, many_is}
+use Rattle.sql_phrases.specs.Readings.{Read, Shortens, after, picked, one, nothing, both, head_is, choose, stop, refuse, marked, mark, turn, many}
+use Rattle.sql_phrases.proofs.Repeats.{many_is}
 
 -- no element that `more` holds of stands at the front
 abbrev pub Ends : {T : Type 0} → (T → Bool) → List T → Type 0
@@ -34,6 +34,12 @@ again_choose {A = A} {B = B} {a = a} {b = b} p ma mb more ka kb stands not_so do
     pick : (front : List _) (v : _) (rest : List _) → Either A B front v → Ends more rest → choose p a b (front ++ rest) ≡ Read.Took v rest
     pick front v rest (inl h) n = ap (λ z. if z then a (front ++ rest) else b (front ++ rest)) (stands front v rest h n) ∙ ka.reads front v rest h (down_a rest n)
     pick front v rest (inr h) n = ap (λ z. if z then a (front ++ rest) else b (front ++ rest)) (not_so front v rest h n) ∙ kb.reads front v rest h (down_b rest n)
+
+pub again_refuse : {T V : Type 0} {A : List T → V → Type 0} {a : List T → Read T V} (p ma more : T → Bool) → Again A ma a → ((front : List T) (v : V) (rest : List T) → A front v → Ends more rest → head_is p (front ++ rest) ≡ false) → ((rest : List T) → Ends more rest → Ends ma rest) → Again A more (refuse p a)
+unfolding refuse choose
+again_refuse {a = a} p ma more k not_so down = record {
+  reads = λ front v rest h n. ap (λ z. if z then stop (front ++ rest) else a (front ++ rest)) (not_so front v rest h n) ∙ k.reads front v rest h (down rest n);
+}
 
 again_mark_at : {T V : Type 0} (t : T) (p : T → Bool) (a : List T → Read T V) → p t ≡ true → (ts : List T) → mark p a (t ∷ ts) ≡ a ts
 unfolding mark both one

@@ -13,13 +13,13 @@ use Rattle.sql_words.specs.contracts.token.SignPartialEq.TheImpl as signs
 use Rattle.sql_words.specs.contracts.token.BackPartialEq.TheImpl as backs
 use Rattle.sql_words.specs.Symbols.{Symbol}
 use Rattle.sql_tree.specs.Phrases.{One, Nothing, Then, Either, Many}
-use Rattle.sql_tree.specs.Symbols.{Word, Glyph}
-use Rattle.sql_phrases.specs.Readings.{Read, one, nothing, both, head_is, choose, many}
-use Rattle.sql_phrases.specs.Classes.{Class, class_of, is_key, is_sign, same_class, has, in_set, disjoint, subset}
-use Rattle.sql_phrases.specs.Readers.{word, glyph}
-use Rattle.sql_phrases.proofs.Judges.{Takes, Judged, Judge, judge_nothing, judge_one, judge_both, judge_choose, judge_mark}
-use Rattle.sql_phrases.proofs.Repeats.{Shortens, judge_many}
-use Rattle.sql_phrases.proofs.Agains.{Ends, Again, again_one, again_nothing, again_both, again_choose, again_mark, again_many}
+use Rattle.sql_tree.specs.Symbols.{Word, Glyph, Command}
+use Rattle.sql_phrases.specs.Readings.{Read, Shortens, one, nothing, both, head_is, choose, refuse, many}
+use Rattle.sql_phrases.specs.Classes.{Class, class_of, is_key, is_sign, is_back, same_class, has, in_set, disjoint, subset}
+use Rattle.sql_phrases.specs.Readers.{word, glyph, command}
+use Rattle.sql_phrases.proofs.Judges.{Takes, Judged, Judge, judge_nothing, judge_one, judge_both, judge_choose, judge_refuse, judge_mark}
+use Rattle.sql_phrases.proofs.Repeats.{judge_many}
+use Rattle.sql_phrases.proofs.Agains.{Ends, Again, again_one, again_nothing, again_both, again_choose, again_refuse, again_mark, again_many}
 
 pub key_same : (j k : Key) → keys.ghosts.eq j k ≡ true → j ≡ k
 key_same j k h = same_true the_key.the_type (search rules) _ _ h
@@ -27,7 +27,7 @@ key_same j k h = same_true the_key.the_type (search rules) _ _ h
 pub sign_same : (r s : Sign) → signs.ghosts.eq r s ≡ true → r ≡ s
 sign_same r s h = same_true the_sign.the_type (search rules) _ _ h
 
-back_same : (a b : Back) → backs.ghosts.eq a b ≡ true → a ≡ b
+pub back_same : (a b : Back) → backs.ghosts.eq a b ≡ true → a ≡ b
 back_same a b h = same_true the_back.the_type (search rules) _ _ h
 
 pub key_hits : (k : Key) → keys.ghosts.eq k k ≡ true
@@ -35,6 +35,9 @@ key_hits k = search rules
 
 pub sign_hits : (s : Sign) → signs.ghosts.eq s s ≡ true
 sign_hits s = search rules
+
+pub back_hits : (b : Back) → backs.ghosts.eq b b ≡ true
+back_hits b = search rules
 
 class_same : (c d : Class) → same_class c d ≡ true → c ≡ d
 class_same (Class.OfKey j) (Class.OfKey k) h = ap Class.OfKey (key_same j k h)
@@ -154,6 +157,15 @@ sign_only s (Symbol.Mark r) h = ap Symbol.Mark (sign_same r s h)
 sign_only s (Symbol.Command n) h = cc
 sign_only s Symbol.Unknown h = cc
 
+back_only : (b : Back) (u : Symbol) → is_back b u ≡ true → u ≡ Symbol.Command b
+back_only b (Symbol.Keyword n) h = cc
+back_only b (Symbol.Name n) h = cc
+back_only b (Symbol.Number n) h = cc
+back_only b (Symbol.Text n) h = cc
+back_only b (Symbol.Mark n) h = cc
+back_only b (Symbol.Command a) h = ap Symbol.Command (back_same a b h)
+back_only b Symbol.Unknown h = cc
+
 one_class : (b : Bool) → b ≡ (if b then true else false)
 one_class true = refl
 one_class false = refl
@@ -176,6 +188,15 @@ sign_tells s (Symbol.Mark r) = one_class (signs.ghosts.eq r s)
 sign_tells s (Symbol.Command n) = refl
 sign_tells s Symbol.Unknown = refl
 
+pub back_tells : (b : Back) (t : Symbol) → is_back b t ≡ in_set (Class.OfBack b ∷ []) t
+back_tells b (Symbol.Keyword n) = refl
+back_tells b (Symbol.Name n) = refl
+back_tells b (Symbol.Number n) = refl
+back_tells b (Symbol.Text n) = refl
+back_tells b (Symbol.Mark n) = refl
+back_tells b (Symbol.Command a) = one_class (backs.ghosts.eq a b)
+back_tells b Symbol.Unknown = refl
+
 pub good_key : {V : Type 0} {A : List Symbol → V → Type 0} {a : List Symbol → Read Symbol V} {fa ma : List Class} {ea : Bool} (k : Key) → Good A a fa ea ma → Good (Word k A) (word k a) (Class.OfKey k ∷ []) false ma
 good_key {ma = ma} k g = record {
   judge = judge_mark (Symbol.Keyword k) (is_key k) (key_hits k) (key_only k) g.judge;
@@ -188,6 +209,13 @@ good_sign {ma = ma} s g = record {
   judge = judge_mark (Symbol.Mark s) (is_sign s) (sign_hits s) (sign_only s) g.judge;
   again = again_mark (Symbol.Mark s) (is_sign s) (in_set ma) (sign_hits s) g.again;
   begins = λ front v (b, e, h). subst (Begins (Class.OfSign s ∷ []) false) (sym e) (sym (sign_tells s (Symbol.Mark s)) ∙ sign_hits s);
+}
+
+pub good_back : {V : Type 0} {A : List Symbol → V → Type 0} {a : List Symbol → Read Symbol V} {fa ma : List Class} {ea : Bool} (b : Back) → Good A a fa ea ma → Good (Command b A) (command b a) (Class.OfBack b ∷ []) false ma
+good_back {ma = ma} b g = record {
+  judge = judge_mark (Symbol.Command b) (is_back b) (back_hits b) (back_only b) g.judge;
+  again = again_mark (Symbol.Command b) (is_back b) (in_set ma) (back_hits b) g.again;
+  begins = λ front v (r, e, h). subst (Begins (Class.OfBack b ∷ []) false) (sym e) (sym (back_tells b (Symbol.Command b)) ∙ back_hits b);
 }
 
 abbrev pub first_then : List Class → Bool → List Class → List Class
@@ -299,4 +327,31 @@ good_many {fa = fa} {ma = ma} p cs tells s d g = record {
       (λ rest n. many_no p ma cs tells rest n)
       (λ front vs rest h n. many_apart fa ma cs d front rest (many_front fa g.begins vs front h) n);
   begins = λ front vs h. many_front fa g.begins vs front h;
+}
+
+refuse_no : (p : Symbol → Bool) (cs fa ma : List Class) (ea : Bool) → ((t : Symbol) → p t ≡ in_set cs t) → disjoint fa cs ≡ true → (front rest : List Symbol) → Begins fa ea front → Ends (in_set (ma ++ cs)) rest → head_is p (front ++ rest) ≡ false
+refuse_no p cs fa ma ea tells d [] [] h n = refl
+refuse_no p cs fa ma ea tells d [] (t ∷ ts) h n = tells t ∙ out_right ma cs (class_of t) n
+refuse_no p cs fa ma ea tells d (t ∷ ts) rest h n = tells t ∙ apart fa cs d (class_of t) h
+
+-- nothing that the test p holds of may stand there
+pub good_refuse : {V : Type 0} {A : List Symbol → V → Type 0} {a : List Symbol → Read Symbol V} {fa ma : List Class} {ea : Bool} (p : Symbol → Bool) (cs : List Class) → ((t : Symbol) → p t ≡ in_set cs t) → disjoint fa cs ≡ true → Good A a fa ea ma → Good A (refuse p a) fa ea (ma ++ cs)
+good_refuse {fa = fa} {ma = ma} {ea = ea} p cs tells d g = record {
+  judge = judge_refuse p g.judge;
+  again = again_refuse p (in_set ma) (in_set (ma ++ cs)) g.again
+      (λ front v rest k n. refuse_no p cs fa ma ea tells d front rest (g.begins front v k) n)
+      (λ rest n. ends_left ma cs rest n);
+  begins = g.begins;
+}
+
+begins_wider : (fa f : List Class) (ea e : Bool) → subset fa f ≡ true → ea ≡ e → (front : List Symbol) → Begins fa ea front → Begins f e front
+begins_wider fa f ea e s h [] b = sym h ∙ b
+begins_wider fa f ea e s h (t ∷ ts) b = within fa f s (class_of t) b
+
+-- the same for greater sets
+pub good_wider : {V : Type 0} {A : List Symbol → V → Type 0} {a : List Symbol → Read Symbol V} {fa ma : List Class} {ea : Bool} (f : List Class) (e : Bool) (m : List Class) → subset fa f ≡ true → ea ≡ e → subset ma m ≡ true → Good A a fa ea ma → Good A a f e m
+good_wider {fa = fa} {ma = ma} {ea = ea} f e m s h n g = record {
+  judge = g.judge;
+  again = record { reads = λ front v rest k w. g.again.reads front v rest k (ends_within ma m n rest w) };
+  begins = λ front v k. begins_wider fa f ea e s h front (g.begins front v k);
 }

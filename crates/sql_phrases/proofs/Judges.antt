@@ -1,7 +1,7 @@
 -- What a reader takes is spelled, and where it stops something is begun: the judge of each word.
 use Rattle.std.proofs.Common.{◌≡◌, inl, inr, Bool, true, false, if◌then◌else◌, List, [], ◌∷◌, ◌++◌, Option, Some, None, refl, sym, ◌∙◌, ap, append_assoc}
 use Rattle.sql_tree.specs.Phrases.{One, Mark, Nothing, Then, Either, Opens}
-use Rattle.sql_phrases.specs.Readings.{Read, after, picked, one, nothing, both, head_is, choose, marked, the, mark}
+use Rattle.sql_phrases.specs.Readings.{Read, after, picked, one, nothing, both, head_is, choose, stop, refuse, marked, the, mark}
 
 -- v was taken from the front and `rest` is left, whatever stands behind the first element of `rest`
 pub record Takes {T V : Type 0} (L : List T → V → Type 0) (read : List T → Read T V) (ts : List T) (v : V) (rest : List T) : Type 0 where
@@ -140,6 +140,23 @@ judge_choose {A = A} {B = B} {a = a} {b = b} p ja jb = record {
   some = record { more = ja.some.more; value = ja.some.value; spelled = inl ja.some.spelled };
   each = λ ts. choose_at A B p a b ts (ja.each ts) (jb.each ts);
 }
+
+judge_stop : {T V : Type 0} {L : List T → V → Type 0} → Opens L [] → Judge L (stop {T = T} {V = V})
+unfolding stop
+judge_stop some = record { some = some; each = λ ts. record { front = []; is = refl; opens = some; same = λ t r s e. refl } }
+
+either_same : {T V : Type 0} (L : List T → V → Type 0) (front : List T) (v : V) → Either L L front v → L front v
+either_same L front v (inl h) = h
+either_same L front v (inr h) = h
+
+pub judge_refuse : {T V : Type 0} {L : List T → V → Type 0} {a : List T → Read T V} (p : T → Bool) → Judge L a → Judge L (refuse p a)
+unfolding refuse
+judge_refuse {L = L} {a = a} p ja =
+    let j = judge_choose p (judge_stop ja.some) ja in
+    record {
+      some = ja.some;
+      each = λ ts. widen (Either L L) L (choose p stop a) (refuse p a) ts (either_same L) (λ f t r s e. refl) (refuse p a ts) (j.each ts);
+    }
 
 the_only : {T : Type 0} (p : T → Bool) (t : T) (b : Bool) → p t ≡ b → marked b ≡ Some tt → p t ≡ true
 the_only p t true e h = e

@@ -3,5 +3,10 @@ pub mod Repeats
 pub mod Agains
 pub mod Placing
 pub mod Goods
+pub mod Shapes
 pub mod Rolling
-pub mod Productions
+pub mod Sets
+pub mod Picks
+pub mod GoodExpressions
+pub mod GoodQueries
+pub mod GoodStatements

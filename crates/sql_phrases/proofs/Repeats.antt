@@ -1,12 +1,8 @@
 -- The judge of a repetition, and that its count of turns makes no difference.
 use Rattle.std.proofs.Common.{◌≡◌, ℕ, zero, suc, ◌<◌, ◌≤◌, inl, inr, Bool, if◌then◌else◌, List, [], ◌∷◌, ◌++◌, length, refl, sym, ◌∙◌, ap, subst, append-nil, arith}
 use Rattle.sql_tree.specs.Phrases.{Nothing, Then, Either, Many, Opens}
-use Rattle.sql_phrases.specs.Readings.{Read, after, nothing, both, head_is, choose, turn, many_within, many}
+use Rattle.sql_phrases.specs.Readings.{Read, Shortens, after, nothing, both, head_is, choose, turn, many_within, many}
 use Rattle.sql_phrases.proofs.Judges.{Judged, Judge, widen, judge_nothing, both_at, choose_at}
-
--- what a takes is not empty
-abbrev pub Shortens : {T V : Type 0} → (List T → Read T V) → Type 0
-Shortens {T} {V} a = (ts : List T) (v : V) (rest : List T) → a ts ≡ Read.Took v rest → length rest < length ts
 
 -- two readers take the same behind what a takes
 after_same : {T X V : Type 0} (q : Read T X) (b c : X → List T → Read T V) → ((x : X) (rest : List T) → q ≡ Read.Took x rest → b x rest ≡ c x rest) → after q b ≡ after q c

@@ -1,5 +1,5 @@
 -- Reading from the front of a list, by the words that phrases are made of.
-use Rattle.std.specs.Prelude.{ℕ, zero, suc, Bool, true, false, if◌then◌else◌, List, [], ◌∷◌, ◌++◌, Option, Some, None, length}
+use Rattle.std.specs.Prelude.{◌≡◌, ℕ, zero, suc, ◌<◌, Bool, true, false, if◌then◌else◌, List, [], ◌∷◌, ◌++◌, Option, Some, None, length}
 
 -- a value with what is left behind it, or what is left from the first wrong element on
 pub data Read (T V : Type 0) : Type 0 where
@@ -72,3 +72,7 @@ many p a ts = many_within (length ts) p a ts
 -- what is taken, with these values before it
 abbrev pub joined : {T V : Type 0} → List V → Read T (List V) → Read T (List V)
 joined vs q = after q (λ ws rest. Read.Took (vs ++ ws) rest)
+
+-- what a takes is not empty
+abbrev pub Shortens : {T V : Type 0} → (List T → Read T V) → Type 0
+Shortens {T} {V} a = (ts : List T) (v : V) (rest : List T) → a ts ≡ Read.Took v rest → length rest < length ts

@@ -1,89 +1,62 @@
-//! The tokens that only some statements have.
+//! The readers that take one token.
 #![tactic(auto)]
 
-ghost use Rattle.std.specs.Prelude.{◌≡◌, IfOk};
-ghost use Rattle.std.specs.Str.{IsUtf8};
-ghost use Rattle.sql_tree.specs.Symbols.{text_of, width_of, session_of};
-ghost use Rattle.sql_phrases.specs.Readings.{one, the, head_is};
-ghost use Rattle.sql_phrases.specs.Classes.{is_back, in_set, number_classes, source_classes, call_classes};
+ghost use Rattle.std.specs.Prelude.{◌≡◌, ◌<◌, ◌^◌, IfOk};
+ghost use Rattle.sql_tree.specs.Symbols.{name_of, text_of, number_of, width_of, session_of, cmp_of, compares};
+ghost use Rattle.sql_phrases.specs.Readings.{one, the};
+ghost use Rattle.sql_phrases.specs.Classes.{is_key, is_sign, is_back};
 ghost use Rattle.sql_phrases.specs.Gives.{Gives};
 
-use crate::stop::Stop;
-use crate::tokens::Tokens;
-use col_value::Text;
-use sql_words::{Back, Key, Sign, TokenKind, text_bytes};
-use std::alloc::{AllocError, Global};
-
-/// The text of bytes that are UTF-8.
-fn text_of(bytes: Vec<u8>) -> Result<Text, AllocError>
-    requires { IsUtf8 bytes.items }
-    ensures { IfOk result (λ t. t ≡ bytes.items) }
-{
-    match String::from_utf8(bytes) {
-        Ok(text) => Ok(Text::new(text)),
-        Err(_) => Err(AllocError),
-    }
-}
+use crate::{Stop, Tokens};
+use col_value::{Name, Text};
+use sql_tree::Cmp;
+use sql_words::{Back, Key, Sign, TokenKind, name_bytes, number_at, text_bytes};
+use std::alloc::Global;
 
 impl<'a> Tokens<'a> {
-    /// Whether the command stands at the front.
-    pub fn begins_back(&self, back: Back) -> bool
-        ensures { result ≡ head_is (is_back back) self.now }
+    /// Takes the keyword.
+    #[tactic(auto, unfolding(crate::specs::Readings::one))]
+    pub fn key(&mut self, key: Key) -> Result<(), Stop>
+        ensures { Gives result self.new (one (the (is_key key)) self.old) }
     {
         match self.left {
-            [token, ..] => match token.kind {
-                TokenKind::Back(command) => command == back,
-                _ => false,
+            [token, rest @ ..] => match token.kind {
+                TokenKind::Word(Some(word)) => {
+                    if word == key {
+                        self.left = rest;
+                        return Ok(());
+                    }
+                    Err(Stop::Here)
+                }
+                _ => Err(Stop::Here),
             },
-            [] => false,
+            [] => Err(Stop::Here),
         }
     }
 
-    /// Whether a number stands at the front.
-    pub fn begins_number(&self) -> bool
-        ensures { result ≡ head_is (in_set number_classes) self.now }
+    /// Takes the sign.
+    #[tactic(auto, unfolding(crate::specs::Readings::one))]
+    pub fn sign(&mut self, sign: Sign) -> Result<(), Stop>
+        ensures { Gives result self.new (one (the (is_sign sign)) self.old) }
     {
         match self.left {
-            [token, ..] => match token.kind {
-                TokenKind::Int(_) => true,
-                _ => false,
+            [token, rest @ ..] => match token.kind {
+                TokenKind::Sign(mark) => {
+                    if mark == sign {
+                        self.left = rest;
+                        return Ok(());
+                    }
+                    Err(Stop::Here)
+                }
+                _ => Err(Stop::Here),
             },
-            [] => false,
-        }
-    }
-
-    /// Whether a comma, INNER or JOIN stands at the front.
-    pub fn begins_source(&self) -> bool
-        ensures { result ≡ head_is (in_set source_classes) self.now }
-    {
-        match self.left {
-            [token, ..] => match token.kind {
-                TokenKind::Sign(Sign::Comma) => true,
-                TokenKind::Word(Some(Key::Inner)) => true,
-                TokenKind::Word(Some(Key::Join)) => true,
-                _ => false,
-            },
-            [] => false,
-        }
-    }
-
-    /// Whether the name of a function stands at the front.
-    pub fn begins_call(&self) -> bool
-        ensures { result ≡ head_is (in_set call_classes) self.now }
-    {
-        match self.left {
-            [token, ..] => match token.kind {
-                TokenKind::Word(Some(Key::GetLastGoodEpoch)) => true,
-                TokenKind::Word(Some(Key::GetCurrentEpoch)) => true,
-                _ => false,
-            },
-            [] => false,
+            [] => Err(Stop::Here),
         }
     }
 
     /// Takes the command.
     #[tactic(auto, unfolding(crate::specs::Readings::one))]
-    pub fn back(&mut self, back: Back) -> Result<(), Stop>
+    pub fn command(&mut self, back: Back) -> Result<(), Stop>
         ensures { Gives result self.new (one (the (is_back back)) self.old) }
     {
         match self.left {
@@ -101,7 +74,46 @@ impl<'a> Tokens<'a> {
         }
     }
 
-    /// Takes a text, `''` in it as one quote.
+    /// Takes a name, in lower case.
+    #[tactic(auto, unfolding(crate::specs::Readings::one))]
+    pub fn name(&mut self, alloc: Global) -> Result<Name, Stop>
+        ensures { Gives result self.new (one name_of self.old) }
+    {
+        match self.left {
+            [token, rest @ ..] => match token.kind {
+                TokenKind::Word(None) => {
+                    let bytes = name_bytes(alloc, self.text, token)?;
+                    self.left = rest;
+                    Ok(Name::new(bytes))
+                }
+                _ => Err(Stop::Here),
+            },
+            [] => Err(Stop::Here),
+        }
+    }
+
+    /// Takes a number, which has no sign before it.
+    #[tactic(auto, unfolding(crate::specs::Readings::one))]
+    pub fn number(&mut self) -> Result<u128, Stop>
+        ensures gives { Gives result self.new (one number_of self.old) }
+        ensures bound { IfOk result (λ n. n < 2 ^ 127) }
+    {
+        match self.left {
+            [token, rest @ ..] => match token.kind {
+                TokenKind::Int => match number_at(self.text, token) {
+                    Some(number) => {
+                        self.left = rest;
+                        Ok(number)
+                    }
+                    None => Err(Stop::Here),
+                },
+                _ => Err(Stop::Here),
+            },
+            [] => Err(Stop::Here),
+        }
+    }
+
+    /// Takes a text, without its quotes.
     #[tactic(auto, unfolding(crate::specs::Readings::one))]
     pub fn text(&mut self, alloc: Global) -> Result<Text, Stop>
         ensures { Gives result self.new (one text_of self.old) }
@@ -110,9 +122,13 @@ impl<'a> Tokens<'a> {
             [token, rest @ ..] => match token.kind {
                 TokenKind::Text => {
                     let bytes = text_bytes(alloc, self.text, token)?;
-                    let text = text_of(bytes)?;
-                    self.left = rest;
-                    Ok(text)
+                    match String::from_utf8(bytes) {
+                        Ok(text) => {
+                            self.left = rest;
+                            Ok(Text::new(text))
+                        }
+                        Err(_) => Err(Stop::Here),
+                    }
                 }
                 _ => Err(Stop::Here),
             },
@@ -120,43 +136,90 @@ impl<'a> Tokens<'a> {
         }
     }
 
-    /// Takes the number of a VARCHAR, which is below 2^32.
+    /// Takes the number of a VARCHAR: below 2^32.
     #[tactic(auto, unfolding(crate::specs::Readings::one))]
     pub fn width(&mut self) -> Result<u32, Stop>
         ensures { Gives result self.new (one width_of self.old) }
     {
         match self.left {
             [token, rest @ ..] => match token.kind {
-                TokenKind::Int(number) => {
-                    if number < 0 || number >= 1 << 32 {
-                        return Err(Stop::Here);
+                TokenKind::Int => match number_at(self.text, token) {
+                    Some(number) => {
+                        if number < 4_294_967_296 {
+                            self.left = rest;
+                            return Ok(number as u32);
+                        }
+                        Err(Stop::Here)
                     }
-                    self.left = rest;
-                    Ok(number as u32)
-                }
+                    None => Err(Stop::Here),
+                },
                 _ => Err(Stop::Here),
             },
             [] => Err(Stop::Here),
         }
     }
 
-    /// Takes the number of a session, which is 1 to 8.
+    /// Takes the number of a session: 1 to 8.
     #[tactic(auto, unfolding(crate::specs::Readings::one))]
     pub fn session(&mut self) -> Result<u8, Stop>
-        ensures { Gives result self.new (one session_of self.old) }
+        ensures gives { Gives result self.new (one session_of self.old) }
     {
         match self.left {
             [token, rest @ ..] => match token.kind {
-                TokenKind::Int(number) => {
-                    if number < 1 || number > 8 {
-                        return Err(Stop::Here);
+                TokenKind::Int => match number_at(self.text, token) {
+                    Some(number) => {
+                        if 1 <= number && number <= 8 {
+                            self.left = rest;
+                            return Ok(number as u8);
+                        }
+                        Err(Stop::Here)
                     }
-                    self.left = rest;
-                    Ok(number as u8)
-                }
+                    None => Err(Stop::Here),
+                },
                 _ => Err(Stop::Here),
             },
             [] => Err(Stop::Here),
         }
+    }
+
+    /// Takes a sign that compares.
+    #[tactic(auto, unfolding(crate::specs::Readings::one))]
+    pub fn cmp(&mut self) -> Result<Cmp, Stop>
+        ensures { Gives result self.new (one cmp_of self.old) }
+    {
+        match self.left {
+            [token, rest @ ..] => match token.kind {
+                TokenKind::Sign(mark) => match compares(mark) {
+                    Some(cmp) => {
+                        self.left = rest;
+                        Ok(cmp)
+                    }
+                    None => Err(Stop::Here),
+                },
+                _ => Err(Stop::Here),
+            },
+            [] => Err(Stop::Here),
+        }
+    }
+}
+
+/// How a sign compares.
+fn compares(sign: Sign) -> Option<Cmp>
+    ensures { result ≡ compares sign }
+{
+    match sign {
+        Sign::Equal => Some(Cmp::Eq),
+        Sign::NotEqual => Some(Cmp::Ne),
+        Sign::Less => Some(Cmp::Lt),
+        Sign::AtMost => Some(Cmp::Le),
+        Sign::Greater => Some(Cmp::Gt),
+        Sign::AtLeast => Some(Cmp::Ge),
+        Sign::Open
+        | Sign::Close
+        | Sign::Comma
+        | Sign::Dot
+        | Sign::Star
+        | Sign::Plus
+        | Sign::Minus => None,
     }
 }

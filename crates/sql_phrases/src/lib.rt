@@ -8,8 +8,10 @@
 #![tactic(auto)]
 
 mod leaves;
+mod list;
 mod stop;
 mod tokens;
 
+pub use list::{Spelled, listed};
 pub use stop::Stop;
 pub use tokens::Tokens;

@@ -1,15 +1,11 @@
-ghost use Rattle.std.specs.Prelude.{◌≡◌, ◌==◌, ◌<◌, ◌^◌, length, All, IfOk};
-ghost use Rattle.sql_tree.specs.Symbols.{name_of, number_of};
-ghost use Rattle.sql_phrases.specs.Readings.{one, the, head_is};
-ghost use Rattle.sql_phrases.specs.Classes.{is_key, is_sign};
+ghost use Rattle.std.specs.Prelude.{◌≡◌, ◌==◌, length, All};
+ghost use Rattle.sql_phrases.specs.Readings.{head_is};
+ghost use Rattle.sql_phrases.specs.Classes.{is_key, is_sign, is_back, in_set, name_classes, number_classes, text_classes, cmp_classes, signed_classes, aggregate_classes, source_classes, call_classes};
 ghost use Rattle.sql_words.specs.Symbols.{SaysUtf8};
 ghost use Rattle.sql_words.specs.Words.{IsWithin};
-ghost use Rattle.sql_phrases.specs.Gives.{Gives, seen};
+ghost use Rattle.sql_phrases.specs.Gives.{seen};
 
-use crate::stop::Stop;
-use col_value::Name;
-use sql_words::{Key, Sign, Token, TokenKind, name_bytes};
-use std::alloc::Global;
+use sql_words::{Back, Key, Sign, Token, TokenKind, number_at};
 use std::marker::Model;
 
 /// The tokens of a text that are still to be read. Contracts see what they say.
@@ -31,11 +27,11 @@ impl<'a> Model for Tokens<'a> {
 
     ghost view = { λ t. seen t.text.now t.left.now };
 
-    ghost invariant = { λ t. record { within : All (IsWithin (length t.text.now)) t.left.now; utf8 : All (SaysUtf8 t.text.now) t.left.now } };
+    ghost invariant = { λ t. All (IsWithin (length t.text.now)) t.left.now × All (SaysUtf8 t.text.now) t.left.now };
 }
 
 impl<'a> Tokens<'a> {
-    /// The tokens of a text, each of which lies in it; what a text token says is UTF-8.
+    /// The tokens of a text. Each lies in it, and what a text says is UTF-8.
     pub fn new(text: &'a [u8], left: &'a [Token]) -> Tokens<'a>
         requires within { All (IsWithin (length text.now)) left.now }
         requires utf8 { All (SaysUtf8 text.now) left.now }
@@ -77,82 +73,128 @@ impl<'a> Tokens<'a> {
         }
     }
 
-    /// Takes the keyword.
-    #[tactic(auto, unfolding(crate::specs::Readings::one))]
-    pub fn key(&mut self, key: Key) -> Result<(), Stop>
-        ensures { Gives result self.new (one (the (is_key key)) self.old) }
+    /// Whether the command stands at the front.
+    pub fn begins_back(&self, back: Back) -> bool
+        ensures { result ≡ head_is (is_back back) self.now }
     {
         match self.left {
-            [token, rest @ ..] => match token.kind {
-                TokenKind::Word(Some(word)) => {
-                    if word == key {
-                        self.left = rest;
-                        return Ok(());
-                    }
-                    Err(Stop::Here)
-                }
-                _ => Err(Stop::Here),
+            [token, ..] => match token.kind {
+                TokenKind::Back(command) => command == back,
+                _ => false,
             },
-            [] => Err(Stop::Here),
+            [] => false,
         }
     }
 
-    /// Takes the sign.
-    #[tactic(auto, unfolding(crate::specs::Readings::one))]
-    pub fn sign(&mut self, sign: Sign) -> Result<(), Stop>
-        ensures { Gives result self.new (one (the (is_sign sign)) self.old) }
+    /// Whether a name stands at the front.
+    pub fn begins_name(&self) -> bool
+        ensures { result ≡ head_is (in_set name_classes) self.now }
     {
         match self.left {
-            [token, rest @ ..] => match token.kind {
-                TokenKind::Sign(mark) => {
-                    if mark == sign {
-                        self.left = rest;
-                        return Ok(());
-                    }
-                    Err(Stop::Here)
-                }
-                _ => Err(Stop::Here),
+            [token, ..] => match token.kind {
+                TokenKind::Word(None) => true,
+                _ => false,
             },
-            [] => Err(Stop::Here),
+            [] => false,
         }
     }
 
-    /// Takes a name, in lower case.
-    #[tactic(auto, unfolding(crate::specs::Readings::one))]
-    pub fn name(&mut self, alloc: Global) -> Result<Name, Stop>
-        ensures { Gives result self.new (one name_of self.old) }
+    /// Whether a number stands at the front.
+    pub fn begins_number(&self) -> bool
+        ensures { result ≡ head_is (in_set number_classes) self.now }
     {
         match self.left {
-            [token, rest @ ..] => match token.kind {
-                TokenKind::Word(None) => {
-                    let bytes = name_bytes(alloc, self.text, token)?;
-                    self.left = rest;
-                    Ok(Name::new(bytes))
-                }
-                _ => Err(Stop::Here),
+            [token, ..] => match token.kind {
+                TokenKind::Int => number_at(self.text, token).is_some(),
+                _ => false,
             },
-            [] => Err(Stop::Here),
+            [] => false,
         }
     }
 
-    /// Takes a number, which has no sign before it.
-    #[tactic(auto, unfolding(crate::specs::Readings::one))]
-    pub fn number(&mut self) -> Result<u128, Stop>
-        ensures gives { Gives result self.new (one number_of self.old) }
-        ensures bound { IfOk result (λ n. n < 2 ^ 127) }
+    /// Whether a text stands at the front.
+    pub fn begins_text(&self) -> bool
+        ensures { result ≡ head_is (in_set text_classes) self.now }
     {
         match self.left {
-            [token, rest @ ..] => match token.kind {
-                TokenKind::Int(number) => {
-                    if number < 0 {
-                        return Err(Stop::Here);
-                    }
-                    self.left = rest;
-                    Ok(number as u128)
-                }
-                _ => Err(Stop::Here),
+            [token, ..] => match token.kind {
+                TokenKind::Text => true,
+                _ => false,
             },
-            [] => Err(Stop::Here),
+            [] => false,
+        }
+    }
+
+    /// Whether a sign that compares stands at the front.
+    pub fn begins_cmp(&self) -> bool
+        ensures { result ≡ head_is (in_set cmp_classes) self.now }
+    {
+        match self.left {
+            [token, ..] => match token.kind {
+                TokenKind::Sign(
+                    Sign::Equal
+                    | Sign::NotEqual
+                    | Sign::Less
+                    | Sign::AtMost
+                    | Sign::Greater
+                    | Sign::AtLeast,
+                ) => true,
+                _ => false,
+            },
+            [] => false,
+        }
+    }
+
+    /// Whether a plus or a minus stands at the front.
+    pub fn begins_signed(&self) -> bool
+        ensures { result ≡ head_is (in_set signed_classes) self.now }
+    {
+        match self.left {
+            [token, ..] => match token.kind {
+                TokenKind::Sign(Sign::Plus | Sign::Minus) => true,
+                _ => false,
+            },
+            [] => false,
+        }
+    }
+
+    /// Whether the name of an aggregate stands at the front.
+    pub fn begins_aggregate(&self) -> bool
+        ensures { result ≡ head_is (in_set aggregate_classes) self.now }
+    {
+        match self.left {
+            [token, ..] => match token.kind {
+                TokenKind::Word(Some(Key::Count | Key::Sum | Key::Min | Key::Max)) => true,
+                _ => false,
+            },
+            [] => false,
+        }
+    }
+
+    /// Whether what goes on with the sources of a query stands at the front.
+    pub fn begins_source(&self) -> bool
+        ensures { result ≡ head_is (in_set source_classes) self.now }
+    {
+        match self.left {
+            [token, ..] => match token.kind {
+                TokenKind::Sign(Sign::Comma) | TokenKind::Word(Some(Key::Inner | Key::Join)) =>
+                    true,
+                _ => false,
+            },
+            [] => false,
+        }
+    }
+
+    /// Whether the name of a function stands at the front.
+    pub fn begins_call(&self) -> bool
+        ensures { result ≡ head_is (in_set call_classes) self.now }
+    {
+        match self.left {
+            [token, ..] => match token.kind {
+                TokenKind::Word(Some(Key::GetLastGoodEpoch | Key::GetCurrentEpoch)) => true,
+                _ => false,
+            },
+            [] => false,
         }
     }
 }

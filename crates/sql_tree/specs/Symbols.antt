@@ -1,5 +1,5 @@
 -- What one symbol spells, and the words of the grammar over symbols.
-use Rattle.std.specs.Prelude.{ℕ, ◌^◌, ◌&&◌, nat_lt, nat_le, if◌then◌else◌, Bool, ℤ, pos, negsuc, List, ◌∷◌, Option, Some, None}
+use Rattle.std.specs.Prelude.{ℕ, ◌^◌, ◌&&◌, nat_lt, nat_le, if◌then◌else◌, Bool, List, ◌∷◌, Option, Some, None}
 use Rattle.sql_words.specs.declared.token.Key.{Key}
 use Rattle.sql_words.specs.declared.token.Sign.{Sign}
 use Rattle.sql_words.specs.declared.token.Back.{Back}
@@ -49,15 +49,10 @@ text_of (Symbol.Mark s) = None
 text_of (Symbol.Command b) = None
 text_of Symbol.Unknown = None
 
--- a number without a sign
-abbrev pub natural_of : ℤ → Option ℕ
-natural_of (pos n) = Some n
-natural_of (negsuc n) = None
-
 abbrev pub number_of : Symbol → Option ℕ
 number_of (Symbol.Keyword k) = None
 number_of (Symbol.Name n) = None
-number_of (Symbol.Number n) = natural_of n
+number_of (Symbol.Number n) = Some n
 number_of (Symbol.Text t) = None
 number_of (Symbol.Mark s) = None
 number_of (Symbol.Command b) = None

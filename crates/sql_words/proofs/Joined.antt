@@ -1,5 +1,5 @@
 -- A script of well-formed texts splits into them.
-use Rattle.std.proofs.Common.{◌≡◌, ◌≢◌, ℕ, suc, ◌+◌, ◌-◌, ◌≤◌, ◌<◌, ◌==◌, nat_eq, Bool, true, false, not, if◌then◌else◌, List, [], ◌∷◌, ◌++◌, map, filter, flat_map, length, take, drop, slice_index, All, Option, Some, None, is_some, ℤ, inl, inr, codes, IsTrue, arith, refl, ap, sym, ◌∙◌, subst, append_assoc, length-append, append-nil}
+use Rattle.std.proofs.Common.{◌≡◌, ◌≢◌, ℕ, suc, ◌+◌, ◌-◌, ◌≤◌, ◌<◌, ◌==◌, nat_eq, Bool, true, false, not, if◌then◌else◌, List, [], ◌∷◌, ◌++◌, map, filter, flat_map, length, take, drop, slice_index, All, Option, Some, None, is_some, inl, inr, codes, IsTrue, arith, refl, ap, sym, ◌∙◌, subst, append_assoc, length-append, append-nil}
 use Rattle.std.specs.List.{list_any, prefix_len}
 use Rattle.std.proofs.lemmas.Bool.{ne_eqb}
 use Rattle.std.proofs.lemmas.Bool.Decides.{eqb_tells}
@@ -143,7 +143,7 @@ either_some : (test : Bool) (x y : Piece) → is_some x.kind ≡ true → is_som
 either_some true x y one two = one
 either_some false x y one two = two
 
-number_some : (text : List ℕ) (size : ℕ) (n : Option ℤ) → is_some (number_of_size text size n).kind ≡ true
+number_some : (text : List ℕ) (size : ℕ) (n : Option ℕ) → is_some (number_of_size text size n).kind ≡ true
 number_some text size None = refl
 number_some text size (Some n) = refl
 

@@ -1,5 +1,5 @@
 -- What a text says is UTF-8 where its bytes are.
-use Rattle.std.proofs.Common.{◌≡◌, ◌≢◌, ℕ, suc, ◌+◌, ◌-◌, ◌<◌, ◌==◌, nat_eq, Bool, true, false, List, [], ◌∷◌, ◌++◌, length, get_or, drop, take, inl, inr, refl, sym, ap, ◌∙◌, subst, arith, append-nil, All, Option, Some, None, ℤ, slice_index, codes, if◌then◌else◌}
+use Rattle.std.proofs.Common.{◌≡◌, ◌≢◌, ℕ, suc, ◌+◌, ◌-◌, ◌<◌, ◌==◌, nat_eq, Bool, true, false, List, [], ◌∷◌, ◌++◌, length, get_or, drop, take, inl, inr, refl, sym, ap, ◌∙◌, subst, arith, append-nil, All, Option, Some, None, slice_index, codes, if◌then◌else◌}
 use Rattle.std.specs.Str.{IsUtf8, is_utf8}
 use Rattle.std.proofs.lemmas.Bool.{and_parts, cases_eq, ne_eqb}
 use Rattle.std.proofs.lemmas.Str.{IsUtf8-append, IsUtf8-nil, IsUtf8-encode, encode_ascii, inside_one, IsUtf8-from_is_utf8, length-encode, len_utf8_bounds}
@@ -74,7 +74,7 @@ either_says : (front : List ℕ) (test : Bool) (x y : Piece) → PieceSays front
 either_says front true x y one two = one
 either_says front false x y one two = two
 
-number_says : (front : List ℕ) (size : ℕ) (n : Option ℤ) → PieceSays front (number_of_size front size n)
+number_says : (front : List ℕ) (size : ℕ) (n : Option ℕ) → PieceSays front (number_of_size front size n)
 number_says front size None = tt
 number_says front size (Some n) = tt
 

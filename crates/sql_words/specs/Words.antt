@@ -1,5 +1,5 @@
 -- The tokens of a text.
-use Rattle.std.specs.Prelude.{ℕ, zero, suc, pred, ◌+◌, ◌^◌, ◌<◌, ◌≤◌, ◌==◌, ◌&&◌, if◌then◌else◌, nat_lt, List, [], ◌∷◌, ◌++◌, map, length, take, drop, slice_index, Option, Some, None, option_map, option_to_list, pos, ℤ, find, codes}
+use Rattle.std.specs.Prelude.{ℕ, zero, suc, pred, ◌+◌, ◌^◌, ◌<◌, ◌≤◌, ◌==◌, ◌&&◌, if◌then◌else◌, nat_lt, List, [], ◌∷◌, ◌++◌, map, length, take, drop, slice_index, Option, Some, None, option_map, option_to_list, find, codes}
 use Rattle.std.specs.List.{prefix_len}
 use Rattle.std.specs.Char.{is_ascii_digit}
 use Rattle.std.specs.Str.{is_utf8, str_eq_ignore_ascii_case}
@@ -29,12 +29,12 @@ abbrev pub word_piece : List ℕ → Piece
 word_piece text = let size = prefix_len is_of_word text in record { kind = Some (TokenKind.Word (key_of (take size text))); size = size }
 
 -- the number that digits spell, where it is at most 2^127 - 1
-unfoldable pub number_of : List ℕ → Option ℤ
-number_of digits = if nat_lt (value_of digits) (2 ^ 127) then Some (pos (value_of digits)) else None
+unfoldable pub number_of : List ℕ → Option ℕ
+number_of digits = if nat_lt (value_of digits) (2 ^ 127) then Some (value_of digits) else None
 
-abbrev pub number_of_size : List ℕ → ℕ → Option ℤ → Piece
+abbrev pub number_of_size : List ℕ → ℕ → Option ℕ → Piece
 number_of_size text size None = bad_piece text
-number_of_size text size (Some n) = record { kind = Some (TokenKind.Int n); size = size }
+number_of_size text size (Some n) = record { kind = Some TokenKind.Int; size = size }
 
 -- a number, as long as possible
 abbrev pub number_piece : List ℕ → Piece

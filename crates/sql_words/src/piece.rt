@@ -5,11 +5,12 @@ ghost use Rattle.std.specs.Prelude.{◌≡◌, ◌<◌, ◌≤◌, length, slice
 ghost use Rattle.std.specs.Str.{is_utf8};
 ghost use Rattle.std.specs.Char.{is_ascii_digit};
 ghost use Rattle.sql_words.specs.Bytes.{begins_word, stands_at};
-ghost use Rattle.sql_words.specs.Words.{bad_piece, word_piece, number_of, number_piece, text_piece, command_piece, long_sign, short_sign, sign_piece, piece_of};
+ghost use Rattle.sql_words.specs.Words.{bad_piece, word_piece, number_piece, text_piece, command_piece, long_sign, short_sign, sign_piece, piece_of};
 
 use crate::bytes::{
     begins_comment, begins_word, behind, digits_size, inner_size, is_space, line_size, word_size,
 };
+use crate::number::number_of;
 use crate::reserved::key_of;
 use crate::token::{Back, Sign, TokenKind};
 
@@ -75,30 +76,6 @@ fn word_piece(text: &[u8]) -> Piece
     }
 }
 
-/// A tenth of 2^127, rounded down.
-const TENTH: u128 = 17014118346046923173168730371588410572;
-
-/// The number that digits spell, or None where it is greater than 2^127 - 1.
-#[tactic(auto, unfolding(crate::specs::Words::number_of))]
-fn number_of(digits: &[u8]) -> Option<i128>
-    ensures { result ≡ number_of digits.now }
-{
-    let mut value: u128 = 0;
-    for digit in digits {
-        if value > TENTH {
-            return None;
-        }
-        value = value * 10 + u128::from(digit.saturating_sub(b'0'));
-        if value > GREATEST {
-            return None;
-        }
-    }
-    Some(value as i128)
-}
-
-/// 2^127 - 1.
-const GREATEST: u128 = 170141183460469231731687303715884105727;
-
 fn number_piece(text: &[u8]) -> Piece
     requires { IsTrue (is_ascii_digit (slice_index text.now 0)) }
     ensures piece { result ≡ number_piece text.now }
@@ -107,8 +84,8 @@ fn number_piece(text: &[u8]) -> Piece
 {
     let size = digits_size(text);
     match number_of(&text[..size]) {
-        Some(n) => Piece {
-            kind: Some(TokenKind::Int(n)),
+        Some(_) => Piece {
+            kind: Some(TokenKind::Int),
             size,
         },
         None => bad_piece(text),

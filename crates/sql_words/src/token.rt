@@ -92,13 +92,13 @@ pub enum Back {
     Step,
 }
 
-/// What a token is. The bytes of a name and of a text are those of the token's span.
+/// What a token is. What a name, a number or a text says is read from the bytes of the token's span.
 #[derive(Clone, Copy, Debug)]
 pub enum TokenKind {
     /// A keyword, or a name where it is none.
     Word(Option<Key>),
     /// A number without a sign, at most 2^127 - 1.
-    Int(i128),
+    Int,
     /// A text between quotes whose bytes are UTF-8.
     Text,
     Sign(Sign),
@@ -111,6 +111,6 @@ pub enum TokenKind {
 #[derive(Clone, Copy, Debug)]
 pub struct Token {
     pub kind: TokenKind,
-    pub start: usize,
-    pub end: usize,
+    pub start: u32,
+    pub end: u32,
 }

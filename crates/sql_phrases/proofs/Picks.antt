@@ -1,0 +1,97 @@
+-- The symbols that carry values are good.
+use Rattle.std.proofs.Common.{◌≡◌, ℕ, false, true, List, [], Some, refl}
+use Rattle.sql_words.specs.declared.token.Sign.{Sign}
+use Rattle.sql_words.specs.Symbols.{Symbol}
+use Rattle.sql_tree.specs.declared.tree.Cmp.{Cmp}
+use Rattle.sql_tree.specs.Phrases.{One}
+use Rattle.sql_tree.specs.Symbols.{name_of, text_of, number_of, width_of, session_of, compares, cmp_of}
+use Rattle.sql_phrases.specs.Readings.{one}
+use Rattle.sql_phrases.specs.Classes.{in_set, name_classes, text_classes, number_classes, cmp_classes}
+use Rattle.sql_phrases.proofs.Goods.{Good, good_one}
+
+name_only : (u : Symbol) (w : List ℕ) → name_of u ≡ Some w → in_set name_classes u ≡ true
+name_only (Symbol.Keyword k) w h = cc
+name_only (Symbol.Name n) w h = refl
+name_only (Symbol.Number n) w h = cc
+name_only (Symbol.Text t) w h = cc
+name_only (Symbol.Mark s) w h = cc
+name_only (Symbol.Command b) w h = cc
+name_only Symbol.Unknown w h = cc
+
+pub good_name : Good (One name_of) (one name_of) name_classes false []
+good_name = good_one name_of name_classes (Symbol.Name []) [] refl name_only
+
+text_only : (u : Symbol) (w : List ℕ) → text_of u ≡ Some w → in_set text_classes u ≡ true
+text_only (Symbol.Keyword k) w h = cc
+text_only (Symbol.Name n) w h = cc
+text_only (Symbol.Number n) w h = cc
+text_only (Symbol.Text t) w h = refl
+text_only (Symbol.Mark s) w h = cc
+text_only (Symbol.Command b) w h = cc
+text_only Symbol.Unknown w h = cc
+
+pub good_text : Good (One text_of) (one text_of) text_classes false []
+good_text = good_one text_of text_classes (Symbol.Text []) [] refl text_only
+
+number_only : (u : Symbol) (w : ℕ) → number_of u ≡ Some w → in_set number_classes u ≡ true
+number_only (Symbol.Keyword k) w h = cc
+number_only (Symbol.Name n) w h = cc
+number_only (Symbol.Number n) w h = refl
+number_only (Symbol.Text t) w h = cc
+number_only (Symbol.Mark s) w h = cc
+number_only (Symbol.Command b) w h = cc
+number_only Symbol.Unknown w h = cc
+
+pub good_number : Good (One number_of) (one number_of) number_classes false []
+good_number = good_one number_of number_classes (Symbol.Number 0) 0 refl number_only
+
+width_only : (u : Symbol) (w : ℕ) → width_of u ≡ Some w → in_set number_classes u ≡ true
+width_only (Symbol.Keyword k) w h = cc
+width_only (Symbol.Name n) w h = cc
+width_only (Symbol.Number n) w h = refl
+width_only (Symbol.Text t) w h = cc
+width_only (Symbol.Mark s) w h = cc
+width_only (Symbol.Command b) w h = cc
+width_only Symbol.Unknown w h = cc
+
+pub good_width : Good (One width_of) (one width_of) number_classes false []
+good_width = good_one width_of number_classes (Symbol.Number 1) 1 refl width_only
+
+session_only : (u : Symbol) (w : ℕ) → session_of u ≡ Some w → in_set number_classes u ≡ true
+session_only (Symbol.Keyword k) w h = cc
+session_only (Symbol.Name n) w h = cc
+session_only (Symbol.Number n) w h = refl
+session_only (Symbol.Text t) w h = cc
+session_only (Symbol.Mark s) w h = cc
+session_only (Symbol.Command b) w h = cc
+session_only Symbol.Unknown w h = cc
+
+pub good_session : Good (One session_of) (one session_of) number_classes false []
+good_session = good_one session_of number_classes (Symbol.Number 1) 1 refl session_only
+
+sign_compares : (s : Sign) (w : Cmp) → compares s ≡ Some w → in_set cmp_classes (Symbol.Mark s) ≡ true
+sign_compares Sign.Open w h = cc
+sign_compares Sign.Close w h = cc
+sign_compares Sign.Comma w h = cc
+sign_compares Sign.Dot w h = cc
+sign_compares Sign.Star w h = cc
+sign_compares Sign.Plus w h = cc
+sign_compares Sign.Minus w h = cc
+sign_compares Sign.Equal w h = refl
+sign_compares Sign.NotEqual w h = refl
+sign_compares Sign.Less w h = refl
+sign_compares Sign.AtMost w h = refl
+sign_compares Sign.Greater w h = refl
+sign_compares Sign.AtLeast w h = refl
+
+cmp_only : (u : Symbol) (w : Cmp) → cmp_of u ≡ Some w → in_set cmp_classes u ≡ true
+cmp_only (Symbol.Keyword k) w h = cc
+cmp_only (Symbol.Name n) w h = cc
+cmp_only (Symbol.Number n) w h = cc
+cmp_only (Symbol.Text t) w h = cc
+cmp_only (Symbol.Mark s) w h = sign_compares s w h
+cmp_only (Symbol.Command b) w h = cc
+cmp_only Symbol.Unknown w h = cc
+
+pub good_cmp : Good (One cmp_of) (one cmp_of) cmp_classes false []
+good_cmp = good_one cmp_of cmp_classes (Symbol.Mark Sign.Equal) Cmp.Eq refl cmp_only
