@@ -4,6 +4,8 @@
 //! trees are equal values.
 #![tactic(auto)]
 
+mod copies;
+mod makers;
 mod part;
 mod query;
 mod refusal;

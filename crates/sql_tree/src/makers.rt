@@ -1,0 +1,258 @@
+ghost use Rattle.std.specs.Prelude.{◌≡◌, false, ◌∷◌, map, IfOk};
+ghost use Rattle.std.specs.List.{list_any};
+ghost use Rattle.sql_tree.specs.Makers.{constant, column, negated, denied, is_null, compared, between, equals, one_of, chained, addend, term, summed, aggregated, count_all};
+
+use crate::{Addend, AggKind, Cmp, ColRef, Part, Term, Tree};
+use col_value::{Boxed, List, Wide};
+use std::alloc::{AllocError, Global};
+
+impl Part {
+    /// A literal.
+    pub fn constant(value: Wide) -> Part
+        ensures { result ≡ constant value }
+    {
+        Part {
+            tree: Tree::Lit(value),
+            holds: false,
+        }
+    }
+
+    /// A column.
+    pub fn column(name: ColRef) -> Part
+        ensures { result ≡ column name }
+    {
+        Part {
+            tree: Tree::Col(name),
+            holds: false,
+        }
+    }
+
+    /// `- self`
+    pub fn negated(self, alloc: Global) -> Result<Part, AllocError>
+        ensures { IfOk result (λ p. p ≡ negated self) }
+    {
+        let holds = self.holds;
+        Ok(Part {
+            tree: Tree::Neg(Boxed::new(alloc, self.tree)?),
+            holds,
+        })
+    }
+
+    /// `NOT self`
+    pub fn denied(self, alloc: Global) -> Result<Part, AllocError>
+        ensures { IfOk result (λ p. p ≡ denied self) }
+    {
+        let holds = self.holds;
+        Ok(Part {
+            tree: Tree::Not(Boxed::new(alloc, self.tree)?),
+            holds,
+        })
+    }
+
+    /// `self IS NULL`
+    pub fn is_null(self, alloc: Global) -> Result<Part, AllocError>
+        ensures { IfOk result (λ p. p ≡ is_null self) }
+    {
+        let holds = self.holds;
+        Ok(Part {
+            tree: Tree::IsNull(Boxed::new(alloc, self.tree)?),
+            holds,
+        })
+    }
+
+    /// `self cmp other`
+    pub fn compared(self, alloc: Global, cmp: Cmp, other: Part) -> Result<Part, AllocError>
+        ensures { IfOk result (λ p. p ≡ compared self cmp other) }
+    {
+        let holds = self.holds || other.holds;
+        Ok(Part {
+            tree: compare(alloc, self.tree, cmp, other.tree)?,
+            holds,
+        })
+    }
+
+    /// `self BETWEEN low AND high`
+    pub fn between(self, alloc: Global, low: Part, high: Part) -> Result<Part, AllocError>
+        ensures { IfOk result (λ p. p ≡ between self low high) }
+    {
+        let once_more = self.tree.copy(alloc)?;
+        let mut both = Vec::with_capacity(alloc, 2)?;
+        both.push(compare(alloc, self.tree, Cmp::Ge, low.tree)?)?;
+        both.push(compare(alloc, once_more, Cmp::Le, high.tree)?)?;
+        Ok(Part {
+            tree: Tree::And(List::new(both)),
+            holds: true,
+        })
+    }
+
+    /// `self IN (first, more)`
+    pub fn one_of(self, alloc: Global, first: Part, more: Vec<Part>) -> Result<Part, AllocError>
+        ensures { IfOk result (λ p. p ≡ one_of self first more.items) }
+    {
+        if more.is_empty() {
+            return Ok(Part {
+                tree: compare(alloc, self.tree, Cmp::Eq, first.tree)?,
+                holds: true,
+            });
+        }
+        Ok(Part {
+            tree: Tree::Or(equals_each(alloc, &self, first, more)?),
+            holds: true,
+        })
+    }
+
+    /// `self * more * ..`
+    pub fn times(self, alloc: Global, more: Vec<Part>) -> Result<Part, AllocError>
+        ensures { IfOk result (λ p. p ≡ chained Tree.Product self more.items) }
+    {
+        if more.is_empty() {
+            return Ok(self);
+        }
+        let holds = self.holds || any_holds(&more);
+        Ok(Part {
+            tree: Tree::Product(List::new(trees(alloc, self, more)?)),
+            holds,
+        })
+    }
+
+    /// `self AND more AND ..`
+    pub fn and(self, alloc: Global, more: Vec<Part>) -> Result<Part, AllocError>
+        ensures { IfOk result (λ p. p ≡ chained Tree.And self more.items) }
+    {
+        if more.is_empty() {
+            return Ok(self);
+        }
+        let holds = self.holds || any_holds(&more);
+        Ok(Part {
+            tree: Tree::And(List::new(trees(alloc, self, more)?)),
+            holds,
+        })
+    }
+
+    /// `self OR more OR ..`
+    pub fn or(self, alloc: Global, more: Vec<Part>) -> Result<Part, AllocError>
+        ensures { IfOk result (λ p. p ≡ chained Tree.Or self more.items) }
+    {
+        if more.is_empty() {
+            return Ok(self);
+        }
+        let holds = self.holds || any_holds(&more);
+        Ok(Part {
+            tree: Tree::Or(List::new(trees(alloc, self, more)?)),
+            holds,
+        })
+    }
+
+    /// `self + more - ..`
+    pub fn plus(self, alloc: Global, more: Vec<Addend>) -> Result<Part, AllocError>
+        ensures { IfOk result (λ p. p ≡ summed self more.items) }
+    {
+        if more.is_empty() {
+            return Ok(self);
+        }
+        let holds = self.holds || any_addend_holds(&more);
+        Ok(Part {
+            tree: Tree::Sum(terms(alloc, self, more)?),
+            holds,
+        })
+    }
+
+    /// `COUNT(*)`
+    pub fn count_all() -> Part
+        ensures { result ≡ count_all }
+    {
+        Part {
+            tree: Tree::Agg(AggKind::CountAll, None),
+            holds: false,
+        }
+    }
+
+    /// The aggregate of `self`.
+    pub fn aggregated(self, alloc: Global, kind: AggKind) -> Result<Part, AllocError>
+        ensures { IfOk result (λ p. p ≡ aggregated kind self) }
+    {
+        let holds = self.holds;
+        Ok(Part {
+            tree: Tree::Agg(kind, Some(Boxed::new(alloc, self.tree)?)),
+            holds,
+        })
+    }
+}
+
+fn compare(alloc: Global, left: Tree, cmp: Cmp, right: Tree) -> Result<Tree, AllocError>
+    ensures { IfOk result (λ t. t ≡ Tree.Compare left cmp right) }
+{
+    let left = Boxed::new(alloc, left)?;
+    Ok(Tree::Compare(left, cmp, Boxed::new(alloc, right)?))
+}
+
+/// The trees of the parts, in order.
+fn trees(alloc: Global, first: Part, more: Vec<Part>) -> Result<Vec<Tree>, AllocError>
+    ensures { IfOk result (λ ts. ts.items ≡ map (λ p. p.tree) (first ∷ more.items)) }
+{
+    let mut trees = Vec::new(alloc);
+    trees.push(first.tree)?;
+    for part in more {
+        trees.push(part.tree)?;
+    }
+    Ok(trees)
+}
+
+/// The terms of a sum of `first` and more, in order.
+fn terms(alloc: Global, first: Part, more: Vec<Addend>) -> Result<List<Term>, AllocError>
+    ensures { IfOk result (λ ts. ts ≡ map term (addend false first ∷ more.items)) }
+{
+    let mut terms = Vec::new(alloc);
+    terms.push(Term {
+        minus: false,
+        part: first.tree,
+    })?;
+    for next in more {
+        terms.push(Term {
+            minus: next.minus,
+            part: next.part.tree,
+        })?;
+    }
+    Ok(List::new(terms))
+}
+
+/// Whether one of the parts holds a BETWEEN or an IN.
+fn any_holds(parts: &[Part]) -> bool
+    ensures { result ≡ list_any (λ p. p.holds) parts.now }
+{
+    for part in parts {
+        if part.holds {
+            return true;
+        }
+    }
+    false
+}
+
+/// Whether one of the addends holds a BETWEEN or an IN.
+fn any_addend_holds(addends: &[Addend]) -> bool
+    ensures { result ≡ list_any (λ a. a.part.holds) addends.now }
+{
+    for addend in addends {
+        if addend.part.holds {
+            return true;
+        }
+    }
+    false
+}
+
+/// `part = other` for each of the others, in order.
+fn equals_each(
+    alloc: Global,
+    part: &Part,
+    first: Part,
+    more: Vec<Part>,
+) -> Result<List<Tree>, AllocError>
+    ensures { IfOk result (λ ts. ts ≡ map (equals part.now) (first ∷ more.items)) }
+{
+    let mut out = Vec::new(alloc);
+    out.push(compare(alloc, part.tree.copy(alloc)?, Cmp::Eq, first.tree)?)?;
+    for other in more {
+        out.push(compare(alloc, part.tree.copy(alloc)?, Cmp::Eq, other.tree)?)?;
+    }
+    Ok(List::new(out))
+}
