@@ -2,34 +2,50 @@ ghost use Rattle.sql_phrases.specs.Gives.{Gives};
 ghost use Rattle.sql_phrases.specs.Readers.{literal, tuple, inserts, deletes, sets, updates, copies};
 
 use crate::clauses::where_clause;
-use crate::lists::{Spelled, listed};
-use col_value::{List, Wide};
+use col_value::{Wide, WideRow};
 use sql_expr::{expr, literal};
-use sql_phrases::{Stop, Tokens};
+use sql_phrases::{Spelled, Stop, Tokens, listed};
 use sql_tree::{Delete, Insert, Setting, Statement, Update};
 use sql_words::{Key, Sign};
 use std::alloc::Global;
 
-impl Spelled for Wide {
+/// `[-] int | text | TRUE | FALSE | NULL`
+struct Literal;
+
+impl Spelled for Literal {
     ghost use Rattle.sql_phrases.specs.Readers.{literal};
+    ghost use Rattle.sql_phrases.proofs.Goods.{good_shortens};
+    ghost use Rattle.sql_phrases.proofs.GoodExpressions.{good_literal};
+
+    type Value = Wide;
 
     ghost reads = { literal };
+
+    ghost shortens = { good_shortens good_literal };
 
     fn read(alloc: Global, tokens: &mut Tokens<'_>) -> Result<Wide, Stop> {
         literal(alloc, tokens)
     }
 }
 
-impl Spelled for List<Wide> {
+/// `( literal {, literal} )`
+struct Tuple;
+
+impl Spelled for Tuple {
     ghost use Rattle.sql_phrases.specs.Readers.{tuple};
+    ghost use Rattle.sql_phrases.proofs.Goods.{good_shortens};
+    ghost use Rattle.sql_phrases.proofs.GoodStatements.{good_tuple};
+
+    type Value = WideRow;
 
     ghost reads = { tuple };
 
-    /// `( literal {, literal} )`
+    ghost shortens = { good_shortens good_tuple };
+
     #[tactic(auto, unfolding(sql_phrases::specs::Readings::mark, sql_phrases::specs::Readings::both, sql_phrases::specs::Readings::nothing, sql_phrases::specs::Readers::inside, sql_phrases::specs::Readers::tuple))]
-    fn read(alloc: Global, tokens: &mut Tokens<'_>) -> Result<List<Wide>, Stop> {
+    fn read(alloc: Global, tokens: &mut Tokens<'_>) -> Result<WideRow, Stop> {
         tokens.sign(Sign::Open)?;
-        let values = listed::<Wide>(alloc, tokens)?;
+        let values = listed::<Literal>(alloc, tokens)?;
         tokens.sign(Sign::Close)?;
         Ok(values)
     }
@@ -44,7 +60,7 @@ pub fn inserts(alloc: Global, tokens: &mut Tokens<'_>) -> Result<Statement, Stop
     tokens.key(Key::Into)?;
     let table = tokens.name(alloc)?;
     tokens.key(Key::Values)?;
-    let rows = listed::<List<Wide>>(alloc, tokens)?;
+    let rows = listed::<Tuple>(alloc, tokens)?;
     Ok(Statement::Insert(Insert { table, rows }))
 }
 
@@ -60,12 +76,20 @@ pub fn deletes(alloc: Global, tokens: &mut Tokens<'_>) -> Result<Statement, Stop
     Ok(Statement::Delete(Delete { table, keep }))
 }
 
-impl Spelled for Setting {
+/// `name = expr`
+struct Assignment;
+
+impl Spelled for Assignment {
     ghost use Rattle.sql_phrases.specs.Readers.{sets};
+    ghost use Rattle.sql_phrases.proofs.Goods.{good_shortens};
+    ghost use Rattle.sql_phrases.proofs.GoodStatements.{good_sets};
+
+    type Value = Setting;
 
     ghost reads = { sets };
 
-    /// `name = expr`
+    ghost shortens = { good_shortens good_sets };
+
     #[tactic(auto, unfolding(sql_phrases::specs::Readings::mark, sql_phrases::specs::Readings::both, sql_phrases::specs::Readings::nothing, sql_phrases::specs::Readers::sets))]
     fn read(alloc: Global, tokens: &mut Tokens<'_>) -> Result<Setting, Stop> {
         let column = tokens.name(alloc)?;
@@ -83,7 +107,7 @@ pub fn updates(alloc: Global, tokens: &mut Tokens<'_>) -> Result<Statement, Stop
     tokens.key(Key::Update)?;
     let table = tokens.name(alloc)?;
     tokens.key(Key::Set)?;
-    let settings = listed::<Setting>(alloc, tokens)?;
+    let settings = listed::<Assignment>(alloc, tokens)?;
     let keep = where_clause(alloc, tokens)?;
     Ok(Statement::Update(Update {
         table,

@@ -1,10 +1,9 @@
 ghost use Rattle.sql_phrases.specs.Gives.{Gives};
 ghost use Rattle.sql_phrases.specs.Readers.{alias, where_clause, group_by, having, key_name, descending, order_key, order_by, limit, reference};
 
-use crate::lists::{Spelled, listed};
 use col_value::{List, Name};
 use sql_expr::{expr, grouped_expr, reference};
-use sql_phrases::{Stop, Tokens};
+use sql_phrases::{Spelled, Stop, Tokens, listed};
 use sql_tree::{ColRef, KeyRef, SortKey, Tree};
 use sql_words::Key;
 use std::alloc::Global;
@@ -35,10 +34,19 @@ pub fn where_clause(alloc: Global, tokens: &mut Tokens<'_>) -> Result<Option<Tre
     Ok(Some(condition))
 }
 
-impl Spelled for ColRef {
+/// `name [. name]`
+struct Reference;
+
+impl Spelled for Reference {
     ghost use Rattle.sql_phrases.specs.Readers.{reference};
+    ghost use Rattle.sql_phrases.proofs.Goods.{good_shortens};
+    ghost use Rattle.sql_phrases.proofs.GoodExpressions.{good_reference};
+
+    type Value = ColRef;
 
     ghost reads = { reference };
+
+    ghost shortens = { good_shortens good_reference };
 
     fn read(alloc: Global, tokens: &mut Tokens<'_>) -> Result<ColRef, Stop> {
         reference(alloc, tokens)
@@ -55,7 +63,7 @@ pub fn group_by(alloc: Global, tokens: &mut Tokens<'_>) -> Result<List<ColRef>, 
     }
     tokens.key(Key::Group)?;
     tokens.key(Key::By)?;
-    listed::<ColRef>(alloc, tokens)
+    listed::<Reference>(alloc, tokens)
 }
 
 /// `[HAVING gexpr]`
@@ -100,12 +108,20 @@ fn descending(tokens: &mut Tokens<'_>) -> Result<bool, Stop>
     Ok(false)
 }
 
-impl Spelled for SortKey {
+/// `(int | name) [ASC | DESC]`
+struct OrderKey;
+
+impl Spelled for OrderKey {
     ghost use Rattle.sql_phrases.specs.Readers.{order_key};
+    ghost use Rattle.sql_phrases.proofs.Goods.{good_shortens};
+    ghost use Rattle.sql_phrases.proofs.GoodQueries.{good_order_key};
+
+    type Value = SortKey;
 
     ghost reads = { order_key };
 
-    /// `(int | name) [ASC | DESC]`
+    ghost shortens = { good_shortens good_order_key };
+
     #[tactic(auto, unfolding(sql_phrases::specs::Readings::both, sql_phrases::specs::Readings::nothing, sql_phrases::specs::Readers::order_key))]
     fn read(alloc: Global, tokens: &mut Tokens<'_>) -> Result<SortKey, Stop> {
         let key = key_name(alloc, tokens)?;
@@ -124,7 +140,7 @@ pub fn order_by(alloc: Global, tokens: &mut Tokens<'_>) -> Result<List<SortKey>,
     }
     tokens.key(Key::Order)?;
     tokens.key(Key::By)?;
-    listed::<SortKey>(alloc, tokens)
+    listed::<OrderKey>(alloc, tokens)
 }
 
 /// `[LIMIT int]`

@@ -5,9 +5,8 @@ ghost use Rattle.sql_tree.specs.Symbols.{width_of};
 ghost use Rattle.sql_phrases.specs.Readings.{one, both, nothing};
 ghost use Rattle.sql_phrases.specs.Readers.{word, inside, kind, not_null, new_column, creates_table, encoding_name, encoded, new_part, sorted_by, creates_projection, creates, drops};
 
-use crate::lists::{Spelled, listed};
 use col_value::{ColType, Encoding, List, Name};
-use sql_phrases::{Stop, Tokens};
+use sql_phrases::{Spelled, Stop, Tokens, listed};
 use sql_tree::{NewColumn, NewPart, NewProjection, Statement};
 use sql_words::{Key, Sign};
 use std::alloc::Global;
@@ -61,12 +60,20 @@ fn not_null(tokens: &mut Tokens<'_>) -> Result<bool, Stop>
     Ok(true)
 }
 
-impl Spelled for NewColumn {
+/// `name type [NOT NULL]`
+struct Column;
+
+impl Spelled for Column {
     ghost use Rattle.sql_phrases.specs.Readers.{new_column};
+    ghost use Rattle.sql_phrases.proofs.Goods.{good_shortens};
+    ghost use Rattle.sql_phrases.proofs.GoodStatements.{good_new_column};
+
+    type Value = NewColumn;
 
     ghost reads = { new_column };
 
-    /// `name type [NOT NULL]`
+    ghost shortens = { good_shortens good_new_column };
+
     #[tactic(auto, unfolding(sql_phrases::specs::Readings::both, sql_phrases::specs::Readings::nothing, sql_phrases::specs::Readers::new_column))]
     fn read(alloc: Global, tokens: &mut Tokens<'_>) -> Result<NewColumn, Stop> {
         let name = tokens.name(alloc)?;
@@ -88,7 +95,7 @@ fn creates_table(alloc: Global, tokens: &mut Tokens<'_>) -> Result<Statement, St
     tokens.key(Key::Table)?;
     let table = tokens.name(alloc)?;
     tokens.sign(Sign::Open)?;
-    let columns = listed::<NewColumn>(alloc, tokens)?;
+    let columns = listed::<Column>(alloc, tokens)?;
     tokens.sign(Sign::Close)?;
     Ok(Statement::CreateTable(table, columns))
 }
@@ -130,12 +137,20 @@ fn encoded(tokens: &mut Tokens<'_>) -> Result<Encoding, Stop>
     encoding_name(tokens)
 }
 
-impl Spelled for NewPart {
+/// `name [ENCODING encoding]`
+struct Part;
+
+impl Spelled for Part {
     ghost use Rattle.sql_phrases.specs.Readers.{new_part};
+    ghost use Rattle.sql_phrases.proofs.Goods.{good_shortens};
+    ghost use Rattle.sql_phrases.proofs.GoodStatements.{good_new_part};
+
+    type Value = NewPart;
 
     ghost reads = { new_part };
 
-    /// `name [ENCODING encoding]`
+    ghost shortens = { good_shortens good_new_part };
+
     #[tactic(auto, unfolding(sql_phrases::specs::Readings::both, sql_phrases::specs::Readings::nothing, sql_phrases::specs::Readers::new_part))]
     fn read(alloc: Global, tokens: &mut Tokens<'_>) -> Result<NewPart, Stop> {
         let name = tokens.name(alloc)?;
@@ -144,11 +159,20 @@ impl Spelled for NewPart {
     }
 }
 
-impl Spelled for Name {
+/// A name alone.
+struct Bare;
+
+impl Spelled for Bare {
     ghost use Rattle.sql_tree.specs.Symbols.{name_of};
     ghost use Rattle.sql_phrases.specs.Readings.{one};
+    ghost use Rattle.sql_phrases.proofs.Goods.{good_shortens};
+    ghost use Rattle.sql_phrases.proofs.Picks.{good_name};
+
+    type Value = Name;
 
     ghost reads = { one name_of };
+
+    ghost shortens = { good_shortens good_name };
 
     fn read(alloc: Global, tokens: &mut Tokens<'_>) -> Result<Name, Stop> {
         tokens.name(alloc)
@@ -165,7 +189,7 @@ fn sorted_by(alloc: Global, tokens: &mut Tokens<'_>) -> Result<Option<List<Name>
     }
     tokens.key(Key::Order)?;
     tokens.key(Key::By)?;
-    let names = listed::<Name>(alloc, tokens)?;
+    let names = listed::<Bare>(alloc, tokens)?;
     Ok(Some(names))
 }
 
@@ -177,11 +201,11 @@ fn creates_projection(alloc: Global, tokens: &mut Tokens<'_>) -> Result<Statemen
     tokens.key(Key::Projection)?;
     let name = tokens.name(alloc)?;
     tokens.sign(Sign::Open)?;
-    let parts = listed::<NewPart>(alloc, tokens)?;
+    let parts = listed::<Part>(alloc, tokens)?;
     tokens.sign(Sign::Close)?;
     tokens.key(Key::As)?;
     tokens.key(Key::Select)?;
-    let selected = listed::<Name>(alloc, tokens)?;
+    let selected = listed::<Bare>(alloc, tokens)?;
     tokens.key(Key::From)?;
     let table = tokens.name(alloc)?;
     let sort = sorted_by(alloc, tokens)?;

@@ -9,9 +9,12 @@
 mod changes;
 mod clauses;
 mod creations;
-mod lists;
 mod queries;
+mod reader;
 mod sources;
 mod statements;
 
-pub use statements::statement;
+#[cfg(test)]
+mod tests;
+
+pub use reader::{ReadFault, one_reading, read};

@@ -2,20 +2,27 @@ ghost use Rattle.sql_phrases.specs.Gives.{Gives};
 ghost use Rattle.sql_phrases.specs.Readers.{select_item, select_list, queries, calls, selects, epochs, selects_at, explains};
 
 use crate::clauses::{alias, group_by, having, limit, order_by, where_clause};
-use crate::lists::{Spelled, listed};
 use crate::sources::sources;
 use sql_expr::grouped_expr;
-use sql_phrases::{Stop, Tokens};
+use sql_phrases::{Spelled, Stop, Tokens, listed};
 use sql_tree::{At, Function, Item, Items, Query, Statement};
 use sql_words::{Key, Sign};
 use std::alloc::Global;
 
-impl Spelled for Item {
+/// `gexpr [AS name]`
+struct SelectItem;
+
+impl Spelled for SelectItem {
     ghost use Rattle.sql_phrases.specs.Readers.{select_item};
+    ghost use Rattle.sql_phrases.proofs.Goods.{good_shortens};
+    ghost use Rattle.sql_phrases.proofs.GoodQueries.{good_select_item};
+
+    type Value = Item;
 
     ghost reads = { select_item };
 
-    /// `gexpr [AS name]`
+    ghost shortens = { good_shortens good_select_item };
+
     #[tactic(auto, unfolding(sql_phrases::specs::Readings::both, sql_phrases::specs::Readings::nothing, sql_phrases::specs::Readers::select_item))]
     fn read(alloc: Global, tokens: &mut Tokens<'_>) -> Result<Item, Stop> {
         let tree = grouped_expr(alloc, tokens)?;
@@ -33,7 +40,7 @@ fn select_list(alloc: Global, tokens: &mut Tokens<'_>) -> Result<Items, Stop>
         tokens.sign(Sign::Star)?;
         return Ok(Items::Star);
     }
-    let items = listed::<Item>(alloc, tokens)?;
+    let items = listed::<SelectItem>(alloc, tokens)?;
     Ok(Items::Listed(items))
 }
 

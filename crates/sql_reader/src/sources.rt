@@ -63,19 +63,16 @@ fn next_source(alloc: Global, tokens: &mut Tokens<'_>) -> Result<Source, Stop>
 fn more_sources(alloc: Global, tokens: &mut Tokens<'_>, first: Source) -> Result<List<Source>, Stop>
     ensures { Gives result tokens.new (joined (first ∷ []) (many (in_set source_classes) next_source tokens.old)) }
 {
-    let mut items = Vec::new(alloc);
-    items.push(first)?;
-    // A turn takes a token at least.
-    let mut turns = tokens.len();
-    while turns > 0 && tokens.begins_source() {
-        turns -= 1;
+    let mut found = Vec::new(alloc);
+    found.push(first)?;
+    while tokens.begins_source() {
         let source = match next_source(alloc, tokens) {
             Ok(source) => source,
             Err(stop) => return Err(stop),
         };
-        items.push(source)?;
+        found.push(source)?;
     }
-    Ok(List::new(items))
+    Ok(List::new(found))
 }
 
 /// `source {, source | [INNER] JOIN source ON expr}`

@@ -14,7 +14,7 @@ use std::alloc::Global;
 fn sessions(tokens: &mut Tokens<'_>) -> Result<Statement, Stop>
     ensures { Gives result tokens.new (sessions tokens.old) }
 {
-    tokens.back(Back::Session)?;
+    tokens.command(Back::Session)?;
     let number = tokens.session()?;
     Ok(Statement::Session(number))
 }
@@ -35,7 +35,7 @@ fn controls(tokens: &mut Tokens<'_>) -> Result<Statement, Stop>
     if tokens.begins_back(Back::Session) {
         return sessions(tokens);
     }
-    tokens.back(Back::Step)?;
+    tokens.command(Back::Step)?;
     Ok(Statement::Step)
 }
 
