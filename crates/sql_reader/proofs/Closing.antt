@@ -3,26 +3,26 @@ use Rattle.std.proofs.Common.{◌≡◌, ℕ, ◌+◌, ◌<◌, ◌≤◌, List,
 use Rattle.std.proofs.lemmas.List.{length-map}
 use Rattle.sql_words.specs.declared.token.Token.{Token}
 use Rattle.sql_phrases.specs.Gives.{seen}
-use Rattle.sql_words.specs.declared.token.Sign.{Sign}
 use Rattle.sql_words.specs.Symbols.{Symbol, symbol_of}
 use Rattle.sql_tree.specs.declared.statement.Statement.{Statement}
 use Rattle.sql_tree.specs.Phrases.{IsPlace}
 use Rattle.sql_tree.specs.Spells.{Spells}
 use Rattle.sql_phrases.specs.Readings.{Read}
-use Rattle.sql_phrases.specs.Classes.{Class, in_set}
+use Rattle.sql_phrases.specs.Classes.{in_set}
 use Rattle.sql_phrases.specs.Readers.{reads}
 use Rattle.sql_phrases.proofs.Placing.{placed_stopped, placed_rest, found_whole, took_left, stopped_left}
-use Rattle.sql_phrases.proofs.Productions.{good_reads}
+use Rattle.sql_phrases.proofs.GoodStatements.{good_reads}
+use Rattle.sql_phrases.proofs.Sets.{query_more}
 
 pub spelled_whole : (ts rest : List Symbol) (s : Statement) → reads ts ≡ Read.Took s rest → length rest ≡ 0 → Spells ts s
 spelled_whole ts [] s e h = found_whole Spells reads good_reads.judge ts s e
 spelled_whole ts (t ∷ rest) s e h = absurd (omega arith)
 
 pub place_behind : (ts rest : List Symbol) (s : Statement) (place : ℕ) → reads ts ≡ Read.Took s rest → 0 < length rest → place + length rest ≡ length ts + 1 → IsPlace Spells ts place
-place_behind ts rest s place e left count = placed_rest Spells (in_set (Class.OfSign Sign.Comma ∷ [])) reads good_reads.judge good_reads.again ts s rest place e left count
+place_behind ts rest s place e left count = placed_rest Spells (in_set query_more) reads good_reads.judge good_reads.again ts s rest place e left count
 
 pub place_stopped : (ts rest : List Symbol) (place : ℕ) → reads ts ≡ Read.Stopped rest → place + length rest ≡ length ts + 1 → IsPlace Spells ts place
-place_stopped ts rest place e count = placed_stopped Spells (in_set (Class.OfSign Sign.Comma ∷ [])) reads good_reads.judge good_reads.again ts rest place e count
+place_stopped ts rest place e count = placed_stopped Spells (in_set query_more) reads good_reads.judge good_reads.again ts rest place e count
 
 pub left_behind : (ts rest : List Symbol) (s : Statement) → reads ts ≡ Read.Took s rest → length rest ≤ length ts
 left_behind ts rest s e = took_left Spells reads good_reads.judge ts s rest e

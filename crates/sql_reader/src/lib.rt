@@ -6,9 +6,14 @@
 //! exact one, by `IsPlace`. Time is linear in the tokens; lists are read by loops.
 #![tactic(auto)]
 
-mod literals;
+mod changes;
+mod clauses;
+mod creations;
+mod queries;
 mod reader;
+mod sources;
 mod statements;
+
 #[cfg(test)]
 mod tests;
 

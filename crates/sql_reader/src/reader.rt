@@ -1,5 +1,5 @@
 ghost use Rattle.std.specs.Prelude.{◌≡◌, ◌+◌, ◌<◌, ◌≤◌, ◌^◌, List, length, map, All, IfOk, IfErr};
-ghost use Rattle.sql_words.specs.Symbols.{Symbol, symbol_of};
+ghost use Rattle.sql_words.specs.Symbols.{Symbol, SaysUtf8, symbol_of};
 ghost use Rattle.sql_words.specs.Words.{IsWithin};
 ghost use Rattle.sql_tree.specs.declared.statement.Statement.{Statement as AStatement};
 ghost use Rattle.sql_tree.specs.Spells.{Spells};
@@ -20,9 +20,11 @@ pub enum ReadFault {
     Memory,
 }
 
-/// The statement that the tokens of a text spell.
+/// The statement that the tokens of a text spell. Each token lies in the text, and what a text token says is UTF-8,
+/// as `words` ensures.
 pub fn read(alloc: Global, tokens: &[Token], text: &[u8]) -> Result<Statement, ReadFault>
-    requires { All (IsWithin (length text.now)) tokens.now }
+    requires within { All (IsWithin (length text.now)) tokens.now }
+    requires utf8 { All (SaysUtf8 text.now) tokens.now }
     ensures found { IfOk result (λ s. Spells (map (symbol_of text.now) tokens.now) s) }
     ensures refused { IfErr result (λ e. Refuses (map (symbol_of text.now) tokens.now) e) }
 {
