@@ -7,7 +7,10 @@
 #![tactic(auto)]
 
 mod fault;
+mod flaw;
 mod inserts;
+mod literals;
+mod narrow;
 mod queries;
 mod single;
 
