@@ -1,1 +1,2 @@
 pub mod FirstOnes
+pub mod Storing

@@ -1,9 +1,8 @@
 -- The bound tree of an expression whose columns are those of one table.
-use Rattle.std.specs.Prelude.{ℕ, List, [], ◌∷◌, map, Option, Some, None, position, bytes_eq}
+use Rattle.std.specs.Prelude.{ℕ, List, [], ◌∷◌, map, Option, position, bytes_eq}
 use Rattle.std.specs.List.{flat_map}
 use Rattle.std.specs.Option.{option_map_or}
 use Rattle.col_value.specs.declared.wide.Wide.TheVariants as wide
-use Rattle.sql_tree.specs.declared.tree.ColRef.{ColRef}
 use Rattle.sql_tree.specs.declared.tree.Tree.{Tree}
 use Rattle.sql_tree.specs.declared.tree.Tree.TheOpen.{Tree-F, Term-F}
 use Rattle.sql_tree.specs.declared.tree.Tree.TheFolds.{fold-Tree}

@@ -1,5 +1,5 @@
 -- The rows of an INSERT, and why it is refused.
-use Rattle.std.specs.Prelude.{ℕ, min, ℤ, pos, negsuc, ◌==◌, ◌&&◌, not, nat_lt, if◌then◌else◌, Bool, true, false, List, [], ◌∷◌, length, map, zip, find, Option, Some, None, option_map}
+use Rattle.std.specs.Prelude.{ℕ, min, ℤ, pos, negsuc, ◌==◌, not, nat_lt, if◌then◌else◌, Bool, false, List, length, map, zip, find, Option, Some, None, option_map}
 use Rattle.std.specs.List.{list_all, flat_map}
 use Rattle.std.specs.Option.{option_map_or}
 use Rattle.col_value.specs.declared.value.Value.{Value}

@@ -15,6 +15,7 @@ use std::alloc::{AllocError, Global};
 
 /// The rows of an INSERT, whose table was found, or was not. What its rows hold is looked at last: a number out of range, a text too
 /// long, a NULL that is refused.
+#[tactic(auto, using(crate::proofs::Storing::stored_rows, crate::proofs::Storing::narrowed_rows))]
 pub fn bind_insert(
     alloc: Global,
     insert: &Insert,
@@ -76,10 +77,7 @@ fn check_counts(columns: &[NewColumn], rows: &[WideRow]) -> Result<(), BindFault
 {
     match wrong_count(columns, rows) {
         None => Ok(()),
-        Some(given) => Err(BindFault::Refused(Refusal::Arity(
-            given as u64,
-            columns.len() as u64,
-        ))),
+        Some(given) => Err(BindFault::Refused(Refusal::Arity(given as u64, columns.len() as u64))),
     }
 }
 

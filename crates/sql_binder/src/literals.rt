@@ -48,7 +48,11 @@ fn is_of_columns(columns: &[NewColumn], row: &[Wide]) -> bool
 }
 
 /// The name of the column of the first literal that has the flaw.
-pub(crate) fn first_flaw<'a>(flaw: Flaw, columns: &'a [NewColumn], rows: &[WideRow]) -> Option<&'a Name>
+pub(crate) fn first_flaw<'a>(
+    flaw: Flaw,
+    columns: &'a [NewColumn],
+    rows: &[WideRow],
+) -> Option<&'a Name>
     ensures { option_map (λ n. n.now) result ≡ first_such (has_flaw flaw) (pairs columns.entry.now rows.now) }
 {
     for row in rows {

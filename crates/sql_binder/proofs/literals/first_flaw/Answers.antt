@@ -1,7 +1,5 @@
-use Rattle.std.proofs.Common.{◌≡◌, sym, ap, ◌∙◌, arith}
+use Rattle.std.proofs.Common.{arith}
 use Rattle.std.proofs.lemmas.Grind.{common_steps}
-use Rattle.sql_binder.specs.Names.{first_of}
-use Rattle.sql_binder.specs.Inserts.{pairs, first_such}
 use Rattle.sql_binder.specs.Flaws.{has_flaw}
 use Rattle.sql_binder.proofs.FirstOnes.{first_such_from}
 use Rattle.sql_binder.proofs.literals.first_flaw.Goals as goal
