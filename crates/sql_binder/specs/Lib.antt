@@ -3,4 +3,5 @@ pub mod Binding
 pub mod Queries
 pub mod Inserts
 pub mod Flaws
+pub mod Seeking
 pub mod Bound

@@ -12,6 +12,7 @@ mod inserts;
 mod literals;
 mod narrow;
 mod queries;
+mod refs;
 mod single;
 
 pub use fault::{BindFault, Found};
