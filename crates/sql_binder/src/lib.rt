@@ -14,6 +14,7 @@ mod narrow;
 mod queries;
 mod refs;
 mod single;
+mod trees;
 
 pub use fault::{BindFault, Found};
 pub use inserts::bind_insert;
