@@ -1,2 +1,3 @@
 pub mod FirstOnes
 pub mod Storing
+pub mod Splitting

@@ -71,3 +71,7 @@ split_term t = (record { minus = t.minus; part = t.part.0 }, [])
 -- the members of an expression, split at its ANDs until none is one
 abbrev pub conjuncts : Expr → List Expr
 conjuncts e = (fold-Expr (Expr × List Expr) (BoundTerm × List Expr) split_step split_term e).1
+
+-- the members of a condition
+abbrev pub members : List NewColumn → Tree → List Expr
+members columns tree = conjuncts (bound_tree columns tree)

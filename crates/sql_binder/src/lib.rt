@@ -9,6 +9,7 @@
 mod fault;
 mod flaw;
 mod inserts;
+mod keep;
 mod literals;
 mod narrow;
 mod queries;
