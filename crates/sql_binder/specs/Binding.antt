@@ -1,12 +1,12 @@
 -- The bound tree of an expression whose columns are those of one table.
-use Rattle.std.specs.Prelude.{ℕ, List, [], ◌∷◌, map, Option, Some, None, position, bytes_eq}
+use Rattle.std.specs.Prelude.{ℕ, List, [], ◌∷◌, map, Option, position, bytes_eq}
 use Rattle.std.specs.List.{flat_map}
 use Rattle.std.specs.Option.{option_map_or}
 use Rattle.col_value.specs.declared.wide.Wide.TheVariants as wide
-use Rattle.sql_tree.specs.declared.tree.ColRef.{ColRef}
 use Rattle.sql_tree.specs.declared.tree.Tree.{Tree}
 use Rattle.sql_tree.specs.declared.tree.Tree.TheOpen.{Tree-F, Term-F}
-use Rattle.sql_tree.specs.declared.tree.Tree.TheFolds.{fold-Tree}
+use Rattle.sql_tree.specs.declared.tree.Tree.TheFolds.{fold-Tree, fold-Term}
+use Rattle.sql_tree.specs.declared.tree.Term.{Term}
 use Rattle.sql_tree.specs.declared.statement.NewColumn.{NewColumn}
 use Rattle.sql_bound.specs.declared.expr.Expr.{Expr}
 use Rattle.sql_bound.specs.declared.expr.Expr as expr
@@ -18,10 +18,13 @@ use Rattle.sql_bound.specs.declared.expr.Expr.TheFolds.{fold-Expr}
 abbrev pub column_at : List NewColumn → List ℕ → Option ℕ
 column_at columns name = position (λ c. bytes_eq c.name name) columns
 
+abbrev pub place_of : List NewColumn → List ℕ → ℕ
+place_of columns name = option_map_or (λ i. i) (column_at columns name) 0
+
 -- a column by its place; aggregates are not bound here
 abbrev pub bind_step : List NewColumn → Tree-F Expr BoundTerm → Expr
 bind_step columns (Tree-F.Lit w) = expr.Lit w
-bind_step columns (Tree-F.Col r) = expr.Col (option_map_or (λ i. i) (column_at columns r.name) 0)
+bind_step columns (Tree-F.Col r) = expr.Col (place_of columns r.name)
 bind_step columns (Tree-F.Neg a) = expr.Neg a
 bind_step columns (Tree-F.Sum parts) = expr.Sum parts
 bind_step columns (Tree-F.Product parts) = expr.Product parts
@@ -37,6 +40,9 @@ bind_term t = record { minus = t.minus; part = t.part }
 
 abbrev pub bound_tree : List NewColumn → Tree → Expr
 bound_tree columns = fold-Tree Expr BoundTerm (bind_step columns) bind_term
+
+abbrev pub bound_term : List NewColumn → Term → BoundTerm
+bound_term columns = fold-Term Expr BoundTerm (bind_step columns) bind_term
 
 -- an expression with the members of its conjunction
 abbrev pub parts_of : List (Expr × List Expr) → List Expr
@@ -65,3 +71,7 @@ split_term t = (record { minus = t.minus; part = t.part.0 }, [])
 -- the members of an expression, split at its ANDs until none is one
 abbrev pub conjuncts : Expr → List Expr
 conjuncts e = (fold-Expr (Expr × List Expr) (BoundTerm × List Expr) split_step split_term e).1
+
+-- the members of a condition
+abbrev pub members : List NewColumn → Tree → List Expr
+members columns tree = conjuncts (bound_tree columns tree)

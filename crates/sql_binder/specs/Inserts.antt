@@ -1,5 +1,5 @@
 -- The rows of an INSERT, and why it is refused.
-use Rattle.std.specs.Prelude.{ℕ, ℤ, pos, negsuc, ◌==◌, ◌&&◌, not, nat_lt, if◌then◌else◌, Bool, true, false, List, [], ◌∷◌, length, map, zip, find, Option, Some, None, option_map}
+use Rattle.std.specs.Prelude.{ℕ, min, ℤ, pos, negsuc, ◌==◌, not, nat_lt, if◌then◌else◌, Bool, false, List, length, map, zip, find, Option, Some, None, option_map}
 use Rattle.std.specs.List.{list_all, flat_map}
 use Rattle.std.specs.Option.{option_map_or}
 use Rattle.col_value.specs.declared.value.Value.{Value}
@@ -48,10 +48,10 @@ is_out_of_range (c, wide.Bool b) = false
 is_out_of_range (c, wide.Int n) = not (is_stored_number n)
 is_out_of_range (c, wide.Text t) = false
 
--- how many octets a column of texts takes
+-- how many octets a column of texts takes; no text of a table has more than 65,000
 abbrev pub width_of : ColType → ℕ
 width_of ColType.Integer = 0
-width_of (ColType.Varchar n) = n
+width_of (ColType.Varchar n) = min n 65000
 width_of ColType.Boolean = 0
 
 abbrev pub is_too_long : NewColumn × Wide → Bool

@@ -1,8 +1,7 @@
 -- The names of a statement, in the order of its text.
-use Rattle.std.specs.Prelude.{ℕ, ℤ, if◌then◌else◌, not, Bool, true, false, List, [], ◌∷◌, ◌++◌, map, find, Option, Some, None, option_map, bytes_eq}
+use Rattle.std.specs.Prelude.{ℕ, not, Bool, false, List, [], ◌∷◌, ◌++◌, find, Option, Some, None, option_map, bytes_eq}
 use Rattle.std.specs.List.{flat_map}
 use Rattle.std.specs.Option.{option_map_or}
-use Rattle.col_value.specs.declared.wide.Wide.{Wide}
 use Rattle.sql_tree.specs.declared.tree.ColRef.{ColRef}
 use Rattle.sql_tree.specs.declared.tree.Tree.{Tree}
 use Rattle.sql_tree.specs.declared.tree.Tree.TheOpen.{Tree-F, Term-F}

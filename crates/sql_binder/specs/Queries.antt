@@ -1,6 +1,6 @@
 -- The bound tree of a query over one FROM item without groups, and why such a query is refused.
-use Rattle.std.specs.Prelude.{◌≡◌, ℕ, ℤ, pos, ◌-◌, ◌≤ℤ◌, ◌&&◌, not, nat_lt, nat_le, if◌then◌else◌, Bool, true, false, List, [], ◌∷◌, ◌++◌, length, map, find, position, Option, Some, None, option_map, option_and_then, bytes_eq, is_none, ◌||◌}
-use Rattle.std.specs.List.{list_all, list_any, flat_map, enumerate_from, count_by}
+use Rattle.std.specs.Prelude.{ℕ, ℤ, pos, ◌-◌, ◌&&◌, not, nat_lt, nat_le, if◌then◌else◌, Bool, true, false, List, [], ◌∷◌, ◌++◌, length, map, position, Option, Some, None, option_map, bytes_eq, is_none, ◌||◌}
+use Rattle.std.specs.List.{list_all, list_any, enumerate_from, count_by}
 use Rattle.std.specs.Option.{option_map_or}
 use Rattle.std.specs.Fmt.{signed_decimal}
 use Rattle.sql_tree.specs.declared.tree.ColRef.{ColRef}
@@ -8,17 +8,14 @@ use Rattle.sql_tree.specs.declared.tree.Tree.{Tree}
 use Rattle.sql_tree.specs.declared.tree.Tree.TheOpen.{Tree-F, Term-F}
 use Rattle.sql_tree.specs.declared.tree.Tree.TheFolds.{fold-Tree, fold-Term}
 use Rattle.sql_tree.specs.declared.tree.Term.{Term}
-use Rattle.sql_tree.specs.declared.query.Item.{Item}
 use Rattle.sql_tree.specs.declared.query.Items.{Items}
 use Rattle.sql_tree.specs.declared.query.KeyRef.{KeyRef}
-use Rattle.sql_tree.specs.declared.query.SortKey.{SortKey}
 use Rattle.sql_tree.specs.declared.query.Source.{Source}
 use Rattle.sql_tree.specs.declared.query.Query.{Query}
 use Rattle.sql_tree.specs.declared.refusal.Refusal.{Refusal}
 use Rattle.sql_tree.specs.declared.statement.NewColumn.{NewColumn}
 use Rattle.sql_bound.specs.declared.expr.Expr.{Expr}
 use Rattle.sql_bound.specs.declared.expr.Expr as expr
-use Rattle.sql_bound.specs.declared.query.FromItem.{FromItem}
 use Rattle.sql_bound.specs.declared.query.BoundQuery.{BoundQuery}
 use Rattle.sql_bound.specs.Kinds.{Kinds, kind_of_column, kind_of, is_condition}
 use Rattle.sql_bound.specs.Bounds.{is_narrow}

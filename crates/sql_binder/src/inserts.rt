@@ -1,21 +1,113 @@
-ghost use Rattle.std.specs.Prelude.{◌≡◌, IfOk, IfErr, option_map};
+ghost use Rattle.std.specs.Prelude.{◌≡◌, true, not, IfOk, IfErr, OnOk, option_map, map, Some, None};
+ghost use Rattle.std.specs.List.{All, list_all};
 ghost use Rattle.sql_binder.specs.Bound.{IsBoundInsert, RefusesBy};
-ghost use Rattle.sql_binder.specs.Inserts.{whole_refusal};
+ghost use Rattle.sql_binder.specs.Flaws.{AreStored, flaw_refusal};
+ghost use Rattle.sql_binder.specs.Inserts.{whole_refusal, literal_refusal, stored_refusal, inserted_rows, pairs, wrong_count, is_of_column};
+ghost use Rattle.sql_binder.specs.Queries.{first_given, refused_where};
 
+use crate::flaw::Flaw;
+use crate::literals::{are_of_columns, first_flaw, wrong_count};
+use crate::narrow::narrow_rows;
 use crate::{BindFault, Found};
-use col_value::Row;
-use sql_tree::Insert;
-use std::alloc::Global;
+use col_value::{Row, WideRow};
+use sql_tree::{Insert, NewColumn, Refusal};
+use std::alloc::{AllocError, Global};
 
 /// The rows of an INSERT, whose table was found, or was not. What its rows hold is looked at last: a number out of range, a text too
 /// long, a NULL that is refused.
+#[tactic(auto, using(crate::proofs::Storing::stored_rows, crate::proofs::Storing::narrowed_rows))]
 pub fn bind_insert(
-    _alloc: Global,
+    alloc: Global,
     insert: &Insert,
     found: Option<Found<'_>>,
 ) -> Result<Vec<Row>, BindFault>
     ensures bound { IfOk result (λ v. IsBoundInsert (option_map (λ f. f.columns.now) found.entry) insert.now v.items) }
     ensures refused { IfErr result (RefusesBy (whole_refusal (option_map (λ f. f.columns.now) found.entry) insert.now)) }
 {
-    Err(BindFault::Memory)
+    let Some(found) = found else {
+        return match insert.table.copy(alloc) {
+            Ok(name) => Err(BindFault::Refused(Refusal::UnknownTable(name))),
+            Err(AllocError) => Err(BindFault::Memory),
+        };
+    };
+    match check_insert(alloc, found.columns, insert) {
+        Ok(()) => {}
+        Err(fault) => return Err(fault),
+    }
+    match narrow_rows(alloc, insert.rows.as_slice()) {
+        Ok(rows) => Ok(rows),
+        Err(AllocError) => Err(BindFault::Memory),
+    }
+}
+
+/// Refuses what can't be stored in a table with these columns.
+fn check_insert(alloc: Global, columns: &[NewColumn], insert: &Insert) -> Result<(), BindFault>
+    ensures ok { OnOk result (whole_refusal (Some columns.now) insert.now ≡ None) }
+    ensures refused { IfErr result (RefusesBy (whole_refusal (Some columns.now) insert.now)) }
+{
+    check_literals(columns, insert)?;
+    check_stored(alloc, columns, insert)
+}
+
+/// Refuses literals that don't fit the columns, by number or by kind.
+fn check_literals(columns: &[NewColumn], insert: &Insert) -> Result<(), BindFault>
+    ensures ok { OnOk result (literal_refusal columns.now insert.now ≡ None) }
+    ensures refused { IfErr result (RefusesBy (literal_refusal columns.now insert.now)) }
+{
+    let rows = insert.rows.as_slice();
+    check_counts(columns, rows)?;
+    check_kinds(columns, rows)
+}
+
+/// Refuses literals with a flaw.
+fn check_stored(alloc: Global, columns: &[NewColumn], insert: &Insert) -> Result<(), BindFault>
+    ensures ok { OnOk result (stored_refusal columns.now insert.now ≡ None) }
+    ensures refused { IfErr result (RefusesBy (stored_refusal columns.now insert.now)) }
+{
+    let rows = insert.rows.as_slice();
+    check_flaw(alloc, Flaw::Range, columns, rows)?;
+    check_flaw(alloc, Flaw::Length, columns, rows)?;
+    check_flaw(alloc, Flaw::Null, columns, rows)
+}
+
+/// Refuses a row of another number of values than there are columns.
+fn check_counts(columns: &[NewColumn], rows: &[WideRow]) -> Result<(), BindFault>
+    ensures ok { OnOk result (first_given (wrong_count columns.now) rows.now ≡ None) }
+    ensures refused { IfErr result (RefusesBy (option_map (λ c. Refusal.Arity c.0 c.1) (first_given (wrong_count columns.now) rows.now))) }
+{
+    match wrong_count(columns, rows) {
+        None => Ok(()),
+        Some(given) => Err(BindFault::Refused(Refusal::Arity(given as u64, columns.len() as u64))),
+    }
+}
+
+/// Refuses a literal of another kind than its column.
+fn check_kinds(columns: &[NewColumn], rows: &[WideRow]) -> Result<(), BindFault>
+    ensures ok { OnOk result (list_all is_of_column (pairs columns.now rows.now) ≡ true) }
+    ensures refused { IfErr result (RefusesBy (refused_where (not (list_all is_of_column (pairs columns.now rows.now))) Refusal.TypeMismatch)) }
+{
+    if are_of_columns(columns, rows) {
+        Ok(())
+    } else {
+        Err(BindFault::Refused(Refusal::TypeMismatch))
+    }
+}
+
+/// Refuses a literal with this flaw.
+fn check_flaw(
+    alloc: Global,
+    flaw: Flaw,
+    columns: &[NewColumn],
+    rows: &[WideRow],
+) -> Result<(), BindFault>
+    ensures ok { OnOk result (flaw_refusal flaw (pairs columns.now rows.now) ≡ None) }
+    ensures refused { IfErr result (RefusesBy (flaw_refusal flaw (pairs columns.now rows.now))) }
+{
+    let Some(name) = first_flaw(flaw, columns, rows) else {
+        return Ok(());
+    };
+    match name.copy(alloc) {
+        Ok(name) => Err(BindFault::Refused(flaw.named(name))),
+        Err(AllocError) => Err(BindFault::Memory),
+    }
 }

@@ -7,9 +7,15 @@
 #![tactic(auto)]
 
 mod fault;
+mod flaw;
 mod inserts;
+mod keep;
+mod literals;
+mod narrow;
 mod queries;
+mod refs;
 mod single;
+mod trees;
 
 pub use fault::{BindFault, Found};
 pub use inserts::bind_insert;

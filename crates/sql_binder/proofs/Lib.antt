@@ -1,0 +1,3 @@
+pub mod FirstOnes
+pub mod Storing
+pub mod Splitting
