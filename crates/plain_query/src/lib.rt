@@ -5,5 +5,10 @@
 //! output, and that no sum passes what a result holds (`IsSumTooGreat`).
 #![tactic(auto)]
 
+mod aggregates;
+mod fault;
+mod groups;
 mod keeping;
 mod tuples;
+
+pub use fault::QueryFault;

@@ -1,0 +1,21 @@
+ghost use Rattle.std.specs.Prelude.{◌≡◌};
+
+use std::alloc::AllocError;
+
+/// Why a query has no printed list: in some group the magnitudes of the values of one SUM add to more than a result holds, or
+/// there was no memory.
+#[derive(Clone, Copy, Debug, PartialEq, Eq)]
+pub enum QueryFault {
+    SumOutOfRange,
+    Memory,
+}
+
+impl From<AllocError> for QueryFault {
+    ghost use Rattle.plain_query.specs.declared.fault.QueryFault.TheVariants.{Memory};
+
+    ghost from_gives = { λ _ e. e ≡ Memory };
+
+    fn from(_: AllocError) -> QueryFault {
+        QueryFault::Memory
+    }
+}
