@@ -31,7 +31,6 @@ unseen_all : (keys : List (List Value)) → unseen [] keys ≡ keys
 unseen_all [] = refl
 unseen_all (key ∷ keys) = ap (λ (l : List (List Value)). key ∷ l) (unseen_all keys)
 
-
 pub none_found : (found keys : List (List Value)) → found ≡ [] → found ++ unseen found keys ≡ keys
 none_found found keys e = ap (λ (l : List (List Value)). l ++ unseen l keys) e ∙ unseen_all keys
 
@@ -66,6 +65,6 @@ key_new f rows found all i row lt is known h =
     let opened = at_drop_more (λ (l : List (List Value)). distinct (map f l)) rows i row lt ∙ ap (λ (r : List Value). f r ∷ filter (λ other. not (same_keys (f r) other)) D) (sym is) in
     let first = ap (λ (b : Bool). cond (not b) (f row ∷ unseen found (filter (λ other. not (same_keys (f row) other)) D)) (unseen found (filter (λ other. not (same_keys (f row) other)) D))) known in
     let rest = filter_both (λ key. not (list_any (λ group. same_keys group key) found)) (λ other. not (same_keys (f row) other)) (λ key. not (list_any (λ group. same_keys group key) (found ++ f row ∷ [])))
-        (λ other. ap not (list_any-append (λ group. same_keys group other) found (f row ∷ [])) ∙ neither _ _) D in
+    (λ other. ap not (list_any-append (λ group. same_keys group other) found (f row ∷ [])) ∙ neither _ _) D in
     append_assoc found (f row ∷ []) (unseen (found ++ f row ∷ []) D)
     ∙ ap (λ (l : List (List Value)). found ++ l) (ap (λ (l : List (List Value)). f row ∷ l) (sym rest) ∙ sym (ap (unseen found) opened ∙ first)) ∙ h

@@ -1,3 +1,4 @@
 pub mod Distinct
 pub mod SameKeys
 pub mod Sequences
+pub mod Sizes

@@ -1,12 +1,13 @@
 //! Aggregates over the tuples of a group.
 
-ghost use Rattle.std.specs.Prelude.{◌≡◌, ◌<◌, ◌≤◌, true, [], Some, IfOk, IsErrOf, MatchOption};
+ghost use Rattle.std.specs.Prelude.{◌≡◌, ◌<◌, ◌≤◌, true, [], map, Some, IfOk, OnOk, IsErrOf, MatchOption};
 ghost use Rattle.std.specs.List.{All};
 ghost use Rattle.col_value.specs.Order.{IsRow, wide_cmp};
 ghost use Rattle.sql_tree.specs.declared.tree.AggKind.{AggKind};
 ghost use Rattle.sql_bound.specs.Bounds.{is_narrow, magnitude, result_bound};
 ghost use Rattle.sql_bound.specs.Values.{is_null, of_row, value_of};
 ghost use Rattle.sql_bound.specs.Outputs.{number_or_zero, values_over, plain_sum, size_of, lesser, greater, least_value, greatest_value, aggregated, aggregate_over, IsGreatSum};
+ghost use Rattle.plain_query.specs.Parts.{is_bounded_aggregate, HasGreatSum};
 ghost use Rattle.plain_query.specs.declared.fault.QueryFault.{QueryFault};
 
 use crate::QueryFault;
@@ -112,4 +113,61 @@ fn sum_or_null(values: &[Wide]) -> Result<Wide, QueryFault>
         Some(_) if values.is_empty() => Ok(Wide::Null),
         Some(sum) => Ok(Wide::Int(sum)),
     }
+}
+
+/// An aggregate over so many tuples, with these values of its argument.
+fn aggregated(kind: AggKind, count: usize, values: Vec<Wide>) -> Result<Wide, QueryFault>
+    ensures value { IfOk result (λ w. w ≡ aggregated kind count values.items) }
+    ensures in_range { OnOk result (kind ≡ AggKind.Sum → size_of values.items ≤ result_bound) }
+    ensures great { IsErrOf result QueryFault.SumOutOfRange → (kind ≡ AggKind.Sum) × (result_bound < size_of values.items) }
+{
+    match kind {
+        AggKind::CountAll => Ok(Wide::Int(count as i128)),
+        AggKind::Count => Ok(Wide::Int(values.len() as i128)),
+        AggKind::Sum => sum_or_null(values.as_slice()),
+        AggKind::Min => Ok(least(values)),
+        AggKind::Max => Ok(greatest(values)),
+    }
+}
+
+fn argument_values(alloc: Global, a: &Aggregate, rows: &[Row]) -> Result<Vec<Wide>, AllocError>
+    requires bounded { is_bounded_aggregate a.now ≡ true }
+    requires rows { All IsRow rows.now }
+    ensures { IfOk result (λ v. v.items ≡ values_over a.now.arg rows.now) }
+{
+    match &a.arg {
+        Some(arg) => values_of(alloc, arg, rows),
+        None => Ok(Vec::new(alloc)),
+    }
+}
+
+fn aggregate(alloc: Global, a: &Aggregate, rows: &[Row]) -> Result<Wide, QueryFault>
+    requires bounded { is_bounded_aggregate a.now ≡ true }
+    requires rows { All IsRow rows.now }
+    ensures value { IfOk result (λ w. w ≡ aggregate_over rows.now a.now) }
+    ensures in_range { OnOk result (IsGreatSum rows.now a.now → ⊥) }
+    ensures great { IsErrOf result QueryFault.SumOutOfRange → IsGreatSum rows.now a.now }
+{
+    match argument_values(alloc, a, rows) {
+        Ok(values) => aggregated(a.kind, rows.len(), values),
+        Err(AllocError) => Err(QueryFault::Memory),
+    }
+}
+
+/// The aggregates over the tuples of a group, and a fault where a SUM passes what a result holds.
+pub fn aggregates(alloc: Global, aggs: &[Aggregate], rows: &[Row]) -> Result<Vec<Wide>, QueryFault>
+    requires bounded { All (λ a. is_bounded_aggregate a ≡ true) aggs.now }
+    requires rows { All IsRow rows.now }
+    ensures values { IfOk result (λ v. v.items ≡ map (aggregate_over rows.now) aggs.now) }
+    ensures in_range { OnOk result (HasGreatSum aggs.now rows.now → ⊥) }
+    ensures great { IsErrOf result QueryFault.SumOutOfRange → HasGreatSum aggs.now rows.now }
+{
+    let mut out = Vec::with_capacity(alloc, aggs.len())?;
+    for a in aggs {
+        match aggregate(alloc, a, rows) {
+            Ok(value) => out.push(value)?,
+            Err(fault) => return Err(fault),
+        }
+    }
+    Ok(out)
 }

@@ -95,7 +95,12 @@ pub fn group_keys(alloc: Global, keys: &[usize], rows: &[Row]) -> Result<Vec<Row
 }
 
 /// The tuples of a group.
-pub fn members(alloc: Global, keys: &[usize], group: &[Value], rows: &[Row]) -> Result<Vec<Row>, AllocError>
+pub fn members(
+    alloc: Global,
+    keys: &[usize],
+    group: &[Value],
+    rows: &[Row],
+) -> Result<Vec<Row>, AllocError>
     ensures { IfOk result (λ v. v.items ≡ members keys.now group.now rows.now) }
 {
     let mut out = Vec::new(alloc);

@@ -8,7 +8,7 @@ pub loop-row-init : goal.loop-row-init
 loop-row-init c = none_found _ _ c.new-found.ensures.items
 
 pub loop-row-preserved-then-is_found : goal.loop-row-preserved-then-is_found
-loop-row-preserved-then-is_found c = 
+loop-row-preserved-then-is_found c =
     let f = keys_of c.args.keys.now in
     let known : list_any (λ group. same_keys group (f c.row-item.result)) c.loop-row.found.items ≡ true = search rules in
     key_known f c.args.rows.now c.loop-row.found.items _ c.loop-row.row-index c.row-item.result c.loop-row-test.true c.row-item.is known c.loop-row.invariant

@@ -10,11 +10,11 @@ returns-in_default c =
 pub loop-i-preserved : goal.loop-i-preserved
 loop-i-preserved c =
     let inside = c.in-Some.ensures.lookup.3 in record {
-    within = omega (arith, inside.0);
-    rest =
-        keys_agree c.args.group.now c.args.keys.now c.args.row.now c.loop-i.i c.in-Some.value.now inside.0 c.loop-i-test.true (inside.1 Null) c.if-not-has_at.ensures
-        ∙ c.loop-i.invariant.rest;
-  }
+      within = omega (arith, inside.0);
+      rest =
+          keys_agree c.args.group.now c.args.keys.now c.args.row.now c.loop-i.i c.in-Some.value.now inside.0 c.loop-i-test.true (inside.1 Null) c.if-not-has_at.ensures
+          ∙ c.loop-i.invariant.rest;
+    }
 
 pub returns : goal.returns
 returns c =
