@@ -2,3 +2,4 @@ pub mod Distinct
 pub mod SameKeys
 pub mod Sequences
 pub mod Sizes
+pub mod NarrowLess
