@@ -1,0 +1,5 @@
+pub mod Distinct
+pub mod SameKeys
+pub mod Sequences
+pub mod Sizes
+pub mod NarrowLess
