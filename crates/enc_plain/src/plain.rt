@@ -1,4 +1,4 @@
-ghost use Rattle.std.specs.Prelude.{◌≡◌, length, IfOk};
+ghost use Rattle.std.specs.Prelude.{◌≡◌, ◌<◌, ◌^◌, length, IfOk};
 ghost use Rattle.col_bytes.specs.Parts.{Gives};
 ghost use Rattle.block_codec.specs.Blocks.{IsOneBlock, flattened, HaveCounts};
 ghost use Rattle.enc_plain.specs.Plain.{plain, plain_of};
@@ -18,7 +18,8 @@ pub struct Plain;
 /// How many bytes the block of these values has.
 pub fn block_len(values: &[Value]) -> usize
     requires { IsOneBlock values.now }
-    ensures { result ≡ length (plain values.now) }
+    ensures exact { result ≡ length (plain values.now) }
+    ensures few { result < 2 ^ 27 }
 {
     1 + vint_len(values.len() as u64) + values_len(values)
 }
