@@ -1,9 +1,9 @@
 //! The encoding.
 
-ghost use Rattle.std.specs.Prelude.{◌≡◌, IfOk};
+ghost use Rattle.std.specs.Prelude.{◌≡◌, map, IfOk};
 ghost use Rattle.col_bytes.specs.Parts.{Gives};
 ghost use Rattle.block_codec.specs.Blocks.{IsOneBlock, flattened, HaveCounts};
-ghost use Rattle.enc_dict.specs.Dict.{dict};
+ghost use Rattle.enc_dict.specs.Dict.{distinct, dict};
 ghost use Rattle.enc_dict.specs.Fronts.{dict_of};
 
 use crate::put::{put_places, put_words};
@@ -16,6 +16,21 @@ use std::alloc::{AllocError, Global};
 
 /// The encoding that writes each different value once.
 pub struct BlockDict;
+
+/// The bytes of the block of these values, which has these words.
+pub fn block_of(alloc: Global, words: &[&Value], values: &[Value]) -> Result<Vec<u8>, AllocError>
+    requires block { IsOneBlock values.now }
+    requires words { map (λ w. w.now) words.now ≡ distinct values.now }
+    ensures { IfOk result (λ b. b.items ≡ dict values.now) }
+{
+    let mut out = Vec::new(alloc);
+    out.push(TAG)?;
+    put_vint(&mut out, words.len() as u64)?;
+    put_words(&mut out, words)?;
+    put_vint(&mut out, values.len() as u64)?;
+    put_places(&mut out, words, values)?;
+    Ok(out)
+}
 
 /// A run for each of the values.
 fn runs_of(alloc: Global, bytes: &[u8]) -> Result<Vec<Run>, Stop>
@@ -37,13 +52,7 @@ impl BlockCodec for BlockDict {
 
     fn encode(&self, alloc: Global, values: &[Value]) -> Result<Vec<u8>, AllocError> {
         let words = distinct(alloc, values)?;
-        let mut out = Vec::new(alloc);
-        out.push(TAG)?;
-        put_vint(&mut out, words.len() as u64)?;
-        put_words(&mut out, words.as_slice())?;
-        put_vint(&mut out, values.len() as u64)?;
-        put_places(&mut out, words.as_slice(), values)?;
-        Ok(out)
+        block_of(alloc, words.as_slice(), values)
     }
 
     fn decode(&self, alloc: Global, bytes: &[u8]) -> Result<Option<Vec<Value>>, AllocError> {

@@ -10,6 +10,12 @@ fn is_worked(alloc: Global, values: &[Value], bytes: &[u8]) -> Result<bool, Allo
     if !BlockDict.takes(values) {
         return Ok(false);
     }
+    let Some(same) = encode_below(alloc, values, bytes.len().saturating_add(1))? else {
+        return Ok(false);
+    };
+    if same.as_slice() != bytes || encode_below(alloc, values, bytes.len())?.is_some() {
+        return Ok(false);
+    }
     let block = BlockDict.encode(alloc, values)?;
     let Some(again) = BlockDict.decode(alloc, bytes)? else {
         return Ok(false);

@@ -1,12 +1,12 @@
 //! The PLAIN encoding: the values of a block one after the other.
 //!
 //! `Plain` is a `BlockCodec` that takes every block. Its bytes are the tag 04, the varint of how many values there
-//! are, and the spelling of each: the definition `plain` of `specs/Plain.antt`.
+//! are, and the spelling of each: the definition `plain` of `specs/Plain.antt`. `block_len` counts them.
 #![tactic(auto)]
 
 mod plain;
 
-pub use plain::Plain;
+pub use plain::{Plain, block_len};
 
 #[cfg(test)]
 mod tests;

@@ -1,9 +1,9 @@
-ghost use Rattle.std.specs.Prelude.{◌≡◌, IfOk};
+ghost use Rattle.std.specs.Prelude.{◌≡◌, ◌<◌, ◌^◌, length, IfOk};
 ghost use Rattle.col_bytes.specs.Parts.{Gives};
 ghost use Rattle.block_codec.specs.Blocks.{IsOneBlock, flattened, HaveCounts};
 ghost use Rattle.enc_plain.specs.Plain.{plain, plain_of};
 
-use block_codec::{BlockCodec, are_one_block, read_count, single_runs};
+use block_codec::{BlockCodec, are_one_block, read_count, single_runs, values_len, vint_len};
 use col_bytes::{Stop, put_vint, read_tag, told};
 use col_value::{Run, Value};
 use std::alloc::{AllocError, Global};
@@ -14,6 +14,15 @@ const TAG: u8 = 4;
 
 /// The encoding that writes each value as it is.
 pub struct Plain;
+
+/// How many bytes the block of these values has.
+pub fn block_len(values: &[Value]) -> usize
+    requires { IsOneBlock values.now }
+    ensures exact { result ≡ length (plain values.now) }
+    ensures few { result < 2 ^ 27 }
+{
+    1 + vint_len(values.len() as u64) + values_len(values)
+}
 
 /// The values of the block that all of the bytes are.
 fn values_of(alloc: Global, bytes: &[u8]) -> Result<Vec<Value>, Stop>

@@ -1,0 +1,95 @@
+//! The block of a column.
+
+ghost use Rattle.std.specs.Prelude.{◌≡◌, Some, List, IfOk, IfSome, IfNone};
+ghost use Rattle.std.specs.List.{All};
+ghost use Rattle.col_value.specs.declared.value.Value.{Value as Worth};
+ghost use Rattle.block_codec.specs.Blocks.{IsOneBlock, flattened, HaveCounts};
+ghost use Rattle.block_choice.specs.declared.codec.Codec.{Codec as Kind};
+ghost use Rattle.block_choice.specs.Codecs.{spelled_by, tag};
+ghost use Rattle.block_choice.specs.Choice.{Takes, Accepts, SpellsAs, block_of};
+
+use crate::auto::encode_auto;
+use crate::codec::Codec;
+use block_codec::BlockCodec;
+use col_value::{Encoding, Run, Value};
+use std::alloc::{AllocError, Global};
+
+/// The bytes of the block of these values in a column of this encoding: the shortest of the four under AUTO.
+#[tactic(auto, unfolding(crate::specs::Choice::block_of))]
+pub fn encode(alloc: Global, encoding: Encoding, values: &[Value]) -> Result<Vec<u8>, AllocError>
+    requires block { IsOneBlock values.now }
+    requires kinds { All (Takes encoding) values.now }
+    ensures { IfOk result (λ b. b.items ≡ block_of encoding values.now) }
+{
+    match encoding {
+        Encoding::Auto => encode_auto(alloc, values),
+        Encoding::Rle => Codec::Rle.encode(alloc, values),
+        Encoding::DeltaVal => Codec::DeltaVal.encode(alloc, values),
+        Encoding::BlockDict => Codec::BlockDict.encode(alloc, values),
+        Encoding::Plain => Codec::Plain.encode(alloc, values),
+    }
+}
+
+/// The encoding with this tag.
+fn with_tag(first: u8) -> Option<Codec>
+    ensures { (c : Kind) → tag c ≡ first → result ≡ Some c }
+{
+    match first {
+        1 => Some(Codec::Rle),
+        2 => Some(Codec::DeltaVal),
+        3 => Some(Codec::BlockDict),
+        4 => Some(Codec::Plain),
+        _ => None,
+    }
+}
+
+/// The encoding whose tag stands at the front.
+fn tagged(bytes: &[u8]) -> Option<Codec>
+    ensures { (c : Kind) (vs : List Worth) → bytes.now ≡ spelled_by c vs → result ≡ Some c }
+{
+    match bytes {
+        [first, ..] => with_tag(*first),
+        [] => None,
+    }
+}
+
+/// The encoding by which a block of a column is read, if it may be one.
+fn codec_of(encoding: Encoding, bytes: &[u8]) -> Option<Codec>
+    ensures accepted { IfSome result (λ c. Accepts encoding c) }
+    ensures only { (c : Kind) (vs : List Worth) → Accepts encoding c → bytes.now ≡ spelled_by c vs → result ≡ Some c }
+{
+    match encoding {
+        Encoding::Auto => tagged(bytes),
+        Encoding::Rle => Some(Codec::Rle),
+        Encoding::DeltaVal => Some(Codec::DeltaVal),
+        Encoding::BlockDict => Some(Codec::BlockDict),
+        Encoding::Plain => Some(Codec::Plain),
+    }
+}
+
+/// The values of the block that all of the bytes are in a column of this encoding. None exactly where they are none.
+pub fn decode(
+    alloc: Global,
+    encoding: Encoding,
+    bytes: &[u8],
+) -> Result<Option<Vec<Value>>, AllocError>
+    ensures found { IfOk result (λ o. IfSome o (λ v. SpellsAs encoding v.items bytes.now)) }
+    ensures none { IfOk result (λ o. IfNone o ((vs : List Worth) → SpellsAs encoding vs bytes.now → ⊥)) }
+{
+    match codec_of(encoding, bytes) {
+        Some(codec) => codec.decode(alloc, bytes),
+        None => Ok(None),
+    }
+}
+
+/// The same values as runs of at least one value each. None exactly where `decode` answers it.
+pub fn runs(alloc: Global, encoding: Encoding, bytes: &[u8]) -> Result<Option<Vec<Run>>, AllocError>
+    ensures counts { IfOk result (λ o. IfSome o (λ v. HaveCounts v.items)) }
+    ensures found { IfOk result (λ o. IfSome o (λ v. SpellsAs encoding (flattened v.items) bytes.now)) }
+    ensures none { IfOk result (λ o. IfNone o ((vs : List Worth) → SpellsAs encoding vs bytes.now → ⊥)) }
+{
+    match codec_of(encoding, bytes) {
+        Some(codec) => codec.runs(alloc, bytes),
+        None => Ok(None),
+    }
+}
