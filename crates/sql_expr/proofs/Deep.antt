@@ -3,7 +3,7 @@ use Rattle.std.proofs.Common.{◌≡◌, ℕ, zero, suc, ◌-◌, ◌<◌, Bool,
 use Rattle.sql_words.specs.declared.token.Sign.{Sign}
 use Rattle.sql_phrases.specs.Readings.{choose}
 use Rattle.sql_phrases.specs.Classes.{is_sign}
-use Rattle.sql_phrases.specs.Readers.{inside, over, atom, leaf, primary, grouped, base}
+use Rattle.sql_phrases.specs.Readers.{inside, over, primary, grouped, base}
 use Rattle.sql_expr.specs.Levels.{leaf_of}
 
 pub base_flat : (g : Bool) (d : ℕ) → d ≡ 0 → base g d ≡ leaf_of g d

@@ -1,11 +1,11 @@
 -- Each turn of a chain takes something.
-use Rattle.std.proofs.Common.{◌≡◌, ℕ, ◌<◌, Bool, List, [], length, refl}
+use Rattle.std.proofs.Common.{◌≡◌, ℕ, ◌<◌, Bool, List, length}
 use Rattle.sql_words.specs.Symbols.{Symbol}
 use Rattle.sql_tree.specs.declared.part.Addend.{Addend}
 use Rattle.sql_tree.specs.declared.part.Part.{Part}
 use Rattle.sql_words.specs.declared.token.Key.{Key}
 use Rattle.sql_words.specs.declared.token.Sign.{Sign}
-use Rattle.sql_phrases.specs.Readings.{Read, joined}
+use Rattle.sql_phrases.specs.Readings.{Read}
 use Rattle.sql_phrases.specs.Readers.{signed, base}
 use Rattle.sql_phrases.proofs.Goods.{good_key, good_sign, good_shortens}
 use Rattle.sql_phrases.proofs.GoodExpressions.{good_unary, good_signed, good_sum, good_negation, good_conjunction, good_base}
@@ -20,7 +20,3 @@ part_shortens Level.Disjuncts g d = good_shortens (good_key Key.Or (good_conjunc
 
 pub signed_shortens : (g : Bool) (d : ℕ) (ts : List Symbol) (v : Addend) (rest : List Symbol) → signed (base g d) ts ≡ Read.Took v rest → length rest < length ts
 signed_shortens g d = good_shortens (good_signed (good_base g d))
-
-pub joined_none : {T V : Type 0} (q : Read T (List V)) → joined [] q ≡ q
-joined_none (Read.Took ws rest) = refl
-joined_none (Read.Stopped rest) = refl

@@ -85,12 +85,7 @@ fn conjunction(
 /// `conj {OR conj}`
 #[cycle(read)]
 #[tactic(auto, unfolding(sql_phrases::specs::Readings::both, sql_phrases::specs::Readings::nothing, sql_phrases::specs::Readers::over, sql_phrases::specs::Readers::by_word))]
-pub fn over(
-    alloc: Global,
-    tokens: &mut Tokens<'_>,
-    grouped: bool,
-    depth: u32,
-) -> Result<Part, Stop>
+pub fn over(alloc: Global, tokens: &mut Tokens<'_>, grouped: bool, depth: u32) -> Result<Part, Stop>
     ensures { Gives result tokens.new (over (base grouped depth) tokens.old) }
 {
     let first = conjunction(alloc, tokens, grouped, depth)?;

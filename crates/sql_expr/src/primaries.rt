@@ -30,12 +30,7 @@ fn parenthesis(
 /// `( expr )`, of an aggregate
 #[cycle(read)]
 #[tactic(auto, unfolding(sql_phrases::specs::Readings::both, sql_phrases::specs::Readings::nothing, sql_phrases::specs::Readers::argument))]
-fn argument(
-    alloc: Global,
-    tokens: &mut Tokens<'_>,
-    depth: u32,
-    kind: AggKind,
-) -> Result<Part, Stop>
+fn argument(alloc: Global, tokens: &mut Tokens<'_>, depth: u32, kind: AggKind) -> Result<Part, Stop>
     ensures { Gives result tokens.new (argument kind (over (base false depth)) tokens.old) }
 {
     let part = parenthesis(alloc, tokens, false, depth)?;
@@ -84,12 +79,7 @@ fn aggregate(alloc: Global, tokens: &mut Tokens<'_>, depth: u32) -> Result<Part,
 /// What stands where no parenthesis does: an aggregate, where they may stand, a column or a literal.
 #[cycle(read)]
 #[tactic(auto, unfolding(sql_phrases::specs::Readings::choose, sql_phrases::specs::Readers::leaf))]
-fn leaf(
-    alloc: Global,
-    tokens: &mut Tokens<'_>,
-    grouped: bool,
-    depth: u32,
-) -> Result<Part, Stop>
+fn leaf(alloc: Global, tokens: &mut Tokens<'_>, grouped: bool, depth: u32) -> Result<Part, Stop>
     ensures { Gives result tokens.new (leaf_of grouped depth tokens.old) }
 {
     if grouped {

@@ -34,12 +34,7 @@ pub fn unary(
 /// `unary {* unary}`
 #[cycle(read)]
 #[tactic(auto, unfolding(sql_phrases::specs::Readings::both, sql_phrases::specs::Readings::nothing, sql_phrases::specs::Readers::product, sql_phrases::specs::Readers::by_glyph))]
-fn product(
-    alloc: Global,
-    tokens: &mut Tokens<'_>,
-    grouped: bool,
-    depth: u32,
-) -> Result<Part, Stop>
+fn product(alloc: Global, tokens: &mut Tokens<'_>, grouped: bool, depth: u32) -> Result<Part, Stop>
     ensures { Gives result tokens.new (product (base grouped depth) tokens.old) }
 {
     let first = unary(alloc, tokens, grouped, depth)?;
@@ -50,12 +45,7 @@ fn product(
 /// `(+ | -) product`
 #[cycle(read)]
 #[tactic(auto, unfolding(sql_phrases::specs::Readings::choose, sql_phrases::specs::Readings::mark, sql_phrases::specs::Readings::both, sql_phrases::specs::Readings::nothing, sql_phrases::specs::Readers::signed))]
-fn signed(
-    alloc: Global,
-    tokens: &mut Tokens<'_>,
-    grouped: bool,
-    depth: u32,
-) -> Result<Addend, Stop>
+fn signed(alloc: Global, tokens: &mut Tokens<'_>, grouped: bool, depth: u32) -> Result<Addend, Stop>
     ensures { Gives result tokens.new (signed (base grouped depth) tokens.old) }
 {
     if tokens.begins_sign(Sign::Plus) {
@@ -92,12 +82,7 @@ fn addends(
 /// `product {(+ | -) product}`
 #[cycle(read)]
 #[tactic(auto, unfolding(sql_phrases::specs::Readings::both, sql_phrases::specs::Readings::nothing, sql_phrases::specs::Readers::sum))]
-pub fn sum(
-    alloc: Global,
-    tokens: &mut Tokens<'_>,
-    grouped: bool,
-    depth: u32,
-) -> Result<Part, Stop>
+pub fn sum(alloc: Global, tokens: &mut Tokens<'_>, grouped: bool, depth: u32) -> Result<Part, Stop>
     ensures { Gives result tokens.new (sum (base grouped depth) tokens.old) }
 {
     let first = product(alloc, tokens, grouped, depth)?;

@@ -1,4 +1,4 @@
-use Rattle.std.proofs.Common.{◌≡◌, ◌+◌, ◌*◌, [], length}
+use Rattle.std.proofs.Common.{◌≡◌, ◌+◌, ◌*◌, length}
 use Rattle.sql_phrases.specs.Readings.{joined, many}
 use Rattle.sql_phrases.specs.Classes.{in_set, signed_classes}
 use Rattle.sql_phrases.specs.Readers.{base, signed}
