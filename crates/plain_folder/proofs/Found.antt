@@ -14,8 +14,8 @@ use Rattle.catalog_types.specs.declared.catalogue.Table as kept
 use Rattle.sql_tree.specs.declared.statement.NewColumn.{NewColumn}
 use Rattle.db_model.specs.Database as model
 use Rattle.db_model.specs.Database.{super_name}
-use Rattle.plain_tables.specs.declared.table.Table.{Table}
-use Rattle.plain_tables.specs.Views.{table_of, projection_of}
+use Rattle.plain_store.specs.declared.table.Table.{Table}
+use Rattle.plain_store.specs.Views.{table_of, projection_of}
 use Rattle.plain_folder.specs.Served.{is_served_table, is_served_columns, is_served_parts, is_served_sort, is_served_projection, is_served_projections, is_plain}
 use Rattle.plain_folder.specs.Reopens.{HoldsRows, IsTableOf, column_of, shape_of}
 use Rattle.plain_folder.specs.Loading.{HoldsAll, ToldTable, ToldTables}

@@ -19,9 +19,9 @@ use Rattle.sql_tree.specs.declared.statement.NewColumn.{NewColumn}
 use Rattle.db_model.specs.Database as model
 use Rattle.db_model.specs.Growth.{early, late}
 use Rattle.db_model.specs.Kept.{moved_shape}
-use Rattle.plain_tables.specs.declared.table.Table.{Table}
-use Rattle.plain_tables.specs.Views.{table_of, projection_of}
-use Rattle.db_laws.proofs.Alike.{parted}
+use Rattle.plain_store.specs.declared.table.Table.{Table}
+use Rattle.plain_store.specs.Views.{table_of, projection_of}
+use Rattle.plain_store.proofs.Alike.{parted}
 use Rattle.plain_folder.specs.Reopens.{undeleted, shape_of}
 use Rattle.plain_folder.specs.Closing.{DataFrom}
 use Rattle.plain_folder.specs.Saving.{containers_named, whole_projection, kept_column, AreHeld, HoldsMore, WasHeld, IsSaved, SavesTable, SavesTables}

@@ -4,7 +4,7 @@ ghost use Rattle.std.specs.Prelude.{◌≡◌, ◌≤◌, ◌++◌, ℕ, [], ◌
 ghost use Rattle.std.specs.List.{All};
 ghost use Rattle.col_base.specs.Causes.{HasCause};
 ghost use Rattle.col_disk.specs.Moved.{Moved, NoName};
-ghost use Rattle.plain_tables.specs.Views as view;
+ghost use Rattle.plain_store.specs.Views as view;
 ghost use Rattle.plain_folder.specs.Served.{is_served_table};
 ghost use Rattle.plain_folder.specs.Reopens.{undeleted, column_of};
 ghost use Rattle.plain_folder.specs.Loading.{AreLoadable, HoldsAll, ToldTable, ToldTables, BlamesProjection, BlamesTable, BlamesTables};
@@ -12,7 +12,7 @@ ghost use Rattle.plain_folder.specs.Loading.{AreLoadable, HoldsAll, ToldTable, T
 use catalog_types::{Column, Projection, Table as Kept};
 use col_disk::{Disk, StoreFault};
 use col_value::{Asked, List, Stamped};
-use plain_tables::Table;
+use plain_store::Table;
 use sql_tree::NewColumn;
 use std::alloc::{AllocError, Global};
 

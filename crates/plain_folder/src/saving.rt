@@ -7,7 +7,7 @@ ghost use Rattle.std.specs.Option.{option_copied};
 ghost use Rattle.col_base.specs.Causes.{HasCause};
 ghost use Rattle.col_disk.specs.Moved.{Moved, NoName};
 ghost use Rattle.db_model.specs.Growth.{late};
-ghost use Rattle.plain_tables.specs.Views.{table_of};
+ghost use Rattle.plain_store.specs.Views.{table_of};
 ghost use Rattle.plain_folder.specs.Reopens.{undeleted};
 ghost use Rattle.plain_folder.specs.Closing.{DataFrom};
 ghost use Rattle.plain_folder.specs.Saving.{containers_of, containers_named, whole_projection, kept_column, IsOfOne, HoldsMore, SavesTable, SavesTables};
@@ -16,7 +16,7 @@ use crate::adding::{late_rows, write_container};
 use catalog_types::{Catalogue, Column, Container, ProjColumn, Projection, Table as Kept};
 use col_disk::{Disk, DiskFault};
 use col_value::{Asked, Encoding, List, Name, Stamped};
-use plain_tables::Table;
+use plain_store::Table;
 use sql_tree::NewColumn;
 use std::alloc::{AllocError, Global};
 

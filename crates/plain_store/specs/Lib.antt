@@ -1,2 +1,2 @@
-pub mod Plans
-pub mod Readings
+pub mod Views
+pub mod Places

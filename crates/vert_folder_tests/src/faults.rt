@@ -1,10 +1,10 @@
 //! A disk that fails, and files that are not what they were.
 
 use crate::folders::{NAMES, QUERY, ROWS, two_rows};
-use vert_harness::{NONE, ran_on};
 use col_disk::Disk;
 use std::test::Fail;
 use vert_cli::Status;
+use vert_harness::{NONE, ran_on};
 
 const MORE: &[u8] =
     b"INSERT INTO t VALUES (0); COMMIT; CREATE TABLE s (b INTEGER); SELECT a FROM t;";

@@ -1,10 +1,10 @@
 //! Runs one after the other on one disk.
 
-use vert_harness::{NONE, ran, ran_on};
 use col_disk::{Disk, MemDisk};
 use std::alloc::Global;
 use std::test::Fail;
 use vert_cli::Status;
+use vert_harness::{NONE, ran, ran_on};
 
 /// Makes a table of two rows.
 pub const ROW: &[u8] =

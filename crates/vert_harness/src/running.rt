@@ -45,6 +45,10 @@ pub fn ran_on(
 }
 
 /// The same over an empty disk.
-pub fn ran(alloc: Global, script: &[u8], trouble: &Trouble) -> Result<(Status, MemSink), AllocError> {
+pub fn ran(
+    alloc: Global,
+    script: &[u8],
+    trouble: &Trouble,
+) -> Result<(Status, MemSink), AllocError> {
     ran_on(alloc, script, trouble, &mut MemDisk::new(alloc))
 }
