@@ -1,21 +1,111 @@
 ghost use Rattle.sql_phrases.specs.Gives.{Gives};
-ghost use Rattle.sql_phrases.specs.Readers.{literal, reference};
+ghost use Rattle.sql_phrases.specs.Readers.{named_constant, a_constant, literal, qualified, reference, atom, null_test};
 
-use col_value::Wide;
+use col_value::{Name, Wide};
 use sql_phrases::{Stop, Tokens};
-use sql_tree::ColRef;
+use sql_tree::{ColRef, Part};
+use sql_words::{Key, Sign};
 use std::alloc::Global;
 
+/// `TRUE | FALSE | NULL`
+#[tactic(auto, unfolding(sql_phrases::specs::Readings::choose, sql_phrases::specs::Readings::mark, sql_phrases::specs::Readings::both, sql_phrases::specs::Readings::nothing, sql_phrases::specs::Readers::named_constant))]
+fn named_constant(tokens: &mut Tokens<'_>) -> Result<Wide, Stop>
+    ensures { Gives result tokens.new (named_constant tokens.old) }
+{
+    if tokens.begins_key(Key::True) {
+        tokens.key(Key::True)?;
+        return Ok(Wide::Bool(true));
+    }
+    if tokens.begins_key(Key::False) {
+        tokens.key(Key::False)?;
+        return Ok(Wide::Bool(false));
+    }
+    tokens.key(Key::Null)?;
+    Ok(Wide::Null)
+}
+
+/// `int | text | TRUE | FALSE | NULL`
+#[tactic(auto, unfolding(sql_phrases::specs::Readings::choose, sql_phrases::specs::Readings::both, sql_phrases::specs::Readings::nothing, sql_phrases::specs::Readers::a_constant))]
+fn constant(alloc: Global, tokens: &mut Tokens<'_>) -> Result<Wide, Stop>
+    ensures { Gives result tokens.new (a_constant tokens.old) }
+{
+    if tokens.begins_number() {
+        let number = tokens.number()?;
+        return Ok(Wide::Int(number as i128));
+    }
+    if tokens.begins_text() {
+        let text = tokens.text(alloc)?;
+        return Ok(Wide::Text(text));
+    }
+    named_constant(tokens)
+}
+
 /// `[-] int | text | TRUE | FALSE | NULL`
+#[tactic(auto, unfolding(sql_phrases::specs::Readings::choose, sql_phrases::specs::Readings::mark, sql_phrases::specs::Readings::both, sql_phrases::specs::Readings::nothing, sql_phrases::specs::Readers::literal))]
 pub fn literal(alloc: Global, tokens: &mut Tokens<'_>) -> Result<Wide, Stop>
     ensures { Gives result tokens.new (literal tokens.old) }
 {
-    Err(Stop::Memory)
+    if tokens.begins_sign(Sign::Minus) {
+        tokens.sign(Sign::Minus)?;
+        let number = tokens.number()?;
+        return Ok(Wide::Int(-(number as i128)));
+    }
+    constant(alloc, tokens)
+}
+
+/// `[. name]`, behind the first name of a column
+#[tactic(auto, unfolding(sql_phrases::specs::Readings::choose, sql_phrases::specs::Readings::mark, sql_phrases::specs::Readings::both, sql_phrases::specs::Readings::nothing, sql_phrases::specs::Readers::qualified))]
+fn qualified(alloc: Global, tokens: &mut Tokens<'_>, first: Name) -> Result<ColRef, Stop>
+    ensures { Gives result tokens.new (qualified first tokens.old) }
+{
+    if tokens.begins_sign(Sign::Dot) {
+        tokens.sign(Sign::Dot)?;
+        let name = tokens.name(alloc)?;
+        return Ok(ColRef {
+            qualifier: Some(first),
+            name,
+        });
+    }
+    Ok(ColRef {
+        qualifier: None,
+        name: first,
+    })
 }
 
 /// `name [. name]`
+#[tactic(auto, unfolding(sql_phrases::specs::Readings::both, sql_phrases::specs::Readers::reference))]
 pub fn reference(alloc: Global, tokens: &mut Tokens<'_>) -> Result<ColRef, Stop>
     ensures { Gives result tokens.new (reference tokens.old) }
 {
-    Err(Stop::Memory)
+    let first = tokens.name(alloc)?;
+    qualified(alloc, tokens, first)
+}
+
+/// A column or a literal.
+#[tactic(auto, unfolding(sql_phrases::specs::Readings::choose, sql_phrases::specs::Readings::both, sql_phrases::specs::Readings::nothing, sql_phrases::specs::Readers::atom))]
+pub fn atom(alloc: Global, tokens: &mut Tokens<'_>) -> Result<Part, Stop>
+    ensures { Gives result tokens.new (atom tokens.old) }
+{
+    if tokens.begins_name() {
+        let column = reference(alloc, tokens)?;
+        return Ok(Part::column(column));
+    }
+    let value = constant(alloc, tokens)?;
+    Ok(Part::constant(value))
+}
+
+/// `IS [NOT] NULL`, behind its part
+#[tactic(auto, unfolding(sql_phrases::specs::Readings::choose, sql_phrases::specs::Readings::mark, sql_phrases::specs::Readings::both, sql_phrases::specs::Readings::nothing, sql_phrases::specs::Readers::null_test))]
+pub fn null_test(alloc: Global, tokens: &mut Tokens<'_>, part: Part) -> Result<Part, Stop>
+    ensures { Gives result tokens.new (null_test part tokens.old) }
+{
+    tokens.key(Key::Is)?;
+    if tokens.begins_key(Key::Not) {
+        tokens.key(Key::Not)?;
+        tokens.key(Key::Null)?;
+        let test = part.is_null(alloc)?;
+        return Ok(test.denied(alloc)?);
+    }
+    tokens.key(Key::Null)?;
+    Ok(part.is_null(alloc)?)
 }

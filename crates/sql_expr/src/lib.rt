@@ -5,8 +5,13 @@
 //! the recursion is no deeper than the parentheses, of which 32 may nest.
 #![tactic(auto)]
 
+mod chains;
 mod expressions;
 mod leaves;
+mod level;
+mod predicates;
+mod primaries;
+mod sums;
 
 pub use expressions::{expr, grouped_expr};
 pub use leaves::{literal, reference};

@@ -86,10 +86,10 @@ impl Part {
     }
 
     /// `self IN (first, more)`
-    pub fn one_of(self, alloc: Global, first: Part, more: Vec<Part>) -> Result<Part, AllocError>
-        ensures { IfOk result (λ p. p ≡ one_of self first more.items) }
+    pub fn one_of(self, alloc: Global, first: Part, more: List<Part>) -> Result<Part, AllocError>
+        ensures { IfOk result (λ p. p ≡ one_of self first more) }
     {
-        if more.is_empty() {
+        if more.as_slice().is_empty() {
             return Ok(Part {
                 tree: compare(alloc, self.tree, Cmp::Eq, first.tree)?,
                 holds: true,
@@ -102,13 +102,13 @@ impl Part {
     }
 
     /// `self * more * ..`
-    pub fn times(self, alloc: Global, more: Vec<Part>) -> Result<Part, AllocError>
-        ensures { IfOk result (λ p. p ≡ chained Tree.Product self more.items) }
+    pub fn times(self, alloc: Global, more: List<Part>) -> Result<Part, AllocError>
+        ensures { IfOk result (λ p. p ≡ chained Tree.Product self more) }
     {
-        if more.is_empty() {
+        if more.as_slice().is_empty() {
             return Ok(self);
         }
-        let holds = self.holds || any_holds(&more);
+        let holds = self.holds || any_holds(more.as_slice());
         Ok(Part {
             tree: Tree::Product(List::new(trees(alloc, self, more)?)),
             holds,
@@ -116,13 +116,13 @@ impl Part {
     }
 
     /// `self AND more AND ..`
-    pub fn and(self, alloc: Global, more: Vec<Part>) -> Result<Part, AllocError>
-        ensures { IfOk result (λ p. p ≡ chained Tree.And self more.items) }
+    pub fn and(self, alloc: Global, more: List<Part>) -> Result<Part, AllocError>
+        ensures { IfOk result (λ p. p ≡ chained Tree.And self more) }
     {
-        if more.is_empty() {
+        if more.as_slice().is_empty() {
             return Ok(self);
         }
-        let holds = self.holds || any_holds(&more);
+        let holds = self.holds || any_holds(more.as_slice());
         Ok(Part {
             tree: Tree::And(List::new(trees(alloc, self, more)?)),
             holds,
@@ -130,13 +130,13 @@ impl Part {
     }
 
     /// `self OR more OR ..`
-    pub fn or(self, alloc: Global, more: Vec<Part>) -> Result<Part, AllocError>
-        ensures { IfOk result (λ p. p ≡ chained Tree.Or self more.items) }
+    pub fn or(self, alloc: Global, more: List<Part>) -> Result<Part, AllocError>
+        ensures { IfOk result (λ p. p ≡ chained Tree.Or self more) }
     {
-        if more.is_empty() {
+        if more.as_slice().is_empty() {
             return Ok(self);
         }
-        let holds = self.holds || any_holds(&more);
+        let holds = self.holds || any_holds(more.as_slice());
         Ok(Part {
             tree: Tree::Or(List::new(trees(alloc, self, more)?)),
             holds,
@@ -144,13 +144,13 @@ impl Part {
     }
 
     /// `self + more - ..`
-    pub fn plus(self, alloc: Global, more: Vec<Addend>) -> Result<Part, AllocError>
-        ensures { IfOk result (λ p. p ≡ summed self more.items) }
+    pub fn plus(self, alloc: Global, more: List<Addend>) -> Result<Part, AllocError>
+        ensures { IfOk result (λ p. p ≡ summed self more) }
     {
-        if more.is_empty() {
+        if more.as_slice().is_empty() {
             return Ok(self);
         }
-        let holds = self.holds || any_addend_holds(&more);
+        let holds = self.holds || any_addend_holds(more.as_slice());
         Ok(Part {
             tree: Tree::Sum(terms(alloc, self, more)?),
             holds,
@@ -187,27 +187,27 @@ fn compare(alloc: Global, left: Tree, cmp: Cmp, right: Tree) -> Result<Tree, All
 }
 
 /// The trees of the parts, in order.
-fn trees(alloc: Global, first: Part, more: Vec<Part>) -> Result<Vec<Tree>, AllocError>
-    ensures { IfOk result (λ ts. ts.items ≡ map (λ p. p.tree) (first ∷ more.items)) }
+fn trees(alloc: Global, first: Part, more: List<Part>) -> Result<Vec<Tree>, AllocError>
+    ensures { IfOk result (λ ts. ts.items ≡ map (λ p. p.tree) (first ∷ more)) }
 {
     let mut trees = Vec::new(alloc);
     trees.push(first.tree)?;
-    for part in more {
+    for part in more.into_vec() {
         trees.push(part.tree)?;
     }
     Ok(trees)
 }
 
 /// The terms of a sum of `first` and more, in order.
-fn terms(alloc: Global, first: Part, more: Vec<Addend>) -> Result<List<Term>, AllocError>
-    ensures { IfOk result (λ ts. ts ≡ map term (addend false first ∷ more.items)) }
+fn terms(alloc: Global, first: Part, more: List<Addend>) -> Result<List<Term>, AllocError>
+    ensures { IfOk result (λ ts. ts ≡ map term (addend false first ∷ more)) }
 {
     let mut terms = Vec::new(alloc);
     terms.push(Term {
         minus: false,
         part: first.tree,
     })?;
-    for next in more {
+    for next in more.into_vec() {
         terms.push(Term {
             minus: next.minus,
             part: next.part.tree,
@@ -245,13 +245,13 @@ fn equals_each(
     alloc: Global,
     part: &Part,
     first: Part,
-    more: Vec<Part>,
+    more: List<Part>,
 ) -> Result<List<Tree>, AllocError>
-    ensures { IfOk result (λ ts. ts ≡ map (equals part.now) (first ∷ more.items)) }
+    ensures { IfOk result (λ ts. ts ≡ map (equals part.now) (first ∷ more)) }
 {
     let mut out = Vec::new(alloc);
     out.push(compare(alloc, part.tree.copy(alloc)?, Cmp::Eq, first.tree)?)?;
-    for other in more {
+    for other in more.into_vec() {
         out.push(compare(alloc, part.tree.copy(alloc)?, Cmp::Eq, other.tree)?)?;
     }
     Ok(List::new(out))
