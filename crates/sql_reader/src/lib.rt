@@ -13,7 +13,6 @@ mod queries;
 mod reader;
 mod sources;
 mod statements;
-
 #[cfg(test)]
 mod tests;
 
