@@ -12,6 +12,8 @@ mod level;
 mod predicates;
 mod primaries;
 mod sums;
+#[cfg(test)]
+mod tests;
 
 pub use expressions::{expr, grouped_expr};
 pub use leaves::{literal, reference};

@@ -101,58 +101,58 @@ impl Part {
         })
     }
 
-    /// `self * more * ..`
-    pub fn times(self, alloc: Global, more: List<Part>) -> Result<Part, AllocError>
-        ensures { IfOk result (λ p. p ≡ chained Tree.Product self more) }
+    /// `self * factor * ..`
+    pub fn times(self, alloc: Global, factors: List<Part>) -> Result<Part, AllocError>
+        ensures { IfOk result (λ p. p ≡ chained Tree.Product self factors) }
     {
-        if more.as_slice().is_empty() {
+        if factors.as_slice().is_empty() {
             return Ok(self);
         }
-        let holds = self.holds || any_holds(more.as_slice());
+        let holds = self.holds || any_holds(factors.as_slice());
         Ok(Part {
-            tree: Tree::Product(List::new(trees(alloc, self, more)?)),
+            tree: Tree::Product(List::new(trees(alloc, self, factors)?)),
             holds,
         })
     }
 
-    /// `self AND more AND ..`
-    pub fn and(self, alloc: Global, more: List<Part>) -> Result<Part, AllocError>
-        ensures { IfOk result (λ p. p ≡ chained Tree.And self more) }
+    /// `self AND other AND ..`
+    pub fn and(self, alloc: Global, others: List<Part>) -> Result<Part, AllocError>
+        ensures { IfOk result (λ p. p ≡ chained Tree.And self others) }
     {
-        if more.as_slice().is_empty() {
+        if others.as_slice().is_empty() {
             return Ok(self);
         }
-        let holds = self.holds || any_holds(more.as_slice());
+        let holds = self.holds || any_holds(others.as_slice());
         Ok(Part {
-            tree: Tree::And(List::new(trees(alloc, self, more)?)),
+            tree: Tree::And(List::new(trees(alloc, self, others)?)),
             holds,
         })
     }
 
-    /// `self OR more OR ..`
-    pub fn or(self, alloc: Global, more: List<Part>) -> Result<Part, AllocError>
-        ensures { IfOk result (λ p. p ≡ chained Tree.Or self more) }
+    /// `self OR choice OR ..`
+    pub fn or(self, alloc: Global, choices: List<Part>) -> Result<Part, AllocError>
+        ensures { IfOk result (λ p. p ≡ chained Tree.Or self choices) }
     {
-        if more.as_slice().is_empty() {
+        if choices.as_slice().is_empty() {
             return Ok(self);
         }
-        let holds = self.holds || any_holds(more.as_slice());
+        let holds = self.holds || any_holds(choices.as_slice());
         Ok(Part {
-            tree: Tree::Or(List::new(trees(alloc, self, more)?)),
+            tree: Tree::Or(List::new(trees(alloc, self, choices)?)),
             holds,
         })
     }
 
-    /// `self + more - ..`
-    pub fn plus(self, alloc: Global, more: List<Addend>) -> Result<Part, AllocError>
-        ensures { IfOk result (λ p. p ≡ summed self more) }
+    /// `self + addend - ..`
+    pub fn plus(self, alloc: Global, addends: List<Addend>) -> Result<Part, AllocError>
+        ensures { IfOk result (λ p. p ≡ summed self addends) }
     {
-        if more.as_slice().is_empty() {
+        if addends.as_slice().is_empty() {
             return Ok(self);
         }
-        let holds = self.holds || any_addend_holds(more.as_slice());
+        let holds = self.holds || any_addend_holds(addends.as_slice());
         Ok(Part {
-            tree: Tree::Sum(terms(alloc, self, more)?),
+            tree: Tree::Sum(terms(alloc, self, addends)?),
             holds,
         })
     }
