@@ -12,6 +12,7 @@ mod inserts;
 mod keep;
 mod literals;
 mod narrow;
+mod outputs;
 mod queries;
 mod refs;
 mod single;
