@@ -10,6 +10,7 @@ mod fault;
 mod flaw;
 mod inserts;
 mod keep;
+mod keys;
 mod literals;
 mod narrow;
 mod outputs;
