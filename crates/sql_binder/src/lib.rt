@@ -19,6 +19,7 @@ mod queries;
 mod refs;
 mod single;
 mod trees;
+mod types;
 
 pub use fault::{BindFault, Found};
 pub use inserts::bind_insert;
