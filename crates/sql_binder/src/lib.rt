@@ -17,6 +17,7 @@ mod narrow;
 mod outputs;
 mod queries;
 mod refs;
+mod scope;
 mod single;
 mod trees;
 mod types;

@@ -26,11 +26,7 @@ pub(crate) fn check_trees(
     check_bounds(query)
 }
 
-fn check_types(
-    alloc: Global,
-    columns: &[NewColumn],
-    query: &BoundQuery,
-) -> Result<(), BindFault>
+fn check_types(alloc: Global, columns: &[NewColumn], query: &BoundQuery) -> Result<(), BindFault>
     ensures ok { OnOk result (is_typed (kinds_over columns.now) query.now ≡ true) }
     ensures refused { IfErr result (RefusesBy (refused_where (not (is_typed (kinds_over columns.now) query.now)) Refusal.TypeMismatch)) }
 {
