@@ -1,3 +1,4 @@
 pub mod FirstOnes
 pub mod Storing
 pub mod Splitting
+pub mod Lacking

@@ -130,13 +130,17 @@ is_narrow_query b = list_all (is_narrow []) b.items && list_all (is_narrow []) b
 abbrev pub refused_where : Bool → Refusal → Option Refusal
 refused_where wrong r = if wrong then Some r else None
 
+-- a name that isn't there, or that stands twice
+abbrev pub name_refusal : List NewColumn → Query → Option Refusal
+name_refusal columns q = first_of (option_map Refusal.UnknownColumn (unknown_column columns q)) (option_map Refusal.Ambiguous (ambiguous_name columns q))
+
+-- an expression that isn't typed, or too wide
+abbrev pub tree_refusal : List NewColumn → BoundQuery → Option Refusal
+tree_refusal columns b = first_of (refused_where (not (is_typed (kinds_over columns) b)) Refusal.TypeMismatch) (refused_where (not (is_narrow_query b)) Refusal.TooWide)
+
 -- why a query over this table is refused: each is looked for in the whole statement before the next
 abbrev pub refusal_over : List NewColumn → Query → Option Refusal
-refusal_over columns q =
-    first_of (option_map Refusal.UnknownColumn (unknown_column columns q))
-    (first_of (option_map Refusal.Ambiguous (ambiguous_name columns q))
-    (first_of (refused_where (not (is_typed (kinds_over columns) (bound_query 0 columns q))) Refusal.TypeMismatch)
-    (refused_where (not (is_narrow_query (bound_query 0 columns q))) Refusal.TooWide)))
+refusal_over columns q = first_of (name_refusal columns q) (tree_refusal columns (bound_query 0 columns q))
 
 -- Why a query is refused, whose table has these columns; None where there is no such table.
 abbrev pub query_refusal : Option (List NewColumn) → Query → Option Refusal

@@ -1,4 +1,8 @@
+ghost use Rattle.std.specs.Prelude.{◌≡◌, Some};
+ghost use Rattle.sql_binder.specs.declared.fault.BindFault.TheVariants.{Memory};
+
 use sql_tree::{NewColumn, Refusal};
+use std::alloc::{AllocError, AllocFailed};
 
 /// A table that a statement names: its place among all tables, and its columns.
 #[derive(Clone, Copy)]
@@ -12,4 +16,12 @@ pub struct Found<'a> {
 pub enum BindFault {
     Refused(Refusal),
     Memory,
+}
+
+impl From<AllocError> for BindFault {
+    ghost from_gives = { λ _ e. e ≡ Memory };
+
+    fn from(_: AllocError) -> Self {
+        BindFault::Memory
+    }
 }

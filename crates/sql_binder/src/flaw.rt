@@ -1,9 +1,10 @@
 ghost use Rattle.std.specs.Prelude.{◌≡◌};
-ghost use Rattle.sql_binder.specs.Flaws.{has_flaw, flaw_named};
+ghost use Rattle.sql_binder.specs.Flaws.{has_flaw, naming_of};
 ghost use Rattle.sql_binder.specs.Inserts.{is_of_column, is_stored_number, width_of};
 
-use col_value::{ColType, Name, Wide};
-use sql_tree::{NewColumn, Refusal};
+use crate::naming::Naming;
+use col_value::{ColType, Wide};
+use sql_tree::NewColumn;
 
 /// Why a literal of the right kind can't be stored in a column.
 #[derive(Clone, Copy)]
@@ -26,14 +27,14 @@ impl Flaw {
         }
     }
 
-    /// The refusal, in a column of this name.
-    pub(crate) fn named(self, name: Name) -> Refusal
-        ensures { result ≡ flaw_named self name }
+    /// How it is refused.
+    pub(crate) fn naming(self) -> Naming
+        ensures { result ≡ naming_of self }
     {
         match self {
-            Flaw::Range => Refusal::IntegerOutOfRange(name),
-            Flaw::Length => Refusal::TextTooLong(name),
-            Flaw::Null => Refusal::NullRefused(name),
+            Flaw::Range => Naming::IntegerOutOfRange,
+            Flaw::Length => Naming::TextTooLong,
+            Flaw::Null => Naming::NullRefused,
         }
     }
 }

@@ -7,11 +7,12 @@ ghost use Rattle.sql_binder.specs.Queries.{first_given, refused_where};
 
 use crate::flaw::Flaw;
 use crate::literals::{are_of_columns, first_flaw, wrong_count};
+use crate::naming::Naming;
 use crate::narrow::narrow_rows;
 use crate::{BindFault, Found};
 use col_value::{Row, WideRow};
 use sql_tree::{Insert, NewColumn, Refusal};
-use std::alloc::{AllocError, Global};
+use std::alloc::Global;
 
 /// The rows of an INSERT, whose table was found, or was not. What its rows hold is looked at last: a number out of range, a text too
 /// long, a NULL that is refused.
@@ -25,19 +26,10 @@ pub fn bind_insert(
     ensures refused { IfErr result (RefusesBy (whole_refusal (option_map (λ f. f.columns.now) found.entry) insert.now)) }
 {
     let Some(found) = found else {
-        return match insert.table.copy(alloc) {
-            Ok(name) => Err(BindFault::Refused(Refusal::UnknownTable(name))),
-            Err(AllocError) => Err(BindFault::Memory),
-        };
+        return Err(Naming::UnknownTable.refuse(alloc, insert.table.as_slice()));
     };
-    match check_insert(alloc, found.columns, insert) {
-        Ok(()) => {}
-        Err(fault) => return Err(fault),
-    }
-    match narrow_rows(alloc, insert.rows.as_slice()) {
-        Ok(rows) => Ok(rows),
-        Err(AllocError) => Err(BindFault::Memory),
-    }
+    check_insert(alloc, found.columns, insert)?;
+    Ok(narrow_rows(alloc, insert.rows.as_slice())?)
 }
 
 /// Refuses what can't be stored in a table with these columns.
@@ -103,11 +95,8 @@ fn check_flaw(
     ensures ok { OnOk result (flaw_refusal flaw (pairs columns.now rows.now) ≡ None) }
     ensures refused { IfErr result (RefusesBy (flaw_refusal flaw (pairs columns.now rows.now))) }
 {
-    let Some(name) = first_flaw(flaw, columns, rows) else {
-        return Ok(());
-    };
-    match name.copy(alloc) {
-        Ok(name) => Err(BindFault::Refused(flaw.named(name))),
-        Err(AllocError) => Err(BindFault::Memory),
+    match first_flaw(flaw, columns, rows) {
+        None => Ok(()),
+        Some(name) => Err(flaw.naming().refuse(alloc, name.as_slice())),
     }
 }

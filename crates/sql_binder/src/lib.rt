@@ -10,12 +10,17 @@ mod fault;
 mod flaw;
 mod inserts;
 mod keep;
+mod keys;
 mod literals;
+mod naming;
 mod narrow;
+mod outputs;
 mod queries;
 mod refs;
+mod scope;
 mod single;
 mod trees;
+mod types;
 
 pub use fault::{BindFault, Found};
 pub use inserts::bind_insert;

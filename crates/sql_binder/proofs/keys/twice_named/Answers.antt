@@ -1,0 +1,14 @@
+use Rattle.std.proofs.Common.{◌≡◌, sym, ap, ◌∙◌, subst, ℕ, List, Bool, Option, Some, None}
+use Rattle.std.specs.Prelude.{if◌then◌else◌, nat_lt}
+use Rattle.std.specs.Result.{IfOk}
+use Rattle.sql_binder.specs.Queries.{twice_named, count_named}
+use Rattle.sql_binder.proofs.keys.twice_named.Goals as goal
+
+pub returns-in-Name : goal.returns-in-Name
+returns-in-Name c =
+    let outputs = c.args.outputs.now in
+    let name : List ℕ = c.in-Name.name in
+    let so = c.is_twice.ensures ∙ ap (λ (n : List ℕ). nat_lt 1 (count_named n outputs)) c.as_slice.ensures in
+    subst (λ (v : Option (List ℕ)). IfOk c.name_where.result (λ n. n ≡ v))
+    (ap (λ (b : Bool). if b then Some name else None) so ∙ ap (twice_named outputs) (sym c.in-Name.is))
+    c.name_where.ensures
