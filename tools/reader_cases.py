@@ -1,0 +1,319 @@
+#!/usr/bin/env python3
+"""Writes the cases of crates/reader_cases: texts, each with the place at which the reader has to refuse it, or 0 where it is a statement.
+
+The places come from the grammar alone: from its productions, as a general parser (Earley's) reads them, and never from the program.
+tools/reader_cases.py > crates/reader_cases/stdin
+"""
+import random
+
+GRAMMAR = '''
+statement = CREATE TABLE name ( columns )
+statement = CREATE PROJECTION name ( pcols ) AS SELECT names FROM name
+statement = CREATE PROJECTION name ( pcols ) AS SELECT names FROM name ORDER BY names
+statement = DROP TABLE name
+statement = DROP PROJECTION name
+statement = INSERT INTO name VALUES tuples
+statement = DELETE FROM name where
+statement = UPDATE name SET sets where
+statement = COPY name FROM text
+statement = COMMIT
+statement = ROLLBACK
+statement = SELECT function
+statement = SELECT query
+statement = AT EPOCH int SELECT query
+statement = AT EPOCH LATEST SELECT query
+statement = EXPLAIN SELECT query
+statement = \\session eight
+statement = \\step
+columns = column
+columns = columns , column
+column = name type
+column = name type NOT NULL
+type = INTEGER
+type = INT
+type = BIGINT
+type = BOOLEAN
+type = VARCHAR ( width )
+pcols = pcol
+pcols = pcols , pcol
+pcol = name
+pcol = name ENCODING encoding
+encoding = AUTO
+encoding = RLE
+encoding = DELTAVAL
+encoding = BLOCK_DICT
+encoding = PLAIN
+names = name
+names = names , name
+tuples = tuple
+tuples = tuples , tuple
+tuple = ( literals )
+literals = literal
+literals = literals , literal
+literal = int
+literal = - int
+literal = text
+literal = TRUE
+literal = FALSE
+literal = NULL
+sets = set
+sets = sets , set
+set = name = expr
+where =
+where = WHERE expr
+function = GET_LAST_GOOD_EPOCH ( )
+function = GET_CURRENT_EPOCH ( )
+query = items FROM sources where groupby having orderby limit
+items = *
+items = list
+list = item
+list = list , item
+item = gexpr
+item = gexpr AS name
+sources = source
+sources = sources , source
+sources = sources JOIN source ON expr
+sources = sources INNER JOIN source ON expr
+source = name
+source = name AS name
+groupby =
+groupby = GROUP BY colrefs
+colrefs = colref
+colrefs = colrefs , colref
+colref = name
+colref = name . name
+having =
+having = HAVING gexpr
+orderby =
+orderby = ORDER BY keys
+keys = key
+keys = keys , key
+key = int
+key = int ASC
+key = int DESC
+key = name
+key = name ASC
+key = name DESC
+limit =
+limit = LIMIT int
+'''
+
+# The levels of an expression. `g`: aggregates may stand in it; `p`: no BETWEEN and no IN stands in it, at any depth.
+LEVELS = '''
+X = Xconj
+X = X OR Xconj
+Xconj = Xneg
+Xconj = Xconj AND Xneg
+Xneg = Xtest
+Xneg = NOT Xtest
+Xtest = Xsum
+Xtest = Xsum cmp Xsum
+Xtest = Xsum IS NULL
+Xtest = Xsum IS NOT NULL
+Xsum = Xproduct
+Xsum = Xsum + Xproduct
+Xsum = Xsum - Xproduct
+Xproduct = Xunary
+Xproduct = Xproduct * Xunary
+Xunary = Xprimary
+Xunary = - Xprimary
+Xprimary = int
+Xprimary = text
+Xprimary = TRUE
+Xprimary = FALSE
+Xprimary = NULL
+Xprimary = colref
+Xprimary = ( X )
+'''
+
+RANGES = '''
+Xtest = Psum BETWEEN Xsum AND Xsum
+Xtest = Psum IN ( Xsums )
+Xsums = Xsum
+Xsums = Xsums , Xsum
+'''
+
+AGGREGATES = '''
+Xprimary = COUNT ( * )
+Xprimary = COUNT ( A )
+Xprimary = SUM ( A )
+Xprimary = MIN ( A )
+Xprimary = MAX ( A )
+'''
+
+
+def productions():
+    text = GRAMMAR
+    for level in ('expr', 'pexpr', 'gexpr', 'gpexpr'):
+        text += LEVELS.replace('X', level)
+        pure = {'expr': 'pexpr', 'gexpr': 'gpexpr'}.get(level)
+        if pure:
+            text += RANGES.replace('Xsums', level + 'sums').replace('Xsum', level + 'sum').replace('Xtest', level + 'test').replace('Psum', pure + 'sum')
+        if level[0] == 'g':
+            argument = 'pexpr' if level == 'gpexpr' else 'expr'
+            text += AGGREGATES.replace('Xprimary', level + 'primary').replace('( A )', '( ' + argument + ' )')
+    rules = {}
+    for line in text.split('\n'):
+        if line.strip():
+            head, _, body = line.partition(' =')
+            rules.setdefault(head.strip(), []).append(body.split())
+    for sign in ('=', '<>', '!=', '<', '<=', '>', '>='):
+        rules.setdefault('cmp', []).append([sign])
+    return rules
+
+
+RULES = productions()
+START = 'statement'
+
+# Tokens of a class: what is written, and the classes of the grammar that it is.
+SAMPLES = {
+    'name': ['t', 'Sale', '_x1', 'inte'], 'text': ["'a'", "''", "'it''s; -- no'"], 'int': ['0', '7', '00099', '170141183460469231731687303715884105727'],
+    'width': ['0', '20', '4294967295'], 'eight': ['1', '8'],
+}
+
+
+def classes(token):
+    """The terminals of the grammar that a token is."""
+    if token[0] == "'":
+        return {'text'}
+    if token.isdigit():
+        n = int(token)
+        return {'int'} | ({'width'} if n < 2 ** 32 else set()) | ({'eight'} if 1 <= n <= 8 else set())
+    if token.upper() in KEYWORDS:
+        return {token.upper()}
+    if token[0].isalpha() or token[0] == '_':
+        return {'name'}
+    return {token}
+
+
+KEYWORDS = set('''AND AS ASC AT AUTO BETWEEN BIGINT BLOCK_DICT BOOLEAN BY COMMIT COPY COUNT CREATE DELETE DELTAVAL DESC DO_TM_TASK DROP ENCODING
+EPOCH EXPLAIN FALSE FROM GET_AHM_EPOCH GET_CURRENT_EPOCH GET_LAST_GOOD_EPOCH GROUP HAVING IN INNER INSERT INT INTEGER INTO IS JOIN LATEST LIMIT
+MAKE_AHM_NOW MAX MIN NOT NULL ON OR ORDER PLAIN PROJECTION PURGE_TABLE REFRESH RLE ROLLBACK SELECT SET SET_AHM_EPOCH START_REFRESH SUM TABLE
+TRUE UPDATE VALUES VARCHAR WHERE'''.split())
+
+
+def nullable():
+    done = set()
+    while True:
+        more = {h for h, bodies in RULES.items() for b in bodies if all(x in done for x in b)} - done
+        if not more:
+            return done
+        done |= more
+
+
+NULLABLE = nullable()
+
+
+def place(tokens):
+    """0 where the tokens spell a statement, else one more than the length of their longest front that some statement begins with."""
+    chart = [set()]
+
+    def close(k):
+        work = list(chart[k])
+        while work:
+            head, body, dot, origin = work.pop()
+            new = []
+            if dot < len(body):
+                want = body[dot]
+                if want in RULES:
+                    new += [(want, tuple(b), 0, k) for b in RULES[want]]
+                    if want in NULLABLE:
+                        new.append((head, body, dot + 1, origin))
+            else:
+                new += [(h, b, d + 1, o) for (h, b, d, o) in chart[origin] if d < len(b) and b[d] == head]
+            for item in new:
+                if item not in chart[k]:
+                    chart[k].add(item)
+                    work.append(item)
+
+    chart[0] = {(START, tuple(b), 0, 0) for b in RULES[START]}
+    close(0)
+    for k, token in enumerate(tokens):
+        kinds = classes(token)
+        chart.append({(h, b, d + 1, o) for (h, b, d, o) in chart[k] if d < len(b) and b[d] in kinds})
+        if not chart[k + 1]:
+            return k + 1
+        close(k + 1)
+    whole = any(h == START and d == len(b) and o == 0 for (h, b, d, o) in chart[len(tokens)])
+    return 0 if whole else len(tokens) + 1
+
+
+def sentence(head, depth, rng):
+    """A random string of tokens of a production, with few levels below it."""
+    bodies = RULES[head]
+    if depth <= 0:
+        shortest = min(cost(b) for b in bodies)
+        bodies = [b for b in bodies if cost(b) == shortest]
+    out = []
+    for x in rng.choice(bodies):
+        if x in RULES:
+            out += sentence(x, depth - 1, rng)
+        elif x in SAMPLES:
+            out.append(rng.choice(SAMPLES[x]))
+        else:
+            out.append(x.lower() if rng.random() < 0.2 else x)
+    return out
+
+
+COSTS = {}
+
+
+def cost(body):
+    return sum(COSTS.get(x, 99) if x in RULES else 1 for x in body)
+
+
+def costs():
+    changed = True
+    while changed:
+        changed = False
+        for head, bodies in RULES.items():
+            best = min(cost(b) for b in bodies) + 0.01
+            if best < COSTS.get(head, 99):
+                COSTS[head] = best
+                changed = True
+
+
+def main():
+    costs()
+    rng = random.Random(11)
+    wrong = ['?', ')', ',', 'FROM', 'NULL', "'x'", '3', 'zz', 'REFRESH', '*', '\\step', 'AND']
+    cases = {}
+
+    def add(tokens):
+        cases.setdefault(' '.join(tokens), place(tokens))
+
+    # every production of every nonterminal stands in one of these
+    sentences = []
+    for body in RULES[START]:
+        for _ in range(6):
+            tokens = []
+            for x in body:
+                tokens += sentence(x, rng.choice([3, 7, 12]), rng) if x in RULES else [rng.choice(SAMPLES[x]) if x in SAMPLES else x]
+            sentences.append(tokens)
+    sentences.sort(key=len)
+    seen = set()
+    for tokens in sentences:
+        if len(tokens) > 60 or len(cases) > 1500:
+            continue
+        add(tokens)
+        for k in range(len(tokens) + 1):
+            front = ' '.join(tokens[:k])
+            if front in seen:
+                continue
+            seen.add(front)
+            add(tokens[:k])
+            add(tokens[:k] + [rng.choice(wrong)] + tokens[k:k + 2])
+    # parentheses: 32 may stand in one another
+    for n in (31, 32, 33, 40):
+        text = ['SELECT'] + ['('] * n + ['a'] + [')'] * n + ['FROM', 't']
+        cases[' '.join(text)] = 0 if n <= 32 else 34
+        text = ['SELECT', 'a', 'FROM', 't', 'WHERE', 'COUNT'] + ['('] * n
+        cases[' '.join(text)] = 6
+        text = ['SELECT', 'SUM', '('] + ['('] * n + ['1'] + [')'] * n + [')', 'FROM', 't']
+        cases[' '.join(text)] = 0 if n <= 32 else 36
+    for text, want in sorted(cases.items()):
+        print('%d %s' % (want, text))
+
+
+if __name__ == '__main__':
+    main()
