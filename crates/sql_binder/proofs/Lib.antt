@@ -2,3 +2,4 @@ pub mod FirstOnes
 pub mod Storing
 pub mod Splitting
 pub mod Lacking
+pub mod KnownKeys

@@ -12,6 +12,7 @@ mod inserts;
 mod keep;
 mod keys;
 mod literals;
+mod names;
 mod naming;
 mod narrow;
 mod outputs;
