@@ -3,3 +3,4 @@ pub mod Storing
 pub mod Splitting
 pub mod Lacking
 pub mod KnownKeys
+pub mod Numbered

@@ -62,7 +62,7 @@ fn bind_named(
     found: Found<'_>,
     outputs: &[Option<Name>],
 ) -> Result<BoundQuery, AllocError>
-    requires outputs { outputs.now ≡ output_names found.entry.columns.now query.now.items }
+    requires outputs { outputs.now ≡ output_names found.columns.now query.now.items }
     requires keys { All (λ k. unknown_key outputs.now k.key ≡ None) query.now.order }
     ensures { IfOk result (λ b. b ≡ bound_query found.entry.table found.entry.columns.now query.now) }
 {
