@@ -1,5 +1,5 @@
 -- Where no name of a query is unknown, each key of its ORDER BY names an output column.
-use Rattle.std.proofs.Common.{◌≡◌, refl, ℕ, List, [], ◌∷◌, ◌++◌, length, Option, None, Some, arith}
+use Rattle.std.proofs.Common.{◌≡◌, refl, List, [], ◌∷◌, ◌++◌, Option, None, Some, arith}
 use Rattle.std.specs.List.{All}
 use Rattle.std.proofs.lemmas.List.Elements.{All-cons}
 use Rattle.sql_tree.specs.declared.query.Query.{Query}

@@ -39,11 +39,7 @@ pub fn bind_query(
 }
 
 /// The bound tree of a query whose qualifiers are right, over its table.
-fn bind_over(
-    alloc: Global,
-    query: &Query,
-    found: Found<'_>,
-) -> Result<BoundQuery, BindFault>
+fn bind_over(alloc: Global, query: &Query, found: Found<'_>) -> Result<BoundQuery, BindFault>
     ensures accepted { OnOk result (refusal_over found.entry.columns.now query.now ≡ None) }
     ensures bound { IfOk result (λ b. b ≡ bound_query found.entry.table found.entry.columns.now query.now) }
     ensures refused { IfErr result (RefusesBy (refusal_over found.entry.columns.now query.now)) }
@@ -92,11 +88,7 @@ fn bind_source(alloc: Global, found: Found<'_>) -> Result<List<FromItem>, AllocE
     Ok(List::new(out))
 }
 
-fn bind_items(
-    alloc: Global,
-    columns: &[NewColumn],
-    items: &Items,
-) -> Result<List<Expr>, AllocError>
+fn bind_items(alloc: Global, columns: &[NewColumn], items: &Items) -> Result<List<Expr>, AllocError>
     ensures { IfOk result (λ l. l ≡ bound_items columns.now items.now) }
 {
     match items {
