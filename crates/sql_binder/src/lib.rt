@@ -20,6 +20,8 @@ mod queries;
 mod refs;
 mod scope;
 mod single;
+#[cfg(test)]
+mod tests;
 mod trees;
 mod types;
 
