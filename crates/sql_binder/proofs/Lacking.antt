@@ -1,5 +1,5 @@
 -- The first column that a table lacks, found by a search for it.
-use Rattle.std.proofs.Common.{◌≡◌, refl, sym, ap, ◌∙◌, cond, Bool, true, false, List, ℕ, [], ◌∷◌, ◌++◌, Option, None, Some}
+use Rattle.std.proofs.Common.{◌≡◌, refl, ap, ◌∙◌, cond, Bool, List, ℕ, [], ◌∷◌, ◌++◌, Option, None, Some}
 use Rattle.std.specs.Prelude.{find, option_map, is_none}
 use Rattle.std.specs.Option.{option_map_or}
 use Rattle.sql_tree.specs.declared.tree.ColRef.{ColRef}

@@ -2,3 +2,5 @@ pub mod FirstOnes
 pub mod Storing
 pub mod Splitting
 pub mod Lacking
+pub mod KnownKeys
+pub mod Numbered

@@ -2,12 +2,11 @@
 use Rattle.std.proofs.Common.{◌≡◌, refl, sym, ap, ap₂, ◌∙◌, subst, List, [], ◌∷◌, ◌++◌, map, Bool}
 use Rattle.std.specs.List.{flat_map}
 use Rattle.col_value.specs.declared.wide.Wide.{Wide}
-use Rattle.col_value.specs.declared.wide.Wide
 use Rattle.sql_tree.specs.declared.statement.NewColumn.{NewColumn}
 use Rattle.sql_tree.specs.declared.tree.Term.{Term}
 use Rattle.sql_tree.specs.declared.tree.Tree.{Tree}
 use Rattle.sql_tree.specs.declared.tree.Tree
-use Rattle.sql_tree.specs.declared.tree.Tree.TheOpen.{Tree-F, Term-F}
+use Rattle.sql_tree.specs.declared.tree.Tree.TheOpen.{Tree-F}
 use Rattle.sql_tree.specs.declared.tree.Tree.TheViews.{roll-Tree, out-Tree, roll-out-Tree, rolls-And as tree_and}
 use Rattle.sql_tree.specs.declared.tree.Tree.TheFolds.{map-Tree, fold-roll-Tree}
 use Rattle.sql_bound.specs.declared.expr.Expr.{Expr}

@@ -1,5 +1,5 @@
 -- What the code looks for among the columns that a statement names.
-use Rattle.std.specs.Prelude.{ℕ, Bool, List, find, is_none, Option}
+use Rattle.std.specs.Prelude.{Bool, List, is_none}
 use Rattle.sql_tree.specs.declared.tree.ColRef.{ColRef}
 use Rattle.sql_tree.specs.declared.tree.Term.{Term}
 use Rattle.sql_tree.specs.declared.tree.Tree.TheFolds.{fold-Term}

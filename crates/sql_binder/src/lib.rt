@@ -12,6 +12,7 @@ mod inserts;
 mod keep;
 mod keys;
 mod literals;
+mod names;
 mod naming;
 mod narrow;
 mod outputs;
@@ -19,6 +20,8 @@ mod queries;
 mod refs;
 mod scope;
 mod single;
+#[cfg(test)]
+mod tests;
 mod trees;
 mod types;
 
