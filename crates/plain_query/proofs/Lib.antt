@@ -1,5 +1,0 @@
-pub mod Distinct
-pub mod SameKeys
-pub mod Sequences
-pub mod Sizes
-pub mod NarrowLess
