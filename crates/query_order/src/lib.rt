@@ -10,3 +10,6 @@ mod printing;
 
 pub use laws::one_printed_list;
 pub use printing::order_rows;
+
+#[cfg(test)]
+mod tests;
