@@ -18,3 +18,6 @@ mod tuples;
 pub use fault::QueryFault;
 pub use laws::{bare_query_prints_all, null_joins_nothing, order_of_rows_is_free};
 pub use printing::printed;
+
+#[cfg(test)]
+mod tests;
