@@ -20,8 +20,6 @@ mod queries;
 mod refs;
 mod scope;
 mod single;
-#[cfg(test)]
-mod tests;
 mod trees;
 mod types;
 
