@@ -13,7 +13,7 @@ mod index;
 mod laws;
 mod values;
 
-pub use builder::build;
+pub use builder::{block_at, build};
 pub use index::{Entry, PosIndex, blocks_of};
 pub use laws::one_index;
 pub use values::{are_values, have_spellings};
