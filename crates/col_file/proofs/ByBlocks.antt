@@ -102,7 +102,7 @@ goes_on encoding body at k holds now vs new is lt same so_far given =
       there = λ m told some. some_file encoding s.entry (slice_get at.entries (k + 1)) block (get m body) (are.spelled m (same ∙ told));
       held = λ m told bytes there more has.
           let spelled : SpellsAs encoding block (piece s.entry (first_of (drop (suc k) at.entries)) bytes) =
-              subst (λ (n : Option Entry). SpellsAs encoding block (piece s.entry n bytes)) (sym next) (piece_spells encoding s.entry (slice_get at.entries (k + 1)) block (get m body) bytes there (are.spelled m (same ∙ told))) in
+          subst (λ (n : Option Entry). SpellsAs encoding block (piece s.entry n bytes)) (sym next) (piece_spells encoding s.entry (slice_get at.entries (k + 1)) block (get m body) bytes there (are.spelled m (same ∙ told))) in
           let behind : HasBlocks encoding at.rows bytes (drop (suc k) at.entries) more = subst (λ (n : ℕ). HasBlocks encoding at.rows bytes (drop n at.entries) more) up has in
           let here : HasBlocks encoding at.rows bytes (s.entry ∷ drop (suc k) at.entries) (block ++ more) = (block, more, are.values, spelled, behind, refl) in
           let whole = so_far.held m told bytes there (block ++ more) (subst (λ (es : List Entry). HasBlocks encoding at.rows bytes es (block ++ more)) (sym s.behind) here) in

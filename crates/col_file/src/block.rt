@@ -91,7 +91,7 @@ fn values_in(
 }
 
 /// The runs of the block that the bytes are; the name is blamed where they are none of this entry.
-#[tactic(auto, using(crate::proofs::Blocks::block_is, crate::proofs::Blocks::block_not))]
+#[tactic(auto, using(crate::proofs::Blocks::block_is, crate::proofs::Blocks::block_not, crate::proofs::Blocks::few_values))]
 fn runs_in(
     alloc: Global,
     bytes: &[u8],

@@ -13,6 +13,7 @@ use pos_index::PosIndex;
 use std::alloc::{AllocError, Global};
 
 /// The index of so many rows that all of the bytes are; the name is blamed where they are none.
+#[tactic(auto, using(crate::proofs::Found::other_rows, crate::proofs::Found::no_index))]
 fn index_in(alloc: Global, bytes: &[u8], name: u64, rows: u64) -> Result<PosIndex, StoreFault>
     ensures found { IfOk result (λ x. (x.rows ≡ rows) × IsIndex x × Fits x × (bytes.now ≡ index_spelling x)) }
     ensures blamed { IfErr result (Blames name (SpellsIndex rows bytes.now → ⊥)) }

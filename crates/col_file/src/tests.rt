@@ -78,8 +78,8 @@ const BODY: [u8; 24] = [
 ];
 
 const INDEX: [u8; 43] = [
-    0x81, 8, 0, 0, 1, 0, 0, 0, 0, 0, 0, 0, 5, 1, 0, 0, 0, 0, 0, 0, 0, 5, 0x80, 8, 13, 1, 0, 0, 0, 0,
-    0, 0, 0, 7, 1, 0, 0, 0, 0, 0, 0, 0, 7,
+    0x81, 8, 0, 0, 1, 0, 0, 0, 0, 0, 0, 0, 5, 1, 0, 0, 0, 0, 0, 0, 0, 5, 0x80, 8, 13, 1, 0, 0, 0,
+    0, 0, 0, 0, 7, 1, 0, 0, 0, 0, 0, 0, 0, 7,
 ];
 
 #[test]
@@ -153,11 +153,41 @@ fn damaged_columns(rt: HostRuntime) -> Result<(), Fail> {
     let cases: [(u64, &[u8], &[u8], Encoding, Option<StoreFault>); 7] = [
         (4, &PLAIN, &PLAIN_INDEX, Encoding::Plain, None),
         (4, &PLAIN, &PLAIN_INDEX, Encoding::Auto, None),
-        (4, &PLAIN, &PLAIN_INDEX, Encoding::Rle, Some(StoreFault::Damaged(4))),
-        (4, short, &PLAIN_INDEX, Encoding::Auto, Some(StoreFault::Damaged(4))),
-        (5, &PLAIN, &PLAIN_INDEX, Encoding::Auto, Some(StoreFault::Damaged(5))),
-        (4, &PLAIN, &INDEX, Encoding::Auto, Some(StoreFault::Damaged(8))),
-        (4, &PLAIN, &[2, 0, 0, 0], Encoding::Auto, Some(StoreFault::Damaged(8))),
+        (
+            4,
+            &PLAIN,
+            &PLAIN_INDEX,
+            Encoding::Rle,
+            Some(StoreFault::Damaged(4)),
+        ),
+        (
+            4,
+            short,
+            &PLAIN_INDEX,
+            Encoding::Auto,
+            Some(StoreFault::Damaged(4)),
+        ),
+        (
+            5,
+            &PLAIN,
+            &PLAIN_INDEX,
+            Encoding::Auto,
+            Some(StoreFault::Damaged(5)),
+        ),
+        (
+            4,
+            &PLAIN,
+            &INDEX,
+            Encoding::Auto,
+            Some(StoreFault::Damaged(8)),
+        ),
+        (
+            4,
+            &PLAIN,
+            &[2, 0, 0, 0],
+            Encoding::Auto,
+            Some(StoreFault::Damaged(8)),
+        ),
     ];
     for (body, bytes, index, encoding, wanted) in &cases {
         let fault = fault_of(alloc, *body, bytes, index, *encoding)?;

@@ -14,8 +14,8 @@ ghost use Rattle.ros_container.specs.Files.{body_of, index_of, IsFileOf};
 ghost use Rattle.ros_container.specs.Held.{HoldsContainer};
 ghost use Rattle.ros_container.specs.Rows.{column_values, epoch_values, stored_values, AreRows, AreWide, AreWithin};
 
-use crate::fitting::encoding_of;
 use crate::files::{body_of, index_of};
+use crate::fitting::encoding_of;
 use catalog_types::Projection;
 use col_disk::{Disk, DiskFault};
 use col_file::write_column;
