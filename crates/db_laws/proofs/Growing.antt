@@ -1,10 +1,11 @@
 -- Statements only add to a database that was opened.
 use Rattle.std.proofs.Common.{◌≡◌, ℕ, ◌+◌, ◌-◌, ◌≤◌, ◌<◌, ◌++◌, List, [], ◌∷◌, length, Bool, true, false, cond, map, refl, sym, ◌∙◌, ap, subst, append-nil, arith}
-use Rattle.std.specs.Prelude.{Option, Some, None, is_some, bytes_eq, nat_le}
+use Rattle.std.specs.Prelude.{Option, Some, None, option_map, is_some, bytes_eq, nat_le}
 use Rattle.std.specs.List.{All}
 use Rattle.std.specs.Option.{option_map_or}
 use Rattle.std.proofs.lemmas.List.{length-set, get_or-set_same}
 use Rattle.std.proofs.lemmas.List.Elements.{All-nil, All-cons, All-head, All-tail, All-weaker, filter-append}
+use Rattle.std.proofs.lemmas.Bool.{eqb-true}
 use Rattle.std.proofs.lemmas.Bool.Decides.{nat_tests}
 use Rattle.col_value.specs.declared.value.Value.{Value}
 use Rattle.col_value.specs.declared.row.Stamped.{Stamped}
@@ -12,10 +13,13 @@ use Rattle.col_value.specs.declared.row.Asked.{Asked}
 use Rattle.sql_tree.specs.declared.statement.NewColumn.{NewColumn}
 use Rattle.sql_tree.specs.declared.statement.Statement.{Statement}
 use Rattle.sql_tree.specs.declared.refusal.Refusal.{Refusal}
+use Rattle.sql_binder.specs.Inserts.{inserted_rows}
+use Rattle.sql_binder.specs.Names.{first_of}
 use Rattle.db_model.specs.Database.{Table, Database, table_named, is_taken, put_table, mark_all}
 use Rattle.db_model.specs.State.{State, Changes, opened_state, own_changes, with_changes, with_rows, joined, has_changes, inserted_at, commit_into, change_named, commit_changes, committed}
-use Rattle.db_model.specs.Forms.{is_in_form}
-use Rattle.db_model.specs.Step.{Step, Effect, refusal_of, served_refusal, new_table, with_table, after, inserted_rows}
+use Rattle.db_model.specs.Forms.{is_built}
+use Rattle.db_model.specs.Refusing.{refusal_of, served_refusal, create_refusal, create_limit, taken_name, if_taken}
+use Rattle.db_model.specs.Step.{Step, Decides, Effect, new_table, with_table, after}
 use Rattle.db_model.specs.Run.{RunTexts}
 use Rattle.db_model.specs.Growth.{early, rows_named, IsOpened, HasGrown}
 use Rattle.db_laws.proofs.Named.{both_hold, denied, free_name, unnamed, put_length, put_all, put_named, change_length, change_all, change_there}
@@ -125,44 +129,67 @@ closed d state grown =
       sessions = grown.sessions;
     }
 
+-- the same session is current
+current_again : (d : Database) (state : State) (n : ℕ) → state.current ≡ n → HasGrown d state → HasGrown d (record state { current = n })
+current_again d state n same grown = subst (λ (m : ℕ). HasGrown d (record state { current = m })) same grown
+
 closed_or_not : (b : Bool) (d : Database) (state : State) → HasGrown d state
     → HasGrown d (with_changes [] (cond b (record state { database = committed (own_changes state) state.database }) state))
 closed_or_not true d state grown = changed d (record state { database = committed (own_changes state) state.database }) [] (All-nil IsBare) (closed d state grown)
 closed_or_not false d state grown = changed d state [] (All-nil IsBare) grown
 
-grown_after : (d : Database) (old : State) (s : Statement) → is_in_form old s ≡ true → HasGrown d old → HasGrown d (after old s)
-grown_after d old (Statement.CreateTable name columns) form grown =
-    created d old name columns (denied _ (both_hold _ _ (both_hold _ _ (both_hold _ _ form).1).1).0) grown
-grown_after d old (Statement.CreateProjection projection) form grown = grown
-grown_after d old (Statement.DropTable name) form grown = grown
-grown_after d old (Statement.DropProjection name) form grown = grown
-grown_after d old (Statement.Insert i) form grown =
-    changed d old (with_rows i.table (inserted_rows i.rows) (own_changes old)) (rows_bare i.table (inserted_rows i.rows) (own_changes old) grown.bare) grown
-grown_after d old (Statement.Delete i) form grown = grown
-grown_after d old (Statement.Update i) form grown = grown
-grown_after d old (Statement.Copy name file) form grown = grown
-grown_after d old Statement.Commit form grown = closed_or_not (has_changes (own_changes old)) d old grown
-grown_after d old Statement.Rollback form grown = grown
-grown_after d old (Statement.Select at query) form grown = grown
-grown_after d old (Statement.Explain query) form grown = grown
-grown_after d old (Statement.Call function) form grown = grown
-grown_after d old (Statement.Session n) form grown = grown
-grown_after d old Statement.Step form grown = grown
+first_none : {X : Type 0} (a b : Option X) → first_of a b ≡ None → a ≡ None
+first_none None b is = refl
+first_none (Some x) b is = is
 
-unrefused : (b : Bool) (served : Option Refusal) → None ≡ cond b served (Some (Refusal.Syntax 1)) → b ≡ true
-unrefused true served is = refl
-unrefused false served is = cc
+unmapped : (o : Option (List ℕ)) → option_map Refusal.Exists o ≡ None → o ≡ None
+unmapped None is = refl
+unmapped (Some x) is = cc
 
-grown_effect : (d : Database) (old : State) (read : Option Statement) (why : Option Refusal) (printed : List ℕ) (new : State)
-    → why ≡ refusal_of old read → Effect old read why printed new → HasGrown d old → HasGrown d new
-grown_effect d old read (Some refusal) printed new decided (text, is) grown = subst (λ (state : State). HasGrown d state) (sym is) grown
-grown_effect d old (Some s) None printed new decided (text, is) grown =
-    subst (λ (state : State). HasGrown d state) (sym is) (grown_after d old s (unrefused (is_in_form old s) (served_refusal old s) decided) grown)
-grown_effect d old None None printed new decided effect grown = absurd effect
+untaken : (b : Bool) (name : List ℕ) → cond b (Some name) None ≡ None → b ≡ false
+untaken true name is = cc
+untaken false name is = refl
+
+-- the name of a new table that isn't refused is taken by none
+created_free : (tables : List Table) (name : List ℕ) (columns : List NewColumn) → create_refusal tables name columns ≡ None → is_taken name tables ≡ false
+created_free tables name columns accepted =
+    let free : taken_name tables name columns ≡ None =
+    unmapped (taken_name tables name columns) (first_none (option_map Refusal.Exists (taken_name tables name columns)) (create_limit tables name columns) accepted) in
+    untaken (is_taken name tables) name (first_none (if_taken tables name) _ free)
+
+grown_after : (d : Database) (old : State) (s : Statement) → is_built s ≡ true → served_refusal old s ≡ None → HasGrown d old → HasGrown d (after old s)
+grown_after d old (Statement.CreateTable name columns) built accepted grown = created d old name columns (created_free old.database.tables name columns accepted) grown
+grown_after d old (Statement.CreateProjection projection) built accepted grown = grown
+grown_after d old (Statement.DropTable name) built accepted grown = grown
+grown_after d old (Statement.DropProjection name) built accepted grown = grown
+grown_after d old (Statement.Insert i) built accepted grown =
+    changed d old (with_rows i.table (inserted_rows i) (own_changes old)) (rows_bare i.table (inserted_rows i) (own_changes old) grown.bare) grown
+grown_after d old (Statement.Delete i) built accepted grown = grown
+grown_after d old (Statement.Update i) built accepted grown = grown
+grown_after d old (Statement.Copy name file) built accepted grown = grown
+grown_after d old Statement.Commit built accepted grown = closed_or_not (has_changes (own_changes old)) d old grown
+grown_after d old Statement.Rollback built accepted grown = changed d old [] (All-nil IsBare) grown
+grown_after d old (Statement.Select at query) built accepted grown = grown
+grown_after d old (Statement.Explain query) built accepted grown = grown
+grown_after d old (Statement.Call function) built accepted grown = grown
+grown_after d old (Statement.Session n) built accepted grown = current_again d old n (grown.current ∙ sym (eqb-true n 1 built)) grown
+grown_after d old Statement.Step built accepted grown = grown
+
+served : (b : Bool) (why : Option Refusal) → None ≡ cond b why (Some Refusal.NotBuilt) → (b ≡ true) × (why ≡ None)
+served true why is = (refl, sym is)
+served false why is = cc
+
+grown_effect : (d : Database) (old : State) (text : List ℕ) (read : Option Statement) (why : Option Refusal) (printed : List ℕ) (new : State)
+    → Decides old text read why → Effect old read why printed new → HasGrown d old → HasGrown d new
+grown_effect d old text read (Some refusal) printed new decided (told, is) grown = subst (λ (state : State). HasGrown d state) (sym is) grown
+grown_effect d old text (Some s) None printed new decided (told, is) grown =
+    let (built, accepted) = served (is_built s) (served_refusal old s) decided in
+    subst (λ (state : State). HasGrown d state) (sym is) (grown_after d old s built accepted grown)
+grown_effect d old text None None printed new decided effect grown = absurd effect
 
 -- a statement
 pub grown_step : (d : Database) (old : State) (text printed : List ℕ) (why : Option Refusal) (new : State) → Step old text printed why new → HasGrown d old → HasGrown d new
-grown_step d old text printed why new step grown = grown_effect d old step.read why printed new step.decided step.effect grown
+grown_step d old text printed why new step grown = grown_effect d old text step.read why printed new step.decided step.effect grown
 
 -- statements one after the other
 pub grown_texts : (d : Database) (texts : List (List ℕ)) (old : State) (printed : List ℕ) (refused : Bool) (new : State)
