@@ -1,0 +1,5 @@
+mod Firsts
+mod Finding
+mod Binding
+mod Joining
+mod Steps

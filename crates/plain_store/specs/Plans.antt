@@ -59,15 +59,16 @@ is_late r = false
 abbrev pub in_order : Refusal → Option Refusal → Refusal
 in_order r limit = if is_late r then option_map_or (λ l. l) limit r else r
 
+-- why rows can't join those that wait, over the columns of their table and the limit on rows
+abbrev pub limited_refusal : Option (List NewColumn) → Option Refusal → Insert → Option Refusal
+limited_refusal columns limit i = first_of (insert_refusal columns i) (first_of limit (option_map_or (λ cs. stored_refusal cs i) columns None))
+
 -- the refusals of a state, over what they look at
 abbrev pub insert_refusal_over : List Table → List Changes → Insert → Option Refusal
-insert_refusal_over tables changes i =
-    first_of (insert_refusal (columns_named i.table tables) i)
-    (first_of (rows_limit (length (pending_rows i.table changes) + length i.rows))
-    (option_map_or (λ columns. stored_refusal columns i) (columns_named i.table tables) None))
+insert_refusal_over tables changes i = limited_refusal (columns_named i.table tables) (rows_limit (length (pending_rows i.table changes) + length i.rows)) i
 
-abbrev pub select_refusal_over : List Table → ℕ → At → Query → Option Refusal
-select_refusal_over tables last at q = first_of (query_refusal (columns_named (source_table q) tables) q) (epoch_refusal 0 last at)
+abbrev pub select_refusal_over : List Table → ℕ → ℕ → At → Query → Option Refusal
+select_refusal_over tables mark last at q = first_of (query_refusal (columns_named (source_table q) tables) q) (epoch_refusal mark last at)
 
 abbrev pub commit_refusal_over : List Changes → ℕ → Option Refusal
 commit_refusal_over changes last = refused_where (has_changes changes && nat_le 9223372036854775807 last) Refusal.EpochsSpent

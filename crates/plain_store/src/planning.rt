@@ -10,7 +10,7 @@ ghost use Rattle.db_model.specs.Refusing as rule;
 ghost use Rattle.db_model.specs.State.{pending_rows};
 ghost use Rattle.plain_store.specs.declared.planning.Plan.{Plan};
 ghost use Rattle.plain_tables.specs.Views.{table_of, changes_of};
-ghost use Rattle.plain_store.specs.Plans.{IsPlanned, IsPlanOf, IsBoundIn, found_in, is_late, in_order, insert_refusal_over, select_refusal_over, commit_refusal_over};
+ghost use Rattle.plain_store.specs.Plans.{IsPlanned, IsPlanOf, IsBoundIn, found_in, is_late, in_order, limited_refusal, insert_refusal_over, select_refusal_over, commit_refusal_over};
 
 use crate::store::PlainStore;
 use col_value::{List, Name, Row};
@@ -80,34 +80,40 @@ fn are_too_many(waiting: usize, more: usize) -> Option<Refusal>
     }
 }
 
-/// Why an epoch can't be read.
-fn epoch_refusal(at: At, last: u64) -> Option<Refusal>
-    ensures { result ≡ rule.epoch_refusal 0 last at }
+/// Why an epoch can't be read: it lies before the ancient history mark, or in the future.
+fn epoch_refusal(mark: u64, last: u64, at: At) -> Option<Refusal>
+    ensures { result ≡ rule.epoch_refusal mark last at }
 {
     match at {
         At::View => None,
         At::Latest => None,
         At::Epoch(epoch) => {
-            if epoch > u128::from(last) {
-                Some(Refusal::EpochInFuture(epoch, last))
-            } else {
-                None
+            if epoch < u128::from(mark) {
+                return Some(Refusal::EpochTooOld(epoch, mark));
             }
+            if epoch > u128::from(last) {
+                return Some(Refusal::EpochInFuture(epoch, last));
+            }
+            None
         }
     }
 }
 
 /// A table that a statement names, as the binder takes it.
 fn found_in<'a>(tables: &'a [Table], name: &[u8]) -> Option<Found<'a>>
-    ensures { option_map (λ f. (f.table, f.columns.now)) result.exit ≡ found_in name.now (map table_of tables.now) }
+    ensures found { option_map (λ f. (f.table, f.columns.now)) result ≡ found_in name.now (map table_of tables.now) }
+    ensures columns { option_map (λ f. f.columns.now) result ≡ form.columns_named name.now (map table_of tables.now) }
 {
-    match (table_place(tables, name), find_table(tables, name)) {
-        (Some(place), Some(table)) => Some(Found {
-            table: place,
-            columns: table.columns.as_slice(),
-        }),
-        _ => None,
-    }
+    let Some(place) = table_place(tables, name) else {
+        return None;
+    };
+    let Some(table) = find_table(tables, name) else {
+        return None;
+    };
+    Some(Found {
+        table: place,
+        columns: table.columns.as_slice(),
+    })
 }
 
 /// Whether a refusal is one of what the rows hold, which is looked at behind the limit on rows.
@@ -151,6 +157,26 @@ fn plan_create(
     }
 }
 
+/// The rows of an INSERT into the table that was found; the limit on rows comes before what the rows hold.
+fn bound_rows(
+    alloc: Global,
+    insert: &Insert,
+    found: Option<Found<'_>>,
+    limit: Option<Refusal>,
+) -> Result<Vec<Row>, BindFault>
+    ensures planned { IfOk result (λ v. (v.items ≡ inserted_rows insert.now) × (limited_refusal (option_map (λ f. f.columns.now) found.entry) limit insert.now ≡ None)) }
+    ensures refused { IfErr result (RefusesBy (limited_refusal (option_map (λ f. f.columns.now) found.entry) limit insert.now)) }
+{
+    match bind_insert(alloc, insert, found) {
+        Ok(rows) => match limit {
+            Some(limit) => Err(BindFault::Refused(limit)),
+            None => Ok(rows),
+        },
+        Err(BindFault::Refused(refusal)) => Err(BindFault::Refused(in_order(refusal, limit))),
+        Err(BindFault::Memory) => Err(BindFault::Memory),
+    }
+}
+
 /// The rows of an INSERT, or why they can't join those that wait.
 fn plan_insert(
     alloc: Global,
@@ -164,30 +190,24 @@ fn plan_insert(
     let name = insert.table.as_slice();
     let waiting = waiting_rows(pending, name).len();
     let limit = are_too_many(waiting, insert.rows.as_slice().len());
-    match bind_insert(alloc, insert, found_in(tables, name)) {
-        Ok(rows) => match limit {
-            Some(limit) => Err(BindFault::Refused(limit)),
-            None => Ok(rows),
-        },
-        Err(BindFault::Refused(refusal)) => Err(BindFault::Refused(in_order(refusal, limit))),
-        Err(BindFault::Memory) => Err(BindFault::Memory),
-    }
+    bound_rows(alloc, insert, found_in(tables, name), limit)
 }
 
 /// The bound tree of a query over one table, or why it is refused.
 fn plan_select(
     alloc: Global,
     tables: &[Table],
+    mark: u64,
     last: u64,
     at: At,
     query: &Query,
 ) -> Result<BoundQuery, BindFault>
     requires { is_single query.now ≡ true }
-    ensures planned { IfOk result (λ b. IsBoundIn (map table_of tables.now) query.now b × (select_refusal_over (map table_of tables.now) last at query.now ≡ None)) }
-    ensures refused { IfErr result (RefusesBy (select_refusal_over (map table_of tables.now) last at query.now)) }
+    ensures planned { IfOk result (λ b. IsBoundIn (map table_of tables.now) query.now b × (select_refusal_over (map table_of tables.now) mark last at query.now ≡ None)) }
+    ensures refused { IfErr result (RefusesBy (select_refusal_over (map table_of tables.now) mark last at query.now)) }
 {
     match bind_query(alloc, query, found_in(tables, source_table(query))) {
-        Ok(bound) => match epoch_refusal(at, last) {
+        Ok(bound) => match epoch_refusal(mark, last, at) {
             Some(refusal) => Err(BindFault::Refused(refusal)),
             None => Ok(bound),
         },
@@ -229,7 +249,7 @@ impl PlainStore {
             },
             Statement::Rollback => Ok(Plan::Rollback),
             Statement::Select(at, query) => {
-                match plan_select(alloc, self.tables(), self.last(), *at, query) {
+                match plan_select(alloc, self.tables(), self.mark(), self.last(), *at, query) {
                     Ok(bound) => Ok(Plan::Select(bound)),
                     Err(fault) => Err(fault),
                 }

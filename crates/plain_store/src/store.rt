@@ -1,5 +1,5 @@
 ghost use Rattle.std.specs.Prelude.{◌≡◌, map, IfOk, OnOk, [], ◌∷◌};
-ghost use Rattle.db_model.specs.State.{empty_state, opened_state};
+ghost use Rattle.db_model.specs.State.{empty_state, opened_state, own_changes};
 ghost use Rattle.db_model.specs.Step.{Prints, after};
 ghost use Rattle.db_model.specs.Answers.{listing_text, IsAnswer};
 ghost use Rattle.plain_store.specs.declared.planning.Plan.{Plan};
@@ -81,9 +81,17 @@ impl PlainStore {
         self.last
     }
 
+    /// The ancient history mark, which no statement moves yet.
+    pub(crate) fn mark(&self) -> u64
+        ensures { result ≡ self.now.database.ahm }
+    {
+        let _ = &self.last;
+        0
+    }
+
     /// The rows that wait, by table.
     pub(crate) fn pending(&self) -> &[Pending]
-        ensures { self.now.sessions ≡ map changes_of result.now ∷ [] ∷ [] ∷ [] ∷ [] ∷ [] ∷ [] ∷ [] ∷ [] }
+        ensures { own_changes self.now ≡ map changes_of result.now }
     {
         self.pending.as_slice()
     }
