@@ -1,19 +1,18 @@
 //! What a new table is made of, and why it is refused.
 
-ghost use Rattle.std.specs.Prelude.{◌≡◌, ◌≤◌, ℕ, map, take, length, IfOk};
-ghost use Rattle.std.specs.List.{list_any};
-ghost use Rattle.std.specs.Str.{bytes_eq};
+ghost use Rattle.std.specs.Prelude.{◌≡◌, ◌≤◌, ℕ, [], map, take, length, IfOk};
 ghost use Rattle.std.specs.Option.{option_copied};
 ghost use Rattle.col_value.specs.declared.kinds.Encoding.{Encoding as Coding};
 ghost use Rattle.db_model.specs.Database.{super_name};
 ghost use Rattle.db_model.specs.Refusing as rule;
 ghost use Rattle.plain_tables.specs.Views.{table_of};
 
-use crate::lists::{is_name_taken, same};
+use crate::lists::is_name_taken;
 use crate::table::Table;
 use col_value::{ColType, Encoding, List, Name};
 use sql_tree::{NewColumn, Refusal, Which};
 use std::alloc::{AllocError, Global};
+use std::collections::BTreeSet;
 
 /// What the projection of all columns of a table is called.
 pub fn projection_name(alloc: Global, name: &Name) -> Result<Name, AllocError>
@@ -50,28 +49,18 @@ pub fn auto_encodings(alloc: Global, columns: &[NewColumn]) -> Result<List<Encod
     Ok(List::new(encodings))
 }
 
-/// Whether one of the columns has this name.
-fn has_name(columns: &[NewColumn], name: &Name) -> bool
-    ensures { result ≡ list_any (λ n. bytes_eq n name.now) (map (λ c. c.name) columns.now) }
-{
-    for column in columns {
-        if same(column.name.as_slice(), name.as_slice()) {
-            return true;
-        }
-    }
-    false
-}
-
 /// The first column whose name stands before it.
-fn repeated(columns: &[NewColumn]) -> Option<&Name>
-    ensures { option_copied result ≡ rule.repeated_behind [] columns.now }
+fn repeated<'a>(alloc: Global, columns: &'a [NewColumn]) -> Result<Option<&'a Name>, AllocError>
+    ensures { IfOk result (λ o. option_copied o ≡ rule.repeated_behind [] columns.now) }
 {
-    for (place, column) in columns.iter().enumerate() {
-        if has_name(columns.split_at(place).0, &column.name) {
-            return Some(&column.name);
+    let mut seen: BTreeSet<Name> = BTreeSet::new(alloc);
+    for column in columns {
+        let is_new = seen.insert(column.name.copy(alloc)?)?;
+        if !is_new {
+            return Ok(Some(&column.name));
         }
     }
-    None
+    Ok(None)
 }
 
 /// The first name of a new table that is taken or stands twice.
@@ -90,7 +79,7 @@ fn taken_name(
     if is_name_taken(tables, projection.as_slice()) {
         return Ok(Some(projection));
     }
-    match repeated(columns) {
+    match repeated(alloc, columns)? {
         Some(column) => Ok(Some(column.copy(alloc)?)),
         None => Ok(None),
     }

@@ -35,7 +35,9 @@ pub fn find_table<'a>(tables: &'a [Table], name: &[u8]) -> Option<&'a Table>
 pub fn table_place(tables: &[Table], name: &[u8]) -> Option<usize>
     ensures { result ≡ table_place name.now (map table_of tables.now) }
 {
-    tables.iter().position(|table| same(table.name.as_slice(), name))
+    tables
+        .iter()
+        .position(|table| same(table.name.as_slice(), name))
 }
 
 /// Where a table stands by its name: before the first table of a greater one.
