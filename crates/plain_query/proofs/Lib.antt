@@ -3,3 +3,4 @@ pub mod SameKeys
 pub mod Sequences
 pub mod Sizes
 pub mod NarrowLess
+pub mod AtMost

@@ -1,7 +1,7 @@
 -- One more turn of a loop that puts lists behind each other.
 use Rattle.std.proofs.Common.{◌≡◌, ℕ, suc, ◌+◌, ◌<◌, ◌++◌, Bool, true, false, cond, List, [], ◌∷◌, length, get_or, take, map, filter, ap, ap₂, ◌∙◌, sym, subst, append_assoc, arith}
-use Rattle.std.proofs.lemmas.List.{append-nil, take_more, map_more, flat_map_more}
-use Rattle.std.proofs.lemmas.List.Elements.{filter-append}
+use Rattle.std.proofs.lemmas.List.{append-nil, take_more, map-append, map_more, flat_map_more}
+use Rattle.std.proofs.lemmas.List.Elements.{filter-append, All-push}
 use Rattle.std.specs.List.{All, flat_map}
 
 pub flat_next : {X A : Type 0} (f : X → List A) (xs : List X) (i : ℕ) (x : X) (out next : List A) → i < length xs → x ≡ get_or xs i x → out ≡ flat_map f (take i xs) → next ≡ out ++ f x → next ≡ flat_map f (take (i + 1) xs)
@@ -36,3 +36,13 @@ value_passed_on {X} {Y} f p xs i x y out next h is y_is next_is yes_test e =
     ∙ ap (λ (b : Bool). filter p (map f (take i xs)) ++ cond b (f x ∷ []) []) (sym yes_test)
     ∙ sym (filter-append p (map f (take i xs)) (f x ∷ []))
     ∙ ap (λ (z : X). filter p (map f (take i xs) ++ f z ∷ [])) is ∙ ap (filter p) (sym (map_more f xs i x h))
+
+-- one more element of which something holds
+pub all_next : {X : Type 0} (P : X → Type 0) (xs : List X) (i : ℕ) (x : X) → i < length xs → x ≡ get_or xs i x → All P (take i xs) → P x → All P (take (i + 1) xs)
+all_next {X} P xs i x h is p here =
+    subst (All P) (sym (take_more xs i x h)) (All-push P (take i xs) (get_or xs i x) p (subst P is here))
+
+-- one more turn of a loop whose results look like values
+pub map_next : {X Y Z : Type 0} (view : Y → Z) (f : X → Z) (xs : List X) (i : ℕ) (x : X) (y : Y) (out next : List Y) → i < length xs → x ≡ get_or xs i x → view y ≡ f x → next ≡ out ++ y ∷ [] → map view out ≡ map f (take i xs) → map view next ≡ map f (take (i + 1) xs)
+map_next {X} {Y} {Z} view f xs i x y out next h is same e m =
+    ap (map view) e ∙ map-append view out (y ∷ []) ∙ ap₂ (λ (l : List Z) (z : Z). l ++ z ∷ []) m (same ∙ ap f is) ∙ sym (map_more f xs i x h)

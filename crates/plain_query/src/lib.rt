@@ -9,6 +9,7 @@ mod aggregates;
 mod fault;
 mod groups;
 mod keeping;
+mod scopes;
 mod tuples;
 
 pub use fault::QueryFault;
