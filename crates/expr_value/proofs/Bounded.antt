@@ -1,5 +1,5 @@
 -- No value of an expression is greater than its bound.
-use Rattle.std.proofs.Common.{◌≡◌, ℕ, ◌≤◌, ◌<◌, ℤ, pos, negsuc, neg_ℤ, Bool, true, false, not, if◌then◌else◌, List, length, get_or, map, fold, Option, Some, option_map, subst, arith, refl, sym, ap, ap₂, ◌∙◌, inl, inr}
+use Rattle.std.proofs.Common.{◌≡◌, ℕ, ◌≤◌, pos, negsuc, Bool, true, false, not, if◌then◌else◌, List, length, get_or, map, fold, Some, option_map, subst, arith, ap, inl, inr}
 use Rattle.std.specs.List.{All}
 use Rattle.std.proofs.lemmas.Bool.{cases_lt}
 use Rattle.std.proofs.lemmas.Int.{ints}
@@ -15,11 +15,11 @@ use Rattle.sql_bound.specs.declared.expr.Expr.{Expr}
 use Rattle.sql_bound.specs.declared.expr.BoundTerm.{BoundTerm}
 use Rattle.sql_bound.specs.declared.expr.Expr.TheViews.{roll-Expr, roll-BoundTerm}
 use Rattle.sql_bound.specs.declared.expr.Expr.TheOpen.{Expr-F, BoundTerm-F}
-use Rattle.sql_bound.specs.declared.expr.Expr.TheFolds.{map-Expr, map-BoundTerm, fold-Expr, fold-BoundTerm, fold-roll-Expr, fold-roll-BoundTerm, ind-Expr, ind-BoundTerm}
-use Rattle.sql_bound.specs.Bounds.{magnitude, bound_of_value, column_bound, bound_step, term_bound, bound_of}
+use Rattle.sql_bound.specs.declared.expr.Expr.TheFolds.{map-Expr, map-BoundTerm, fold-roll-Expr, fold-roll-BoundTerm, ind-Expr, ind-BoundTerm}
+use Rattle.sql_bound.specs.Bounds.{bound_of_value, column_bound, bound_step, term_bound, bound_of}
 use Rattle.sql_bound.specs.Values.{Scope, value_step, term_step, value_of, negated, truth_in, both_hold, one_holds, are_kin, holds}
 use Rattle.expr_value.specs.Terms.{term_value, bound_of_term}
-use Rattle.expr_value.proofs.Magnitudes.{bound_of_number, bound_of_truth, bound_of_compared, bound_of_negated, bound_of_each, bound_of_every}
+use Rattle.expr_value.proofs.Magnitudes.{bound_of_truth, bound_of_compared, bound_of_negated, bound_of_each, bound_of_every}
 
 value_within : (v : Value) → IsValue v → bound_of_value (widened v) ≤ column_bound
 value_within value.Null p = omega arith

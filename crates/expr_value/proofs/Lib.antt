@@ -1,2 +1,5 @@
 pub mod Bounded
 pub mod Magnitudes
+pub mod Narrow
+pub mod Steps
+pub mod Settled

@@ -1,12 +1,12 @@
 -- Magnitudes of sums and products, and of what the operators make.
-use Rattle.std.proofs.Common.{◌≡◌, ℕ, ◌+◌, ◌*◌, ◌≤◌, ℤ, pos, negsuc, neg_ℤ, ◌+ℤ◌, ◌*ℤ◌, ◌≤ℤ◌, Bool, true, false, List, [], ◌∷◌, length, get_or, map, fold, Option, Some, None, option_map, cond, unsigned_abs, arith, refl, sym, ap, ap₂, ◌∙◌}
+use Rattle.std.proofs.Common.{◌≡◌, ℕ, ◌+◌, ◌*◌, ◌≤◌, ℤ, pos, negsuc, neg_ℤ, ◌+ℤ◌, ◌*ℤ◌, ◌≤ℤ◌, Bool, true, false, List, [], ◌∷◌, map, fold, Option, Some, None, cond, unsigned_abs, arith, refl, sym, ap₂, ◌∙◌}
 use Rattle.std.proofs.lemmas.Int.{ints, unsigned_abs-mul}
 use Rattle.std.proofs.lemmas.Simd.{map-map}
 use Rattle.std.proofs.Math.Nat.{mul-le-mul}
 use Rattle.col_value.specs.declared.wide.Wide.{Wide}
 use Rattle.col_value.specs.declared.wide.Wide.TheVariants as wide
 use Rattle.sql_bound.specs.Bounds.{magnitude, bound_of_value, total, product}
-use Rattle.sql_bound.specs.Values.{number_in, truth_in, number, truth, negated, denied, of_both, sum_of, product_of, both_hold, one_holds, compared, holds, are_kin}
+use Rattle.sql_bound.specs.Values.{number_in, number, truth, negated, of_both, sum_of, product_of}
 
 abbrev pub size : Option ℤ → ℕ
 size None = 0
@@ -28,7 +28,7 @@ magnitude_sum : (a b : ℤ) → magnitude (a +ℤ b) ≤ magnitude a + magnitude
 magnitude_sum a b =
     between (a +ℤ b) (magnitude a + magnitude b) (omega (arith, ints, above a, above b)) (omega (arith, ints, below a, below b))
 
-absolute : (z : ℤ) → magnitude z ≡ unsigned_abs z
+pub absolute : (z : ℤ) → magnitude z ≡ unsigned_abs z
 absolute (pos n) = refl
 absolute (negsuc n) = omega arith
 
@@ -91,11 +91,11 @@ product_within v b h acc m p [] = p
 product_within v b h acc m p (x ∷ xs) =
     product_within v b h (of_both ◌*ℤ◌ acc (number_in (v x))) (m * b x) (step_within acc m p (v x) (b x) (h x)) xs
 
-bound_of_sum : {X : Type 0} (v : X → Wide) (b : X → ℕ) → ((x : X) → bound_of_value (v x) ≤ b x) → (xs : List X) → bound_of_value (sum_of (map v xs)) ≤ total (map b xs)
+pub bound_of_sum : {X : Type 0} (v : X → Wide) (b : X → ℕ) → ((x : X) → bound_of_value (v x) ≤ b x) → (xs : List X) → bound_of_value (sum_of (map v xs)) ≤ total (map b xs)
 bound_of_sum v b h xs =
     omega (arith, bound_of_number (fold (of_both ◌+ℤ◌) (Some (pos 0)) (map number_in (map v xs))), sum_within v b h (Some (pos 0)) 0 (omega arith) xs)
 
-bound_of_product : {X : Type 0} (v : X → Wide) (b : X → ℕ) → ((x : X) → bound_of_value (v x) ≤ b x) → (xs : List X) → bound_of_value (product_of (map v xs)) ≤ product (map b xs)
+pub bound_of_product : {X : Type 0} (v : X → Wide) (b : X → ℕ) → ((x : X) → bound_of_value (v x) ≤ b x) → (xs : List X) → bound_of_value (product_of (map v xs)) ≤ product (map b xs)
 bound_of_product v b h xs =
     omega (arith, bound_of_number (fold (of_both ◌*ℤ◌) (Some (pos 1)) (map number_in (map v xs))), product_within v b h (Some (pos 1)) 1 (omega arith) xs)
 

@@ -1,5 +1,6 @@
 -- Parts of a sum, and what is asked of sums and products.
-use Rattle.std.specs.Prelude.{ℕ, ℤ, pos, ◌+ℤ◌, ◌*ℤ◌, ◌&&◌, nat_le, Bool, true, false, List, map, fold, Option, Some}
+use Rattle.std.specs.Prelude.{ℕ, ℤ, pos, ◌+ℤ◌, ◌*ℤ◌, ◌&&◌, nat_le, Bool, true, false, List, map, fold, Option, Some, option_map}
+use Rattle.std.specs.Int.{int_wrap, w128}
 use Rattle.col_value.specs.declared.wide.Wide.{Wide}
 use Rattle.sql_bound.specs.declared.expr.BoundTerm.{BoundTerm}
 use Rattle.sql_bound.specs.declared.expr.Expr.TheFolds.{fold-BoundTerm}
@@ -37,3 +38,7 @@ all_hold ws = fold both_hold (Some true) (map truth_in ws)
 
 abbrev pub some_hold : List Wide → Option Bool
 some_hold ws = fold one_holds (Some false) (map truth_in ws)
+
+-- a number as it is left in 128 bits
+abbrev pub wrapped : Option ℤ → Option ℤ
+wrapped o = option_map (int_wrap w128) o

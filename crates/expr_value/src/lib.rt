@@ -5,10 +5,14 @@
 //! conditions, and `items_of` makes an output row.
 #![tactic(auto)]
 
+mod laws;
+mod rows;
 mod sight;
 mod value;
 mod worth;
 
+pub use laws::{null_joins_nothing, one_part_settles, value_bounded};
+pub use rows::{are_true, is_true, items_at, items_of};
 pub use sight::Sight;
 pub use value::value_of;
 pub use worth::Worth;

@@ -1,9 +1,9 @@
-ghost use Rattle.std.specs.Prelude.{◌≡◌, ◌↔◌, Some, IsTrue, true, map};
+ghost use Rattle.std.specs.Prelude.{◌≡◌, ◌≤◌, ◌+ℤ◌, ◌*ℤ◌, ◌↔◌, Some, IsTrue, true, map};
 ghost use Rattle.std.specs.List.{All};
 ghost use Rattle.col_value.specs.Order.{IsValue};
-ghost use Rattle.sql_bound.specs.Bounds.{bound_of_value, measure, all_narrow, is_narrow};
-ghost use Rattle.sql_bound.specs.Values.{both_hold, one_holds, value_of};
-ghost use Rattle.expr_value.specs.Terms.{term_value, measure_of_term, is_narrow_sum, is_narrow_product, added, multiplied, all_hold, some_hold};
+ghost use Rattle.sql_bound.specs.Bounds.{bound_of_value, measure, all_narrow, is_narrow, result_bound};
+ghost use Rattle.sql_bound.specs.Values.{both_hold, one_holds, number, of_both, value_of};
+ghost use Rattle.expr_value.specs.Terms.{term_value, measure_of_term, is_narrow_sum, is_narrow_product, added, multiplied, wrapped, all_hold, some_hold};
 ghost use Rattle.expr_value.specs.Worths.{wide_of};
 
 use crate::sight::Sight;
@@ -45,14 +45,11 @@ fn sum<'a>(terms: &'a [BoundTerm], sight: &Sight<'a>) -> Option<i128>
     requires keys { All IsValue sight.now.keys }
     ensures { result ≡ added (map (term_value sight.now) terms.now) }
 {
-    let mut sum: i128 = 0;
+    let mut so_far = Some(0);
     for term in terms {
-        match term_value(term, sight).number() {
-            Some(n) => sum += n,
-            None => return None,
-        }
+        so_far = plus(so_far, term_value(term, sight).number());
     }
-    Some(sum)
+    so_far
 }
 
 /// A part of a sum, its sign turned where a minus stands before it.
@@ -67,7 +64,8 @@ fn term_value<'a>(term: &'a BoundTerm, sight: &Sight<'a>) -> Worth<'a>
     if term.minus { part.negated() } else { part }
 }
 
-/// The product of all parts, or None where one of them is NULL.
+/// The product of all parts, or None where one of them is NULL. It fits, though factors before a 0 may pass every bound, so
+/// it may wrap on the way.
 #[cycle(value)]
 fn product<'a>(parts: &'a [Expr], sight: &Sight<'a>) -> Option<i128>
     requires narrow { is_narrow_product (map (measure (map bound_of_value sight.now.aggs)) parts.now) ≡ true }
@@ -75,15 +73,11 @@ fn product<'a>(parts: &'a [Expr], sight: &Sight<'a>) -> Option<i128>
     requires keys { All IsValue sight.now.keys }
     ensures { result ≡ multiplied (map (value_of sight.now) parts.now) }
 {
-    let mut product: i128 = 1;
+    let mut so_far = Some(1);
     for part in parts {
-        // The whole product fits. Factors before a 0 may pass every bound, so the product wraps on the way.
-        match value_of(part, sight).number() {
-            Some(n) => product = product.wrapping_mul(n),
-            None => return None,
-        }
+        so_far = times(so_far, value_of(part, sight).number());
     }
-    Some(product)
+    so_far
 }
 
 /// AND of all parts: a part that is false settles it, also behind one that is unknown.
@@ -120,6 +114,26 @@ fn some_hold<'a>(parts: &'a [Expr], sight: &Sight<'a>) -> Option<bool>
         }
     }
     so_far
+}
+
+fn plus(a: Option<i128>, b: Option<i128>) -> Option<i128>
+    requires { bound_of_value (number (of_both ◌+ℤ◌ a b)) ≤ result_bound }
+    ensures { result ≡ of_both ◌+ℤ◌ a b }
+{
+    match (a, b) {
+        (Some(a), Some(b)) => Some(a + b),
+        _ => None,
+    }
+}
+
+/// The product, wrapped where it does not fit.
+fn times(a: Option<i128>, b: Option<i128>) -> Option<i128>
+    ensures { result ≡ wrapped (of_both ◌*ℤ◌ a b) }
+{
+    match (a, b) {
+        (Some(a), Some(b)) => Some(a.wrapping_mul(b)),
+        _ => None,
+    }
 }
 
 fn both_hold(a: Option<bool>, b: Option<bool>) -> Option<bool>
