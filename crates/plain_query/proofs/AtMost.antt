@@ -19,11 +19,12 @@ use Rattle.sql_bound.specs.declared.query.BoundQuery.{BoundQuery}
 use Rattle.sql_bound.specs.Bounds.{bound_of, bound_of_value, bound_over, bound_of_aggregate, column_bound, magnitude, result_bound}
 use Rattle.sql_bound.specs.Outputs.{aggregated, aggregate_over, greater, lesser, IsGreatSum, number_or_zero, plain_sum, size_of, values_over, members, same_keys, keys_of, distinct, group_keys}
 use Rattle.sql_bound.specs.Values.{is_null, of_row, value_of}
+use Rattle.expr_value.proofs.Bounded.{bounded}
 use Rattle.plain_query.specs.Parts.{HasGreatSum}
 use Rattle.plain_query.specs.Scopes.{IsGroupOf}
 
 row_bounded : (row : List Value) → IsRow row → (e : Expr) → bound_of_value (value_of (of_row row) e) ≤ bound_of [] e
-row_bounded row p e = ?
+row_bounded row p e = bounded (of_row row) (record { rows = p; keys = λ k d h. absurd (omega arith) }) e
 
 -- the values of an argument
 values_at_most : (e : Expr) (rows : List (List Value)) → All IsRow rows → All (λ w. bound_of_value w ≤ bound_of [] e) (values_over (Some e) rows)

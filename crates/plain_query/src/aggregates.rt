@@ -11,30 +11,14 @@ ghost use Rattle.plain_query.specs.Parts.{is_bounded_aggregate, HasGreatSum};
 ghost use Rattle.plain_query.specs.declared.fault.QueryFault.{QueryFault};
 
 use crate::QueryFault;
-use col_value::{Row, Value, Wide};
+use col_value::{Row, Wide};
+use expr_value::{Sight, value_of};
 use sql_bound::{Aggregate, Expr};
 use sql_tree::AggKind;
 use std::alloc::{AllocError, Global};
 
 /// The greatest number that a result holds, 2^127 - 1.
 const GREATEST: u128 = 170141183460469231731687303715884105727;
-
-fn value_of(alloc: Global, e: &Expr, row: &[Value]) -> Result<Wide, AllocError>
-    requires narrow { is_narrow [] e.now ≡ true }
-    requires row { IsRow row.now }
-    ensures { IfOk result (λ w. w ≡ value_of (of_row row.now) e.now) }
-{
-    Err(AllocError)
-}
-
-fn is_null(value: &Wide) -> bool
-    ensures { result ≡ is_null value.now }
-{
-    match value {
-        Wide::Null => true,
-        Wide::Bool(_) | Wide::Int(_) | Wide::Text(_) => false,
-    }
-}
 
 /// The values of an argument over some tuples, those that are not NULL.
 fn values_of(alloc: Global, arg: &Expr, rows: &[Row]) -> Result<Vec<Wide>, AllocError>
@@ -44,11 +28,11 @@ fn values_of(alloc: Global, arg: &Expr, rows: &[Row]) -> Result<Vec<Wide>, Alloc
 {
     let mut out = Vec::new(alloc);
     for row in rows {
-        let value = value_of(alloc, arg, row.as_slice())?;
-        if is_null(&value) {
+        let value = value_of(arg, &Sight::of_row(row.as_slice()));
+        if value.is_null() {
             continue;
         }
-        out.push(value)?;
+        out.push(value.own(alloc)?)?;
     }
     Ok(out)
 }

@@ -9,7 +9,10 @@ mod aggregates;
 mod fault;
 mod groups;
 mod keeping;
+mod output;
+mod printing;
 mod scopes;
 mod tuples;
 
 pub use fault::QueryFault;
+pub use printing::printed;

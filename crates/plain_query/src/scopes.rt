@@ -12,6 +12,7 @@ use crate::QueryFault;
 use crate::aggregates::aggregates;
 use crate::groups::{group_keys, members};
 use col_value::{List, Row, Wide};
+use expr_value::Sight;
 use sql_bound::BoundQuery;
 use std::alloc::{AllocError, Global};
 
@@ -20,6 +21,15 @@ use std::alloc::{AllocError, Global};
 pub struct Group {
     pub keys: Row,
     pub aggs: List<Wide>,
+}
+
+impl Group {
+    /// The group as an expression sees it.
+    pub fn sight(&self) -> Sight<'_>
+        ensures { result ≡ scope_of self.now }
+    {
+        Sight::of_group(self.keys.as_slice(), self.aggs.as_slice())
+    }
 }
 
 /// The group with these GROUP BY columns.
