@@ -1,5 +1,5 @@
 -- No aggregate is greater than its bound.
-use Rattle.std.proofs.Common.{◌≡◌, ℕ, zero, suc, ◌+◌, ◌≤◌, ◌<◌, ℤ, pos, negsuc, ◌+ℤ◌, ◌≤ℤ◌, neg_ℤ, not, if◌then◌else◌, Bool, true, false, List, [], ◌∷◌, length, get_or, map, filter, fold, Option, Some, None, refl, ap, sym, ◌∙◌, arith, inl, inr, subst}
+use Rattle.std.proofs.Common.{◌≡◌, ℕ, zero, suc, ◌+◌, ◌≤◌, ◌<◌, ℤ, pos, negsuc, ◌+ℤ◌, ◌≤ℤ◌, neg_ℤ, not, if◌then◌else◌, Bool, true, false, List, [], ◌∷◌, length, get_or, map, filter, fold, Option, Some, None, refl, sym, ◌∙◌, arith, inl, inr, subst}
 use Rattle.std.proofs.lemmas.Bool.{cases_lt}
 use Rattle.std.proofs.lemmas.Int.{ints}
 use Rattle.std.proofs.lemmas.List.Elements.{All-filter, All-map, All-cons, All-get_or, All-contains_itself}
@@ -11,13 +11,12 @@ use Rattle.col_value.specs.Order.{IsRow, IsValue, wide_cmp}
 use Rattle.col_value.specs.declared.value.Value.{Value}
 use Rattle.col_value.specs.declared.value.Value.TheVariants.{Null}
 use Rattle.col_value.specs.declared.wide.Wide.{Wide}
-use Rattle.col_value.specs.declared.wide.Wide.TheVariants as wide
 use Rattle.sql_tree.specs.declared.tree.AggKind.{AggKind}
 use Rattle.sql_bound.specs.declared.expr.Expr.{Expr}
 use Rattle.sql_bound.specs.declared.query.Aggregate.{Aggregate}
 use Rattle.sql_bound.specs.declared.query.BoundQuery.{BoundQuery}
 use Rattle.sql_bound.specs.Bounds.{bound_of, bound_of_value, bound_over, bound_of_aggregate, column_bound, magnitude, result_bound}
-use Rattle.sql_bound.specs.Outputs.{aggregated, aggregate_over, greater, lesser, IsGreatSum, number_or_zero, plain_sum, size_of, values_over, members, same_keys, keys_of, distinct, group_keys}
+use Rattle.sql_bound.specs.Outputs.{aggregated, aggregate_over, greater, lesser, IsGreatSum, number_or_zero, size_of, values_over, members, same_keys, keys_of, distinct, group_keys}
 use Rattle.sql_bound.specs.Values.{is_null, of_row, value_of}
 use Rattle.expr_value.proofs.Bounded.{bounded}
 use Rattle.plain_query.specs.Parts.{HasGreatSum}

@@ -1,6 +1,14 @@
+pub mod Alike
+pub mod AnyOrder
+pub mod AtMost
+pub mod Bare
+pub mod Best
 pub mod Distinct
+pub mod Great
+pub mod NarrowLess
+pub mod Once
 pub mod SameKeys
 pub mod Sequences
+pub mod Shown
 pub mod Sizes
-pub mod NarrowLess
-pub mod AtMost
+pub mod TupleRows

@@ -1,5 +1,5 @@
 -- An expression that is narrow where its aggregates have some bounds is narrow where they have lesser ones.
-use Rattle.std.proofs.Common.{◌≡◌, ℕ, ◌+◌, ◌*◌, ◌≤◌, ◌&&◌, nat_le, Bool, true, false, List, [], ◌∷◌, get_or, map, fold, refl, sym, ap, ◌∙◌, arith, subst}
+use Rattle.std.proofs.Common.{◌≡◌, ℕ, ◌+◌, ◌*◌, ◌≤◌, ◌&&◌, nat_le, Bool, true, false, List, [], ◌∷◌, get_or, map, fold, refl, sym, arith, subst}
 use Rattle.std.proofs.lemmas.Bool.Decides.{nat_tests}
 use Rattle.std.proofs.Math.Nat.{mul-le-mul_left, mul-le-mul_right}
 use Rattle.sql_bound.specs.declared.expr.Expr.{Expr}
@@ -7,7 +7,7 @@ use Rattle.sql_bound.specs.declared.expr.BoundTerm.{BoundTerm}
 use Rattle.sql_bound.specs.declared.expr.Expr.TheViews.{roll-Expr, roll-BoundTerm}
 use Rattle.sql_bound.specs.declared.expr.Expr.TheOpen.{Expr-F, BoundTerm-F}
 use Rattle.sql_bound.specs.declared.expr.Expr.TheFolds.{map-Expr, map-BoundTerm, fold-BoundTerm, fold-roll-Expr, fold-roll-BoundTerm, ind-Expr}
-use Rattle.sql_bound.specs.Bounds.{measure, measure_step, term_measure, bounds, total, product, all_narrow, is_narrow, result_bound}
+use Rattle.sql_bound.specs.Bounds.{measure, measure_step, term_measure, bounds, all_narrow, is_narrow, result_bound}
 
 -- a lesser bound, and narrow where the other is
 pub record IsLess (a b : ℕ × Bool) : Type 0 where

@@ -1,5 +1,5 @@
 -- One more turn of a loop that puts lists behind each other.
-use Rattle.std.proofs.Common.{◌≡◌, ℕ, suc, ◌+◌, ◌<◌, ◌++◌, Bool, true, false, cond, List, [], ◌∷◌, length, get_or, take, map, filter, ap, ap₂, ◌∙◌, sym, subst, append_assoc, arith}
+use Rattle.std.proofs.Common.{◌≡◌, ℕ, suc, ◌+◌, ◌<◌, ◌++◌, Bool, true, false, cond, List, [], ◌∷◌, length, get_or, take, map, filter, refl, ap, ap₂, ◌∙◌, sym, subst, append_assoc, arith}
 use Rattle.std.proofs.lemmas.List.{append-nil, take_more, map-append, map_more, flat_map_more}
 use Rattle.std.proofs.lemmas.List.Elements.{filter-append, All-push}
 use Rattle.std.specs.List.{All, flat_map}
@@ -46,3 +46,14 @@ all_next {X} P xs i x h is p here =
 pub map_next : {X Y Z : Type 0} (view : Y → Z) (f : X → Z) (xs : List X) (i : ℕ) (x : X) (y : Y) (out next : List Y) → i < length xs → x ≡ get_or xs i x → view y ≡ f x → next ≡ out ++ y ∷ [] → map view out ≡ map f (take i xs) → map view next ≡ map f (take (i + 1) xs)
 map_next {X} {Y} {Z} view f xs i x y out next h is same e m =
     ap (map view) e ∙ map-append view out (y ∷ []) ∙ ap₂ (λ (l : List Z) (z : Z). l ++ z ∷ []) m (same ∙ ap f is) ∙ sym (map_more f xs i x h)
+
+-- one more turn of a loop that looks at values through two functions, and of one that passes some by
+pub twice_next : {X Y Z : Type 0} (f : X → Y) (g : Y → Z) (xs : List X) (i : ℕ) (x : X) (z : Z) (out next : List Z) → i < length xs → x ≡ get_or xs i x → z ≡ g (f x) → next ≡ out ++ z ∷ [] → out ≡ map g (map f (take i xs)) → next ≡ map g (map f (take (i + 1) xs))
+twice_next {X} {Y} {Z} f g xs i x z out next h is z_is next_is e =
+    next_is ∙ ap₂ (λ (l : List Z) (y : Z). l ++ y ∷ []) e z_is ∙ sym (map-append g (map f (take i xs)) (f x ∷ []))
+    ∙ ap (map g) (ap (λ (y : X). map f (take i xs) ++ f y ∷ []) is ∙ sym (map_more f xs i x h))
+
+pub shown_next : {X Y Z : Type 0} (f : X → Y) (p : Y → Bool) (g : Y → Z) (xs : List X) (i : ℕ) (x : X) (z : Z) (out next : List Z) → i < length xs → x ≡ get_or xs i x → p (f x) ≡ true → z ≡ g (f x) → next ≡ out ++ z ∷ [] → out ≡ map g (filter p (map f (take i xs))) → next ≡ map g (filter p (map f (take (i + 1) xs)))
+shown_next {X} {Y} {Z} f p g xs i x z out next h is shown z_is next_is e =
+    next_is ∙ ap₂ (λ (l : List Z) (y : Z). l ++ y ∷ []) e z_is ∙ sym (map-append g (filter p (map f (take i xs))) (f x ∷ []))
+    ∙ ap (map g) (value_passed_on f p xs i x (f x) (filter p (map f (take i xs))) (filter p (map f (take i xs)) ++ f x ∷ []) h is refl refl shown refl)

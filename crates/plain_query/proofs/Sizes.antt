@@ -3,7 +3,7 @@ use Rattle.std.proofs.Common.{◌≡◌, ℕ, zero, suc, ℤ, pos, negsuc, unsig
 use Rattle.std.proofs.lemmas.List.{take_more}
 use Rattle.std.proofs.lemmas.List.Sums.{fold_push}
 use Rattle.col_value.specs.declared.wide.Wide.{Wide}
-use Rattle.sql_bound.specs.Bounds.{magnitude, result_bound}
+use Rattle.sql_bound.specs.Bounds.{magnitude}
 use Rattle.sql_bound.specs.Outputs.{number_or_zero, size_of}
 
 size_from : ℕ → List Wide → ℕ

@@ -1,7 +1,7 @@
 -- Groups as the code holds them.
 use Rattle.std.specs.Prelude.{ℕ, ◌≤◌, Bool, true, List, [], map, slice_index_or}
 use Rattle.std.specs.Option.{option_map_or}
-use Rattle.std.specs.List.{All, Contains}
+use Rattle.std.specs.List.{Contains}
 use Rattle.col_value.specs.Order.{IsRow}
 use Rattle.col_value.specs.declared.value.Value.{Value}
 use Rattle.col_value.specs.declared.wide.Wide.{Wide}

@@ -9,10 +9,12 @@ mod aggregates;
 mod fault;
 mod groups;
 mod keeping;
+mod laws;
 mod output;
 mod printing;
 mod scopes;
 mod tuples;
 
 pub use fault::QueryFault;
+pub use laws::{bare_query_prints_all, null_joins_nothing, order_of_rows_is_free};
 pub use printing::printed;

@@ -54,7 +54,11 @@ fn items_in(alloc: Global, query: &BoundQuery, group: &Group) -> Result<WideRow,
 }
 
 /// The items' values in each group that HAVING keeps.
-fn of_groups(alloc: Global, query: &BoundQuery, groups: &[Group]) -> Result<Vec<WideRow>, AllocError>
+fn of_groups(
+    alloc: Global,
+    query: &BoundQuery,
+    groups: &[Group],
+) -> Result<Vec<WideRow>, AllocError>
     requires narrow { All (λ e. is_narrow (map bound_of_aggregate query.now.aggs) e ≡ true) query.now.items }
     requires having { option_map_or (is_narrow (map bound_of_aggregate query.now.aggs)) query.now.having true ≡ true }
     requires groups { All (λ g. IsGroupOf query.now (scope_of g)) groups.now }
@@ -71,7 +75,11 @@ fn of_groups(alloc: Global, query: &BoundQuery, groups: &[Group]) -> Result<Vec<
 }
 
 /// The output rows, and a fault where a SUM passes what a result holds in some group.
-pub fn output(alloc: Global, query: &BoundQuery, inputs: &[List<Row>]) -> Result<Vec<WideRow>, QueryFault>
+pub fn output(
+    alloc: Global,
+    query: &BoundQuery,
+    inputs: &[List<Row>],
+) -> Result<Vec<WideRow>, QueryFault>
     requires bounded { IsBoundedQuery query.now }
     requires rows { All (All IsRow) inputs.now }
     ensures rows { IfOk result (λ v. v.items ≡ output query.now inputs.now) }

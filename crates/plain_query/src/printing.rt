@@ -17,7 +17,11 @@ use std::alloc::Global;
 
 /// The rows that a query prints over these rows of its FROM items, in their order. `SumOutOfRange` comes exactly where in some
 /// group, also in one that HAVING drops, the magnitudes of the values of one SUM add to more than 2^127 - 1.
-pub fn printed(alloc: Global, query: &BoundQuery, inputs: &[List<Row>]) -> Result<Vec<WideRow>, QueryFault>
+pub fn printed(
+    alloc: Global,
+    query: &BoundQuery,
+    inputs: &[List<Row>],
+) -> Result<Vec<WideRow>, QueryFault>
     requires bounded { IsBoundedQuery query.now }
     requires rows { All (All IsRow) inputs.now }
     ensures printed { IfOk result (λ v. IsPrinted query.now.order query.now.limit (output query.now inputs.now) v.items) }

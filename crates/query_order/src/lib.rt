@@ -7,6 +7,8 @@
 mod compare;
 mod laws;
 mod printing;
+#[cfg(test)]
+mod tests;
 
 pub use laws::one_printed_list;
 pub use printing::order_rows;

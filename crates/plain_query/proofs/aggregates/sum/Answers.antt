@@ -1,4 +1,4 @@
-use Rattle.std.proofs.Common.{◌≡◌, arith, rules, ap, ◌∙◌}
+use Rattle.std.proofs.Common.{◌≡◌, arith, rules}
 use Rattle.sql_bound.specs.Bounds.{magnitude}
 use Rattle.sql_bound.specs.Outputs.{number_or_zero}
 use Rattle.plain_query.proofs.Sizes.{front_size, magnitude_is}

@@ -1,6 +1,6 @@
-use Rattle.std.proofs.Common.{◌≡◌, ◌+◌, ◌≤◌, take, drop, fold}
+use Rattle.std.proofs.Common.{◌≡◌, ◌≤◌, take}
 use Rattle.sql_bound.specs.Bounds.{magnitude, result_bound}
-use Rattle.sql_bound.specs.Outputs.{number_or_zero, plain_sum, size_of}
+use Rattle.sql_bound.specs.Outputs.{plain_sum, size_of}
 use Rattle.plain_query.proofs.aggregates.sum.Given as goal
 
 abbrev pub invariant-loop-value : goal.invariant-loop-value

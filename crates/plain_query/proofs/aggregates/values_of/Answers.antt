@@ -14,6 +14,6 @@ pub loop-row-preserved : goal.loop-row-preserved
 loop-row-preserved c =
     let f = λ (row : List Value). value_of (of_row row) c.args.arg.now in
     let null : not (is_null (f c.row-item.result)) ≡ true = search rules in
-    let value : c.in_ok-value.value ≡ f c.row-item.result = search rules in
+    let value : c.in_ok-own.field-0 ≡ f c.row-item.result = search rules in
     value_passed_on f (λ w. not (is_null w)) c.args.rows.now c.loop-row.row-index c.row-item.result _ _ _ c.loop-row-test.true c.row-item.is value
     c.in_ok-push.ensures.items null c.loop-row.invariant

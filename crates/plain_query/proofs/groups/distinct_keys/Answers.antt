@@ -1,7 +1,7 @@
-use Rattle.std.proofs.Common.{◌≡◌, true, false, map, rules}
+use Rattle.std.proofs.Common.{◌≡◌, true, false, rules}
 use Rattle.std.specs.List.{list_any}
 use Rattle.plain_query.proofs.Distinct.{none_found, key_known, key_new}
-use Rattle.sql_bound.specs.Outputs.{distinct, keys_of, same_keys}
+use Rattle.sql_bound.specs.Outputs.{keys_of, same_keys}
 use Rattle.plain_query.proofs.groups.distinct_keys.Goals as goal
 
 pub loop-row-init : goal.loop-row-init

@@ -1,4 +1,4 @@
-use Rattle.std.proofs.Common.{◌≡◌, ◌≤◌, ◌∙◌, List, length, map, arith, rules, ap, subst, sym}
+use Rattle.std.proofs.Common.{◌≡◌, ◌≤◌, List, length, map, arith, rules, ap, subst}
 use Rattle.sql_bound.specs.declared.query.Aggregate.{Aggregate}
 use Rattle.sql_bound.specs.Bounds.{column_bound}
 use Rattle.sql_bound.specs.Outputs.{aggregate_over, members}

@@ -1,5 +1,5 @@
-use Rattle.std.proofs.Common.{◌≡◌, List, rules, ap, sym, ◌∙◌, ◌++◌, ◌∷◌, [], arith, subst}
-use Rattle.std.specs.List.{All, Contains}
+use Rattle.std.proofs.Common.{◌≡◌, List, rules, ap, sym, ◌∙◌, arith, subst}
+use Rattle.std.specs.List.{All}
 use Rattle.std.proofs.lemmas.List.{take_all}
 use Rattle.std.proofs.lemmas.List.Elements.{All-contains, All-push}
 use Rattle.col_value.specs.declared.value.Value.{Value}
@@ -26,16 +26,16 @@ loop-keys-preserved c =
     let keys = c.keys-item.result in
     let told = c.in-Ok-group_of.ensures in
     let pushed = c.in_ok-push-in-Ok-group_of.ensures.items in record {
-    scopes =
-        map_next scope_of (group_scope q rows) found i keys c.in-Ok-group_of.group _ _ c.loop-keys-test.true c.keys-item.is
-        (told.scope ∙ ap (group_scope q rows) same) pushed c.loop-keys.invariant.scopes;
-    fit =
-        subst (All (λ g. IsGroupOf q (scope_of g))) (sym pushed)
-        (All-push (λ g. IsGroupOf q (scope_of g)) c.loop-keys.out.items c.in-Ok-group_of.group c.loop-keys.invariant.fit told.fits);
-    in_range =
-        all_next (λ (group : List Value). HasGreatSum q.aggs (members q.keys group rows) → ⊥) found i keys c.loop-keys-test.true c.keys-item.is
-        c.loop-keys.invariant.in_range (subst (λ (group : List Value). HasGreatSum q.aggs (members q.keys group rows) → ⊥) same told.in_range);
-  }
+      scopes =
+          map_next scope_of (group_scope q rows) found i keys c.in-Ok-group_of.group _ _ c.loop-keys-test.true c.keys-item.is
+          (told.scope ∙ ap (group_scope q rows) same) pushed c.loop-keys.invariant.scopes;
+      fit =
+          subst (All (λ g. IsGroupOf q (scope_of g))) (sym pushed)
+          (All-push (λ g. IsGroupOf q (scope_of g)) c.loop-keys.out.items c.in-Ok-group_of.group c.loop-keys.invariant.fit told.fits);
+      in_range =
+          all_next (λ (group : List Value). HasGreatSum q.aggs (members q.keys group rows) → ⊥) found i keys c.loop-keys-test.true c.keys-item.is
+          c.loop-keys.invariant.in_range (subst (λ (group : List Value). HasGreatSum q.aggs (members q.keys group rows) → ⊥) same told.in_range);
+    }
 
 pub returns-clause-in_range : goal.returns-clause-in_range
 returns-clause-in_range c =
