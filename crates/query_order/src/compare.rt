@@ -29,14 +29,14 @@ fn compare_by(a: &WideRow, b: &WideRow, column: usize, descending: bool) -> Orde
 }
 
 /// By the keys of ORDER BY, and then by all output columns.
-pub fn compare(a: &WideRow, b: &WideRow, order: &[(usize, bool)]) -> Ordering
-    ensures { result ≡ printed_cmp order.now a.now b.now }
+pub fn compare(first: &WideRow, second: &WideRow, order: &[(usize, bool)]) -> Ordering
+    ensures { result ≡ printed_cmp order.now first.now second.now }
 {
     for (column, descending) in order {
-        match compare_by(a, b, *column, *descending) {
+        match compare_by(first, second, *column, *descending) {
             Ordering::Equal => {}
             order => return order,
         }
     }
-    a.order(b)
+    first.order(second)
 }
