@@ -13,6 +13,8 @@ mod laws;
 mod output;
 mod printing;
 mod scopes;
+#[cfg(test)]
+mod tests;
 mod tuples;
 
 pub use fault::QueryFault;
