@@ -2,14 +2,14 @@ ghost use Rattle.std.specs.Prelude.{◌≡◌, IfErr, OnOk, option_map, None};
 ghost use Rattle.std.specs.List.{All};
 ghost use Rattle.sql_tree.specs.declared.refusal.Refusal.{Refusal};
 ghost use Rattle.sql_binder.specs.Bound.{RefusesBy};
-ghost use Rattle.sql_binder.specs.Queries.{name_refusal, unknown_column, ambiguous_name, output_names, unknown_key};
+ghost use Rattle.sql_binder.specs.Queries.{name_refusal, unknown_column, output_names, unknown_key, first_given, twice_named};
 
 use crate::BindFault;
 use crate::keys::{first_twice, first_unknown};
 use crate::naming::Naming;
 use crate::scope::lacking;
 use col_value::Name;
-use sql_tree::{NewColumn, Query};
+use sql_tree::{NewColumn, Query, SortKey};
 use std::alloc::Global;
 
 /// Refuses a query in which a name isn't there, or stands for two output columns; `outputs` are the names of these.
@@ -25,7 +25,7 @@ pub(crate) fn check_names(
     ensures refused { IfErr result (RefusesBy (name_refusal columns.now query.now)) }
 {
     check_columns(alloc, columns, outputs, query)?;
-    check_twice(alloc, columns, outputs, query)?;
+    check_twice(alloc, outputs, query.order.as_slice())?;
     Ok(())
 }
 
@@ -52,16 +52,13 @@ fn check_columns(
 /// Refuses a key of ORDER BY that names two output columns.
 fn check_twice(
     alloc: Global,
-    columns: &[NewColumn],
     outputs: &[Option<Name>],
-    query: &Query,
+    order: &[SortKey],
 ) -> Result<(), BindFault>
-    requires { outputs.now ≡ output_names columns.now query.now.items }
-    ensures ok { OnOk result (ambiguous_name columns.now query.now ≡ None) }
-    ensures refused { IfErr result (RefusesBy (option_map Refusal.Ambiguous (ambiguous_name columns.now query.now))) }
+    ensures ok { OnOk result (first_given (λ k. twice_named outputs.now k.key) order.now ≡ None) }
+    ensures refused { IfErr result (RefusesBy (option_map Refusal.Ambiguous (first_given (λ k. twice_named outputs.now k.key) order.now))) }
 {
-    let _columns = columns;
-    match first_twice(alloc, outputs, query.order.as_slice())? {
+    match first_twice(alloc, outputs, order)? {
         None => Ok(()),
         Some(name) => Err(Naming::Ambiguous.refuse(alloc, name.as_slice())),
     }

@@ -45,92 +45,91 @@ fn columns(alloc: Global) -> Result<Vec<NewColumn>, AllocError> {
     Ok(out)
 }
 
-fn insert(alloc: Global, table: &str, rows: &[&[Lit]]) -> Result<Insert, AllocError> {
-    let mut out = Vec::new(alloc);
-    for row in rows {
-        let mut literals = Vec::new(alloc);
-        for literal in *row {
-            literals.push(wide(alloc, *literal)?)?;
+// `INSERT INTO table VALUES` rows of so many literals.
+fn insert(
+    alloc: Global,
+    table: &str,
+    literals: &[Lit],
+    width: usize,
+) -> Result<Insert, AllocError> {
+    let mut rows = Vec::new(alloc);
+    let mut row = Vec::new(alloc);
+    for literal in literals {
+        row.push(wide(alloc, *literal)?)?;
+        if row.len() == width {
+            rows.push(List::new(row))?;
+            row = Vec::new(alloc);
         }
-        out.push(List::new(literals))?;
     }
     Ok(Insert {
         table: name(alloc, table)?,
-        rows: List::new(out),
+        rows: List::new(rows),
     })
 }
 
-// The refusal's line.
-fn refused(alloc: Global, fault: &BindFault) -> Result<Vec<u8>, AllocError> {
-    let mut out = Vec::new(alloc);
+// Appends the refusal's line.
+fn print_fault(out: &mut Vec<u8>, fault: &BindFault) -> Result<(), AllocError> {
     match fault {
-        BindFault::Refused(refusal) => refusal.print(&mut out)?,
-        BindFault::Memory => out.extend_from_slice(b"no memory")?,
+        BindFault::Refused(refusal) => refusal.print(out),
+        BindFault::Memory => out.extend_from_slice(b"no memory\n"),
     }
-    Ok(out)
 }
 
-// The rows' lines.
-fn printed(alloc: Global, rows: &[Row]) -> Result<Vec<u8>, AllocError> {
-    let mut out = Vec::new(alloc);
+// Appends the rows' lines.
+fn print_rows(alloc: Global, out: &mut Vec<u8>, rows: &[Row]) -> Result<(), AllocError> {
     for row in rows {
-        row.widen(alloc)?.print(&mut out)?;
+        row.widen(alloc)?.print(out)?;
     }
-    Ok(out)
+    Ok(())
+}
+
+// Binds an INSERT into `t`, or into a table that is not there, and appends what comes of it.
+fn try_insert(
+    alloc: Global,
+    out: &mut Vec<u8>,
+    into: &str,
+    literals: &[Lit],
+    width: usize,
+) -> Result<(), AllocError> {
+    let columns = columns(alloc)?;
+    let statement = insert(alloc, into, literals, width)?;
+    let found = Found {
+        table: 0,
+        columns: columns.as_slice(),
+    };
+    let found = if into == "t" { Some(found) } else { None };
+    match bind_insert(alloc, &statement, found) {
+        Ok(rows) => print_rows(alloc, out, rows.as_slice()),
+        Err(fault) => print_fault(out, &fault),
+    }
 }
 
 #[test]
 fn inserts_give_rows_or_are_refused(rt: HostRuntime) -> Result<(), Fail> {
     let alloc = rt.alloc();
-    let columns = columns(alloc)?;
     let a = Lit::Text("a");
     let long = Lit::Text("abc");
+    let least = Lit::Int(-9223372036854775807);
     let great = Lit::Int(9223372036854775808);
-    let table: [(&str, &[&[Lit]], &str); 8] = [
-        (
-            "t",
-            &[
-                &[Lit::Int(-9223372036854775807), Lit::Text("ab")],
-                &[Lit::Int(2), Lit::Null],
-            ],
-            "-9223372036854775807|ab\n2|\n",
-        ),
-        ("u", &[&[a, a]], "ERROR 2 UnknownTable u\n"),
-        ("t", &[&[a, a], &[Lit::Int(1)]], "ERROR 7 Arity 1 2\n"),
-        ("t", &[&[great, a], &[a, a]], "ERROR 8 TypeMismatch\n"),
-        (
-            "t",
-            &[&[Lit::Int(1), long], &[great, a]],
-            "ERROR 20 IntegerOutOfRange a\n",
-        ),
-        (
-            "t",
-            &[&[Lit::Int(-9223372036854775808), a]],
-            "ERROR 20 IntegerOutOfRange a\n",
-        ),
-        (
-            "t",
-            &[&[Lit::Null, a], &[Lit::Int(1), long]],
-            "ERROR 21 TextTooLong s\n",
-        ),
-        ("t", &[&[Lit::Null, a]], "ERROR 22 NullRefused a\n"),
-    ];
-    for (into, rows, want) in table {
-        let found = if into == "t" {
-            Some(Found {
-                table: 0,
-                columns: columns.as_slice(),
-            })
-        } else {
-            None
-        };
-        let statement = insert(alloc, into, rows)?;
-        let text = match bind_insert(alloc, &statement, found) {
-            Ok(rows) => printed(alloc, rows.as_slice())?,
-            Err(fault) => refused(alloc, &fault)?,
-        };
-        assert_eq!(rt; text.as_slice(), want.as_bytes());
-    }
+    let one = Lit::Int(1);
+    let none = Lit::Null;
+    let mut out = Vec::new(alloc);
+    try_insert(
+        alloc,
+        &mut out,
+        "t",
+        &[least, Lit::Text("ab"), one, none],
+        2,
+    )?;
+    try_insert(alloc, &mut out, "u", &[a, a], 2)?;
+    try_insert(alloc, &mut out, "t", &[a], 1)?;
+    try_insert(alloc, &mut out, "t", &[great, a, a, a], 2)?;
+    try_insert(alloc, &mut out, "t", &[one, long, great, a], 2)?;
+    try_insert(alloc, &mut out, "t", &[none, a, one, long], 2)?;
+    try_insert(alloc, &mut out, "t", &[none, a], 2)?;
+    let want =
+        "-9223372036854775807|ab\n1|\nERROR 2 UnknownTable u\nERROR 7 Arity 1 2\nERROR 8 TypeMismatch\nERROR 20 IntegerOutOfRange a\nERROR 21 TextTooLong s\nERROR 22 NullRefused a\n";
+    assert_eq!(rt; out.as_slice(), want.as_bytes());
     Ok(())
 }
 
@@ -268,134 +267,110 @@ fn query(
     })
 }
 
-fn bind(
+// Appends the columns that are put out, those by which it is ordered, and how many conditions there are.
+fn print_bound(out: &mut Vec<u8>, bound: &BoundQuery) -> Result<(), AllocError> {
+    for item in bound.items.as_slice() {
+        if let Expr::Col(i) = item {
+            print_digit(out, *i)?;
+        }
+    }
+    out.push(b' ')?;
+    for (place, _) in bound.order.as_slice() {
+        print_digit(out, *place)?;
+    }
+    out.push(b' ')?;
+    print_digit(out, bound.keep.as_slice().len())?;
+    out.extend_from_slice(b"\n")
+}
+
+fn print_digit(out: &mut Vec<u8>, n: usize) -> Result<(), AllocError> {
+    out.extend_from_slice(&[b'0' + (n % 10) as u8])
+}
+
+// Binds a query over `t`, or over a table that is not there, and appends what comes of it.
+fn try_query(
     alloc: Global,
-    columns: &[NewColumn],
-    into: &str,
-    query: &Query,
-) -> Result<BoundQuery, BindFault> {
-    let found = if into == "t" {
-        Some(Found { table: 3, columns })
-    } else {
-        None
+    out: &mut Vec<u8>,
+    from: &str,
+    shown: &[Shown],
+    keep: Keep,
+    keys: &[By],
+) -> Result<(), AllocError> {
+    let columns = columns(alloc)?;
+    let statement = query(alloc, from, shown, keep, keys)?;
+    let found = Found {
+        table: 3,
+        columns: columns.as_slice(),
     };
-    if is_single(query) {
-        bind_query(alloc, query, found)
-    } else {
-        Err(BindFault::Memory)
+    let found = if from == "t" { Some(found) } else { None };
+    if !is_single(&statement) {
+        return Ok(());
+    }
+    match bind_query(alloc, &statement, found) {
+        Ok(bound) => print_bound(out, &bound),
+        Err(fault) => print_fault(out, &fault),
     }
 }
 
 #[test]
-fn queries_are_refused(rt: HostRuntime) -> Result<(), Fail> {
+fn queries_are_bound_or_refused(rt: HostRuntime) -> Result<(), Fail> {
     let alloc = rt.alloc();
-    let columns = columns(alloc)?;
     let x = Lit::Text("x");
-    let table: [(&str, &[Shown], Keep, &[By], &str); 12] = [
-        (
-            "u",
-            &[("", "a", "")],
-            Keep::All,
-            &[],
-            "ERROR 2 UnknownTable u\n",
-        ),
-        (
-            "u",
-            &[("x", "a", "")],
-            Keep::All,
-            &[],
-            "ERROR 2 UnknownTable x\n",
-        ),
-        (
-            "t",
-            &[("", "c", ""), ("x", "a", ""), ("y", "a", "")],
-            Keep::All,
-            &[],
-            "ERROR 2 UnknownTable x\n",
-        ),
-        (
-            "t",
-            &[("t", "a", "")],
-            Keep::Is("c", x),
-            &[By::Name("d")],
-            "ERROR 4 UnknownColumn c\n",
-        ),
-        (
-            "t",
-            &[("", "a", "x")],
-            Keep::All,
-            &[By::Name("x"), By::Name("a")],
-            "ERROR 4 UnknownColumn a\n",
-        ),
-        (
-            "t",
-            &[],
-            Keep::All,
-            &[By::Number(2), By::Number(0)],
-            "ERROR 4 UnknownColumn 0\n",
-        ),
-        (
-            "t",
-            &[],
-            Keep::All,
-            &[By::Number(3)],
-            "ERROR 4 UnknownColumn 3\n",
-        ),
-        (
-            "t",
-            &[("", "a", ""), ("", "s", "a")],
-            Keep::Is("a", x),
-            &[By::Name("a")],
-            "ERROR 5 Ambiguous a\n",
-        ),
-        (
-            "t",
-            &[("", "a", ""), ("", "s", "a")],
-            Keep::Is("a", x),
-            &[By::Number(2)],
-            "ERROR 8 TypeMismatch\n",
-        ),
-        (
-            "t",
-            &[("", "a", "")],
-            Keep::Is("s", Lit::Int(1)),
-            &[],
-            "ERROR 8 TypeMismatch\n",
-        ),
-        ("t", &[], Keep::Wide, &[], "ERROR 9 TooWide\n"),
-        ("t", &[], Keep::Is("a", Lit::Null), &[By::Name("s")], ""),
-    ];
-    for (into, shown, keep, keys, want) in table {
-        let statement = query(alloc, into, shown, keep, keys)?;
-        let text = match bind(alloc, columns.as_slice(), into, &statement) {
-            Ok(_) => Vec::new(alloc),
-            Err(fault) => refused(alloc, &fault)?,
-        };
-        assert_eq!(rt; text.as_slice(), want.as_bytes());
-    }
-    Ok(())
-}
-
-#[test]
-fn a_query_is_bound(rt: HostRuntime) -> Result<(), Fail> {
-    let alloc = rt.alloc();
-    let columns = columns(alloc)?;
-    let keys = [By::Name("b"), By::Number(1)];
-    let statement = query(
+    let mut out = Vec::new(alloc);
+    try_query(
         alloc,
+        &mut out,
         "t",
         &[("t", "s", ""), ("", "a", "b")],
         Keep::Nested,
-        &keys,
+        &[By::Name("b"), By::Number(1)],
     )?;
-    let Ok(bound) = bind(alloc, columns.as_slice(), "t", &statement) else {
-        panic!(rt; "refused");
-    };
-    assert!(rt;
-        matches!(bound.sources.as_slice(), [source] if source.table == 3 && source.columns == 2)
-    );
-    assert!(rt; matches!(bound.items.as_slice(), [Expr::Col(1), Expr::Col(0)]));
-    assert!(rt; matches!(bound.order.as_slice(), [(1, true), (0, true)]));
-    assert!(rt; bound.keep.as_slice().len() == 3);
+    try_query(
+        alloc,
+        &mut out,
+        "t",
+        &[],
+        Keep::Is("a", Lit::Null),
+        &[By::Name("s")],
+    )?;
+    try_query(alloc, &mut out, "u", &[("", "a", "")], Keep::All, &[])?;
+    try_query(
+        alloc,
+        &mut out,
+        "t",
+        &[("", "c", ""), ("x", "a", "")],
+        Keep::All,
+        &[],
+    )?;
+    try_query(
+        alloc,
+        &mut out,
+        "t",
+        &[("t", "a", "")],
+        Keep::Is("c", x),
+        &[By::Name("d")],
+    )?;
+    try_query(
+        alloc,
+        &mut out,
+        "t",
+        &[("", "a", "x")],
+        Keep::All,
+        &[By::Name("a")],
+    )?;
+    try_query(alloc, &mut out, "t", &[], Keep::All, &[By::Number(0)])?;
+    try_query(
+        alloc,
+        &mut out,
+        "t",
+        &[("", "a", ""), ("", "s", "a")],
+        Keep::Is("a", x),
+        &[By::Name("a")],
+    )?;
+    try_query(alloc, &mut out, "t", &[], Keep::Is("a", x), &[])?;
+    try_query(alloc, &mut out, "t", &[], Keep::Wide, &[])?;
+    let want =
+        "10 10 3\n01 1 1\nERROR 2 UnknownTable u\nERROR 2 UnknownTable x\nERROR 4 UnknownColumn c\nERROR 4 UnknownColumn a\nERROR 4 UnknownColumn 0\nERROR 5 Ambiguous a\nERROR 8 TypeMismatch\nERROR 9 TooWide\n";
+    assert_eq!(rt; out.as_slice(), want.as_bytes());
     Ok(())
 }
