@@ -5,13 +5,13 @@
 #![tactic(auto)]
 
 mod creating;
-mod listing;
+mod printing;
 mod lists;
 mod selecting;
 mod table;
 
 pub use creating::{auto_encodings, copied_columns, create_refusal, projection_name};
-pub use listing::{commit_text, epoch_text, insert_text, listing, waiting_rows};
+pub use printing::{commit_text, epoch_text, insert_text, listing, waiting_rows};
 pub use lists::{add_rows, commit_all, find_table, has_rows, put, table_place};
 pub use selecting::output_rows;
 pub use table::{Pending, Table};

@@ -9,7 +9,7 @@ ghost use Rattle.db_model.specs.Answers.{rows_at};
 ghost use Rattle.plain_tables.specs.Outputs.{AreNarrow, outputs_of};
 ghost use Rattle.plain_tables.specs.Views.{changes_of, table_of};
 
-use crate::listing::waiting_rows;
+use crate::printing::waiting_rows;
 use crate::table::{Pending, Table};
 use col_value::{Row, Stamped, Value, WideRow};
 use expr_value::{are_true, items_of};
