@@ -1,7 +1,7 @@
 ghost use Rattle.std.specs.Prelude.{◌≡◌, ◌≤◌, if◌then◌else◌, Some, None, IfOk};
 ghost use Rattle.sql_bound.specs.Bounds.{bound_of_value, result_bound};
 ghost use Rattle.sql_bound.specs.Values.{number_in, truth_in, number, truth, negated, denied, holds, are_kin, compared, is_null, is_true};
-ghost use Rattle.col_value.specs.Order.{widened, wide_cmp};
+ghost use Rattle.col_value.specs.Order.{widened, wide_cmp, wide_kind};
 ghost use Rattle.expr_value.specs.Worths.{wide_of};
 
 use col_value::{Text, Value, Wide};
@@ -52,7 +52,7 @@ impl<'a> Worth<'a> {
     }
 
     /// The value of a column.
-    pub fn of_value(value: &'a Value) -> Worth<'a>
+    pub(crate) fn of_value(value: &'a Value) -> Worth<'a>
         ensures { wide_of result ≡ widened value.now }
     {
         match value {
@@ -76,7 +76,7 @@ impl<'a> Worth<'a> {
     }
 
     /// A number, NULL where there is none.
-    pub fn of_number(found: Option<i128>) -> Worth<'a>
+    pub(crate) fn of_number(found: Option<i128>) -> Worth<'a>
         ensures { wide_of result ≡ number found }
     {
         match found {
@@ -86,7 +86,7 @@ impl<'a> Worth<'a> {
     }
 
     /// A truth value, NULL where it is unknown.
-    pub fn of_truth(known: Option<bool>) -> Worth<'a>
+    pub(crate) fn of_truth(known: Option<bool>) -> Worth<'a>
         ensures { wide_of result ≡ truth known }
     {
         match known {
@@ -116,7 +116,7 @@ impl<'a> Worth<'a> {
     }
 
     /// The number with its sign turned.
-    pub fn negated(&self) -> Worth<'a>
+    pub(crate) fn negated(&self) -> Worth<'a>
         requires { bound_of_value (wide_of self.now) ≤ result_bound }
         ensures { wide_of result ≡ negated (wide_of self.now) }
     {
@@ -127,7 +127,7 @@ impl<'a> Worth<'a> {
     }
 
     /// NOT of a truth value; what is unknown stays so.
-    pub fn denied(&self) -> Worth<'a>
+    pub(crate) fn denied(&self) -> Worth<'a>
         ensures { wide_of result ≡ denied (wide_of self.now) }
     {
         match self {
@@ -137,17 +137,39 @@ impl<'a> Worth<'a> {
     }
 
     /// Whether the comparison holds; it is unknown where one of the two is NULL.
-    pub fn compared(&self, cmp: Cmp, other: &Worth<'_>) -> Worth<'a>
+    pub(crate) fn compared(&self, cmp: Cmp, other: &Worth<'_>) -> Worth<'a>
         ensures { wide_of result ≡ compared cmp (wide_of self.now) (wide_of other.now) }
     {
-        match self.order(other) {
+        match self.kin_order(other) {
             Some(order) => Worth::Bool(holds(cmp, order)),
             None => Worth::Null,
         }
     }
 
+    /// The order of values: NULL, false, true, the numbers by size, the texts by bytes.
+    pub fn order(&self, other: &Worth<'_>) -> Ordering
+        ensures { result ≡ wide_cmp (wide_of self.now) (wide_of other.now) }
+    {
+        match self.kin_order(other) {
+            Some(order) => order,
+            None => self.kind().cmp(&other.kind()),
+        }
+    }
+
+    /// The place of its kind in the order.
+    fn kind(&self) -> u8
+        ensures { result ≡ wide_kind (wide_of self.now) }
+    {
+        match self {
+            Worth::Null => 0,
+            Worth::Bool(_) => 1,
+            Worth::Int(_) => 2,
+            Worth::Text(_) => 3,
+        }
+    }
+
     /// How two values of one kind stand; None where they are not, or are NULL.
-    fn order(&self, other: &Worth<'_>) -> Option<Ordering>
+    fn kin_order(&self, other: &Worth<'_>) -> Option<Ordering>
         ensures { result ≡ (if are_kin (wide_of self.now) (wide_of other.now) then Some (wide_cmp (wide_of self.now) (wide_of other.now)) else None) }
     {
         match (self, other) {
