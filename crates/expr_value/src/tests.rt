@@ -12,16 +12,14 @@ use sql_tree::Cmp;
 use std::alloc::{AllocError, Global};
 use std::test::*;
 
-const NULL: Wide = Wide::Null;
+const NULL: Expr = Expr::Lit(Wide::Null);
 
-const YES: Wide = Wide::Bool(true);
+const TRUE: Expr = Expr::Lit(Wide::Bool(true));
 
-const NO: Wide = Wide::Bool(false);
+const FALSE: Expr = Expr::Lit(Wide::Bool(false));
 
-const GREAT: i128 = 9_223_372_036_854_775_807;
-
-fn int(n: i128) -> Wide {
-    Wide::Int(n)
+fn int(n: i128) -> Expr {
+    Expr::Lit(Wide::Int(n))
 }
 
 fn is_in_table(value: &Value) -> bool
@@ -56,95 +54,78 @@ fn are_narrow(es: &[Expr]) -> bool
     true
 }
 
-/// An operator; those of one part take the first of two.
-#[derive(Clone, Copy, Debug)]
-enum Shape {
-    Neg,
-    Minus,
-    Times,
-    Compare(Cmp),
-    IsNull,
-    Not,
-    And,
-    Or,
+// Whether an expression over no row has this value; None is NULL.
+fn is_worth(e: &Expr, want: Option<i128>) -> bool {
+    is_narrow(e, &[]) && value_of(e, &Sight::of_row(&[])).number() == want
 }
 
-fn minus(part: Expr) -> BoundTerm {
-    BoundTerm { minus: true, part }
+// Whether a condition over no row has this truth value; None is unknown.
+fn is_known(e: &Expr, want: Option<bool>) -> bool {
+    is_narrow(e, &[]) && value_of(e, &Sight::of_row(&[])).truth() == want
 }
 
-fn plus(part: Expr) -> BoundTerm {
-    BoundTerm { minus: false, part }
+fn boxed(alloc: Global, e: Expr) -> Result<Boxed<Expr>, AllocError> {
+    Boxed::new(alloc, e)
 }
 
-fn made(alloc: Global, shape: Shape, a: Expr, b: Expr) -> Result<Expr, AllocError> {
-    match shape {
-        Shape::Neg => Ok(Expr::Neg(Boxed::new(alloc, a)?)),
-        Shape::Minus => Ok(Expr::Sum(List::new(vec![in alloc; plus(a), minus(b)]?))),
-        Shape::Times => Ok(Expr::Product(List::new(vec![in alloc; a, b]?))),
-        Shape::Compare(cmp) => {
-            let a = Boxed::new(alloc, a)?;
-            Ok(Expr::Compare(a, cmp, Boxed::new(alloc, b)?))
+fn compare(alloc: Global, a: Expr, cmp: Cmp, b: Expr) -> Result<Expr, AllocError> {
+    Ok(Expr::Compare(boxed(alloc, a)?, cmp, boxed(alloc, b)?))
+}
+
+fn pair(alloc: Global, a: Expr, b: Expr) -> Result<List<Expr>, AllocError> {
+    Ok(List::new(vec![in alloc; a, b]?))
+}
+
+fn times(alloc: Global, a: Expr, b: Expr) -> Result<Expr, AllocError> {
+    Ok(Expr::Product(pair(alloc, a, b)?))
+}
+
+fn minus(alloc: Global, a: Expr, b: Expr) -> Result<Expr, AllocError> {
+    let terms = vec![in alloc;
+        BoundTerm {
+            minus: false,
+            part: a,
         },
-        Shape::IsNull => Ok(Expr::IsNull(Boxed::new(alloc, a)?)),
-        Shape::Not => Ok(Expr::Not(Boxed::new(alloc, a)?)),
-        Shape::And => Ok(Expr::And(List::new(vec![in alloc; a, b]?))),
-        Shape::Or => Ok(Expr::Or(List::new(vec![in alloc; a, b]?))),
-    }
-}
-
-// Whether an expression over no row has this value.
-fn is_worth(alloc: Global, e: &Expr, want: &Wide) -> Result<bool, AllocError> {
-    if !is_narrow(e, &[]) {
-        return Ok(false);
-    }
-    let value = value_of(e, &Sight::of_row(&[])).own(alloc)?;
-    Ok(value.is(want))
+        BoundTerm {
+            minus: true,
+            part: b,
+        },
+    ]?;
+    Ok(Expr::Sum(List::new(terms)))
 }
 
 #[test]
-fn operators(rt: HostRuntime) -> Result<(), AllocError> {
+fn null_in_each_operator(rt: HostRuntime) -> Result<(), AllocError> {
     let alloc = rt.alloc();
-    let square = 85_070_591_730_234_615_847_396_907_784_232_501_249;
-    let cases = [
-        (Shape::Neg, NULL, NULL, NULL),
-        (Shape::Minus, int(1), NULL, NULL),
-        (Shape::Times, NULL, int(0), NULL),
-        (Shape::Compare(Cmp::Eq), NULL, NULL, NULL),
-        (Shape::Compare(Cmp::Ne), int(1), NULL, NULL),
-        (Shape::IsNull, NULL, NULL, YES),
-        (Shape::IsNull, int(0), NULL, NO),
-        (Shape::Not, NULL, NULL, NULL),
-        (Shape::And, NULL, YES, NULL),
-        (Shape::And, NULL, NO, NO),
-        (Shape::Or, NULL, NO, NULL),
-        (Shape::Or, NULL, YES, YES),
-        (Shape::Minus, int(2), int(5), int(-3)),
-        (Shape::Times, int(GREAT), int(GREAT), int(square)),
-        (Shape::Compare(Cmp::Le), int(-2), int(-2), YES),
-        (Shape::Compare(Cmp::Lt), int(-2), int(-2), NO),
-        (Shape::Compare(Cmp::Gt), int(1), int(-2), YES),
-    ];
-    for (shape, a, b, want) in &cases {
-        let e = made(
-            alloc,
-            *shape,
-            Expr::Lit(a.copy(alloc)?),
-            Expr::Lit(b.copy(alloc)?),
-        )?;
-        assert!(rt; is_worth(alloc, &e, want)?, "{shape:?} of {a:?} and {b:?}");
-    }
+    assert!(rt; is_worth(&Expr::Neg(boxed(alloc, NULL)?), None));
+    assert!(rt; is_worth(&minus(alloc, int(1), NULL)?, None));
+    assert!(rt; is_worth(&times(alloc, NULL, int(0))?, None));
+    assert!(rt; is_known(&compare(alloc, NULL, Cmp::Eq, NULL)?, None));
+    assert!(rt; is_known(&compare(alloc, int(1), Cmp::Ne, NULL)?, None));
+    assert!(rt; is_known(&Expr::Not(boxed(alloc, NULL)?), None));
+    assert!(rt; is_known(&Expr::And(pair(alloc, NULL, TRUE)?), None));
+    assert!(rt; is_known(&Expr::And(pair(alloc, NULL, FALSE)?), Some(false)));
+    assert!(rt; is_known(&Expr::Or(pair(alloc, NULL, FALSE)?), None));
+    assert!(rt; is_known(&Expr::Or(pair(alloc, NULL, TRUE)?), Some(true)));
+    assert!(rt; is_known(&Expr::IsNull(boxed(alloc, NULL)?), Some(true)));
+    assert!(rt; is_known(&Expr::IsNull(boxed(alloc, int(0))?), Some(false)));
     Ok(())
 }
 
 #[test]
-fn a_zero_behind_great_factors(rt: HostRuntime) -> Result<(), AllocError> {
+fn numbers_and_their_order(rt: HostRuntime) -> Result<(), AllocError> {
     let alloc = rt.alloc();
-    let mut parts = Vec::new(alloc);
-    for n in [GREAT, -GREAT, GREAT, 0] {
-        parts.push(Expr::Lit(Wide::Int(n)))?;
-    }
-    assert!(rt; is_worth(alloc, &Expr::Product(List::new(parts)), &int(0))?);
+    let great = 9_223_372_036_854_775_807;
+    let square = 85_070_591_730_234_615_847_396_907_784_232_501_249;
+    assert!(rt; is_worth(&times(alloc, int(great), int(great))?, Some(square)));
+    let past = times(alloc, times(alloc, int(great), int(great))?, int(great))?;
+    assert!(rt; !is_narrow(&past, &[]));
+    let past_and_0 = vec![in alloc; int(great), int(-great), int(great), int(0)]?;
+    assert!(rt; is_worth(&Expr::Product(List::new(past_and_0)), Some(0)));
+    assert!(rt; is_worth(&minus(alloc, int(2), int(5))?, Some(-3)));
+    assert!(rt; is_known(&compare(alloc, int(-2), Cmp::Le, int(-2))?, Some(true)));
+    assert!(rt; is_known(&compare(alloc, int(-2), Cmp::Lt, int(-2))?, Some(false)));
+    assert!(rt; is_known(&compare(alloc, int(1), Cmp::Gt, int(-2))?, Some(true)));
     Ok(())
 }
 
@@ -155,14 +136,14 @@ fn rows_are_kept_and_put_out(rt: HostRuntime) -> Result<(), AllocError> {
         Value::Int(5),
         Value::Text(Text::new(String::from_str(alloc, "b")?)),
     ];
-    let es = vec![in alloc; Expr::Col(1), Expr::Col(0), Expr::Lit(YES)]?;
+    let es = vec![in alloc; Expr::Col(1), Expr::Col(0), TRUE]?;
     let mut out = Vec::new(alloc);
     if are_narrow(es.as_slice()) && are_in_table(&row) {
         items_of(alloc, es.as_slice(), &row)?.print(&mut out)?;
         assert!(rt; !are_true(es.as_slice(), &row));
     }
     assert_eq!(rt; out.as_slice(), b"b|5|t\n".as_slice());
-    let e = made(alloc, Shape::Compare(Cmp::Eq), Expr::Agg(0), Expr::Key(0))?;
+    let e = compare(alloc, Expr::Agg(0), Cmp::Eq, Expr::Key(0))?;
     let keys = [Value::Int(3)];
     let aggs = [Wide::Int(3)];
     assert!(rt; is_narrow(&e, &[3]) && are_in_table(&keys));
