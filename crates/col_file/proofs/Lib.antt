@@ -1,10 +1,8 @@
-pub mod ReadOn
-pub mod Parts
 pub mod Written
 pub mod Found
 pub mod Blocks
+pub mod RunsOf
 pub mod ByBlocks
 pub mod OneColumn
-pub mod Extremes
 pub mod Laid
 pub mod Readable

@@ -1,19 +1,21 @@
 //! Reading one block of a column.
 
-ghost use Rattle.std.specs.Prelude.{◌≡◌, ◌≢◌, ◌&&◌, ◌==◌, ◌+◌, ◌<◌, ◌-◌, min, length, Err, IfOk, IfErr, IfSome, option_map};
-ghost use Rattle.std.specs.List.{list_all, slice_get};
+ghost use Rattle.std.specs.Prelude.{◌≡◌, ◌≢◌, ◌+◌, ◌<◌, ◌-◌, length, Err, IfOk, IfErr, IfSome, option_map};
+ghost use Rattle.std.specs.List.{slice_get};
 ghost use Rattle.col_base.specs.Causes.{HasCause};
 ghost use Rattle.col_disk.specs.Calls.{AnswersPart};
 ghost use Rattle.col_disk.specs.Moved.{Moved, NoName};
-ghost use Rattle.col_file.specs.Plain.{plain};
-ghost use Rattle.col_file.specs.Read.{Blames, SpellsBlock, IsBlock, AnswersPiece, IsNoPiece, is_between, flattened, HaveCounts, AreValues, AreRuns};
+ghost use Rattle.block_codec.specs.Blocks.{flattened, HaveCounts};
+ghost use Rattle.block_choice.specs.Choice.{SpellsAs};
+ghost use Rattle.col_file.specs.Read.{Blames, SpellsBlock, IsBlock, AnswersPiece, IsNoPiece, AreValues, AreRuns};
 
-use crate::index::{Entry, PosIndex};
-use crate::plain::take_plain;
+use crate::checks::{are_runs, are_values};
 use crate::read::fault_of;
+use block_choice::{decode, runs};
 use col_base::Steps;
 use col_disk::{Disk, StoreFault};
 use col_value::{Encoding, Run, Value};
+use pos_index::{Entry, PosIndex};
 use std::alloc::{AllocError, Global};
 use std::sync::ledger::Ledger;
 
@@ -61,47 +63,52 @@ fn piece_of<D: Disk>(
     }
 }
 
-fn is_between(entry: &Entry, value: &Value) -> bool
-    ensures { result ≡ is_between entry.now value.now }
-{
-    entry.least.order(value).is_le() && value.order(&entry.greatest).is_le()
-}
-
-fn are_between(entry: &Entry, values: &[Value]) -> bool
-    ensures { result ≡ list_all (is_between entry.now) values.now }
-{
-    for value in values {
-        if !is_between(entry, value) {
-            return false;
-        }
-    }
-    true
-}
-
-/// Whether the values are as many as the block of this entry has, each from its least to its greatest.
-fn is_block(values: &[Value], rows: u64, entry: &Entry) -> bool
-    ensures { result ≡ (length values.now == min 1024 (rows - entry.now.first) && list_all (is_between entry.now) values.now) }
-{
-    values.len() as u64 == rows.saturating_sub(entry.first).min(1024) && are_between(entry, values)
-}
-
-#[tactic(auto, using(crate::proofs::Blocks::block_is, crate::proofs::Blocks::block_not))]
 /// The values of the block that the bytes are; the name is blamed where they are none of this entry.
+#[tactic(auto, using(crate::proofs::Blocks::block_is, crate::proofs::Blocks::block_not))]
 fn values_in(
     alloc: Global,
     bytes: &[u8],
     name: u64,
     rows: u64,
     entry: &Entry,
+    encoding: Encoding,
 ) -> Result<Vec<Value>, StoreFault>
-    ensures found { IfOk result (λ v. IsBlock rows entry.now v.items × (bytes.now ≡ plain v.items)) }
-    ensures blamed { IfErr result (Blames name (SpellsBlock rows entry.now bytes.now → ⊥)) }
+    ensures found { IfOk result (λ v. IsBlock rows entry.now v.items × SpellsAs encoding v.items bytes.now) }
+    ensures blamed { IfErr result (Blames name (SpellsBlock encoding rows entry.now bytes.now → ⊥)) }
     ensures no_cause { result ≢ Err StoreFault.Disk }
 {
-    match take_plain(alloc, bytes) {
+    match decode(alloc, encoding, bytes) {
         Ok(Some(values)) => {
-            if is_block(values.as_slice(), rows, entry) {
+            if are_values(values.as_slice(), rows, entry) {
                 Ok(values)
+            } else {
+                Err(StoreFault::Damaged(name))
+            }
+        }
+        Ok(None) => Err(StoreFault::Damaged(name)),
+        Err(AllocError) => Err(StoreFault::Memory),
+    }
+}
+
+/// The runs of the block that the bytes are; the name is blamed where they are none of this entry.
+#[tactic(auto, using(crate::proofs::Blocks::block_is, crate::proofs::Blocks::block_not, crate::proofs::Blocks::few_values))]
+fn runs_in(
+    alloc: Global,
+    bytes: &[u8],
+    name: u64,
+    rows: u64,
+    entry: &Entry,
+    encoding: Encoding,
+) -> Result<Vec<Run>, StoreFault>
+    ensures counts { IfOk result (λ v. HaveCounts v.items) }
+    ensures found { IfOk result (λ v. IsBlock rows entry.now (flattened v.items) × SpellsAs encoding (flattened v.items) bytes.now) }
+    ensures blamed { IfErr result (Blames name (SpellsBlock encoding rows entry.now bytes.now → ⊥)) }
+    ensures no_cause { result ≢ Err StoreFault.Disk }
+{
+    match runs(alloc, encoding, bytes) {
+        Ok(Some(runs)) => {
+            if are_runs(runs.as_slice(), rows, entry) {
+                Ok(runs)
             } else {
                 Err(StoreFault::Damaged(name))
             }
@@ -119,29 +126,19 @@ pub fn block_values<D: Disk>(
     rows: u64,
     entry: &Entry,
     next: Option<&Entry>,
+    encoding: Encoding,
 ) -> Result<Vec<Value>, StoreFault>
-    ensures found { IfOk result (λ v. AreValues name rows entry.now (option_map (λ n. n.now) next.entry) (D.holds disk.old) v.items) }
-    ensures blamed { IfErr result (Blames name (IsNoPiece name rows entry.now (option_map (λ n. n.now) next.entry) (D.holds disk.old))) }
+    ensures found { IfOk result (λ v. AreValues encoding name rows entry.now (option_map (λ n. n.now) next.entry) (D.holds disk.old) v.items) }
+    ensures blamed { IfErr result (Blames name (IsNoPiece encoding name rows entry.now (option_map (λ n. n.now) next.entry) (D.holds disk.old))) }
     ensures kept { D.holds disk.new ≡ D.holds disk.old }
     ensures moved { Moved ⟦<D as Disk>⟧ NoName NoName disk.old disk.new }
     ensures cause { HasCause StoreFault.Disk (D.faults disk.old) (D.faults disk.new) result }
 {
     match piece_of(alloc, disk, name, entry, next) {
-        Ok(Some(bytes)) => values_in(alloc, bytes.as_slice(), name, rows, entry),
+        Ok(Some(bytes)) => values_in(alloc, bytes.as_slice(), name, rows, entry, encoding),
         Ok(None) => Err(StoreFault::Damaged(name)),
         Err(fault) => Err(fault),
     }
-}
-
-/// A run for each value.
-fn runs_of(alloc: Global, values: Vec<Value>) -> Result<Vec<Run>, AllocError>
-    ensures { IfOk result (λ v. HaveCounts v.items × (flattened v.items ≡ values.items)) }
-{
-    let mut runs = Vec::with_capacity(alloc, values.len())?;
-    for value in values {
-        runs.push(Run { value, count: 1 })?;
-    }
-    Ok(runs)
 }
 
 /// The runs of the block of this entry, which ends where the next begins.
@@ -152,38 +149,38 @@ pub fn block_runs<D: Disk>(
     rows: u64,
     entry: &Entry,
     next: Option<&Entry>,
+    encoding: Encoding,
 ) -> Result<Vec<Run>, StoreFault>
-    ensures found { IfOk result (λ v. AreRuns name rows entry.now (option_map (λ n. n.now) next.entry) (D.holds disk.old) v.items) }
-    ensures blamed { IfErr result (Blames name (IsNoPiece name rows entry.now (option_map (λ n. n.now) next.entry) (D.holds disk.old))) }
+    ensures found { IfOk result (λ v. AreRuns encoding name rows entry.now (option_map (λ n. n.now) next.entry) (D.holds disk.old) v.items) }
+    ensures blamed { IfErr result (Blames name (IsNoPiece encoding name rows entry.now (option_map (λ n. n.now) next.entry) (D.holds disk.old))) }
     ensures kept { D.holds disk.new ≡ D.holds disk.old }
     ensures moved { Moved ⟦<D as Disk>⟧ NoName NoName disk.old disk.new }
     ensures cause { HasCause StoreFault.Disk (D.faults disk.old) (D.faults disk.new) result }
 {
-    match block_values(alloc, disk, name, rows, entry, next) {
-        Ok(values) => match runs_of(alloc, values) {
-            Ok(runs) => Ok(runs),
-            Err(AllocError) => Err(StoreFault::Memory),
-        },
+    match piece_of(alloc, disk, name, entry, next) {
+        Ok(Some(bytes)) => runs_in(alloc, bytes.as_slice(), name, rows, entry, encoding),
+        Ok(None) => Err(StoreFault::Damaged(name)),
         Err(fault) => Err(fault),
     }
 }
 
 /// Reads block k of a column: its runs, which flatten to its values. Of the file only the block's bytes are read,
-/// from its place to the next block's, of the last to the end of the file; it counts as one step. Whatever the
-/// encoding says, a block is PLAIN for now. `Damaged(body)` comes only where the file is absent, or the bytes of the
-/// block are no block of as many values as the index says, each from the block's least to its greatest.
+/// from its place to the next block's, of the last to the end of the file; it counts as one step. A block of an AUTO
+/// column may be in any of the four encodings, of another in its own alone. `Damaged(body)` comes only where the file is
+/// absent, or the bytes of the block are no block of as many values as the index says, each from the block's least to its
+/// greatest.
 pub fn read_block<D: Disk, L: Ledger>(
     alloc: Global,
     disk: &mut D,
     body: u64,
     at: &PosIndex,
-    _encoding: Encoding,
+    encoding: Encoding,
     k: usize,
     steps: &mut Steps<L>,
 ) -> Result<Vec<Run>, StoreFault>
     requires { k < length at.now.entries }
-    ensures found { IfSome (slice_get at.now.entries k) (λ e. IfOk result (λ v. AreRuns body at.now.rows e (slice_get at.now.entries (k + 1)) (D.holds disk.old) v.items)) }
-    ensures blamed { IfSome (slice_get at.now.entries k) (λ e. IfErr result (Blames body (IsNoPiece body at.now.rows e (slice_get at.now.entries (k + 1)) (D.holds disk.old)))) }
+    ensures found { IfSome (slice_get at.now.entries k) (λ e. IfOk result (λ v. AreRuns encoding body at.now.rows e (slice_get at.now.entries (k + 1)) (D.holds disk.old) v.items)) }
+    ensures blamed { IfSome (slice_get at.now.entries k) (λ e. IfErr result (Blames body (IsNoPiece encoding body at.now.rows e (slice_get at.now.entries (k + 1)) (D.holds disk.old)))) }
     ensures step { steps.new ≡ steps.old + 1 }
     ensures kept { D.holds disk.new ≡ D.holds disk.old }
     ensures moved { Moved ⟦<D as Disk>⟧ NoName NoName disk.old disk.new }
@@ -191,5 +188,6 @@ pub fn read_block<D: Disk, L: Ledger>(
 {
     steps.tick();
     let entries = at.entries.as_slice();
-    block_runs(alloc, disk, body, at.rows, &entries[k], entries.get(k + 1))
+    let next = entries.get(k + 1);
+    block_runs(alloc, disk, body, at.rows, &entries[k], next, encoding)
 }

@@ -4,15 +4,16 @@ ghost use Rattle.std.specs.Prelude.{◌≡◌, ◌≢◌, Err, IfOk, IfErr};
 ghost use Rattle.col_base.specs.Causes.{HasCause};
 ghost use Rattle.col_disk.specs.Faults.{store_fault};
 ghost use Rattle.col_disk.specs.Moved.{Moved, NoName};
-ghost use Rattle.col_file.specs.Index.{index_spelling, IsIndex, Fits};
+ghost use Rattle.pos_index.specs.Index.{index_spelling, IsIndex, Fits};
 ghost use Rattle.col_file.specs.Column.{IsFile, IsNoFile};
 ghost use Rattle.col_file.specs.Read.{Blames, SpellsIndex};
 
-use crate::index::PosIndex;
 use col_disk::{Disk, DiskFault, StoreFault, read_whole};
+use pos_index::PosIndex;
 use std::alloc::{AllocError, Global};
 
 /// The index of so many rows that all of the bytes are; the name is blamed where they are none.
+#[tactic(auto, using(crate::proofs::Found::other_rows, crate::proofs::Found::no_index))]
 fn index_in(alloc: Global, bytes: &[u8], name: u64, rows: u64) -> Result<PosIndex, StoreFault>
     ensures found { IfOk result (λ x. (x.rows ≡ rows) × IsIndex x × Fits x × (bytes.now ≡ index_spelling x)) }
     ensures blamed { IfErr result (Blames name (SpellsIndex rows bytes.now → ⊥)) }

@@ -1,18 +1,19 @@
 -- What a statement prints.
-use Rattle.std.specs.Prelude.{ℕ, ◌++◌, List, [], ◌∷◌, map, length, slice_get, codes}
+use Rattle.std.specs.Prelude.{ℕ, ◌++◌, List, [], ◌∷◌, length, Option, Some, None, codes}
 use Rattle.std.specs.List.{flat_map}
-use Rattle.std.specs.List.Sorted.{IsPermutation, IsSorted}
-use Rattle.std.specs.Option.{option_map_or}
 use Rattle.std.specs.Fmt.{decimal}
 use Rattle.col_value.specs.declared.value.Value.{Value}
 use Rattle.col_value.specs.declared.wide.Wide.{Wide}
-use Rattle.col_value.specs.Order.{wide_row_cmp, widened}
 use Rattle.col_value.specs.Prints.{row_text}
 use Rattle.sql_tree.specs.declared.query.At.{At}
 use Rattle.sql_tree.specs.declared.query.Query.{Query}
-use Rattle.db_model.specs.Database.{Table, visible}
+use Rattle.sql_bound.specs.declared.query.BoundQuery.{BoundQuery}
+use Rattle.sql_bound.specs.Outputs.{output}
+use Rattle.sql_bound.specs.Printed.{IsPrinted}
+use Rattle.sql_binder.specs.Queries.{bound_query, source_table}
+use Rattle.db_model.specs.Database.{Table, visible, table_named}
 use Rattle.db_model.specs.State.{State, Changes, session_view, own_changes}
-use Rattle.db_model.specs.Forms.{source_table, plain_place}
+use Rattle.db_model.specs.Forms.{table_place}
 
 -- The rows of a table that a query reads: what the session sees, or what was committed up to an epoch.
 abbrev pub rows_at : At → ℕ → List Changes → Table → List (List Value)
@@ -20,23 +21,22 @@ rows_at At.View last changes t = session_view last changes t
 rows_at At.Latest last changes t = visible last t.rows
 rows_at (At.Epoch n) last changes t = visible n t.rows
 
--- one column of rows
-abbrev pub value_at : ℕ → List Value → Value
-value_at place row = option_map_or (λ v. v) (slice_get row place) Value.Null
+-- the output rows of a query over one table, in some order
+abbrev pub output_over : At → Query → State → ℕ → Table → List (List Wide)
+output_over at q state place t = output (bound_query place t.columns q) (rows_at at state.database.last (own_changes state) t ∷ [])
 
-abbrev pub column_rows : ℕ → List (List Value) → List (List Wide)
-column_rows place rows = map (λ row. widened (value_at place row) ∷ []) rows
+-- the list that a query prints: its output rows in the printed order, up to its limit
+abbrev pub IsAnswerOver : At → Query → State → ℕ → Table → List (List Wide) → Type 0
+IsAnswerOver at q state place t listed = IsPrinted (bound_query place t.columns q).order q.limit (output_over at q state place t) listed
 
--- the output rows of `SELECT column FROM table`, in some order
-abbrev pub output_rows : At → Query → State → List (List Wide)
-output_rows at q state =
-    option_map_or (λ place. option_map_or (λ t. column_rows place (rows_at at state.database.last (own_changes state) t)) (source_table q state.database.tables) [])
-    (plain_place q state.database.tables) []
+abbrev pub IsAnswerIn : At → Query → State → Option ℕ → Option Table → List (List Wide) → Type 0
+IsAnswerIn at q state None t listed = ⊥
+IsAnswerIn at q state (Some place) None listed = ⊥
+IsAnswerIn at q state (Some place) (Some t) listed = IsAnswerOver at q state place t listed
 
--- a list of rows in the printed order: ascending
-pub record IsListing (rows listed : List (List Wide)) : Type 0 where
-  pub same : IsPermutation rows listed
-  pub ascending : IsSorted wide_row_cmp listed
+abbrev pub IsAnswer : At → Query → State → List (List Wide) → Type 0
+IsAnswer at q state listed =
+    IsAnswerIn at q state (table_place (source_table q) state.database.tables) (table_named (source_table q) state.database.tables) listed
 
 -- `(n rows)`
 abbrev pub count_line : ℕ → List ℕ
@@ -53,3 +53,7 @@ insert_line n = codes "INSERT " ++ (decimal n ++ codes "\n")
 -- `COMMIT EPOCH e`
 abbrev pub commit_line : ℕ → List ℕ
 commit_line epoch = codes "COMMIT EPOCH " ++ (decimal epoch ++ codes "\n")
+
+-- `EPOCH n`
+abbrev pub epoch_line : ℕ → List ℕ
+epoch_line epoch = codes "EPOCH " ++ (decimal epoch ++ codes "\n")

@@ -1,6 +1,7 @@
 pub mod Database
 pub mod State
 pub mod Forms
+pub mod Refusing
 pub mod Answers
 pub mod Step
 pub mod Run

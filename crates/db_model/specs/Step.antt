@@ -13,40 +13,21 @@ use Rattle.sql_tree.specs.Spells.{Spells}
 use Rattle.sql_tree.specs.Lines.{refusal_text}
 use Rattle.db_model.specs.Database.{Table, Shape, Database, super_name, put_table}
 use Rattle.db_model.specs.State.{State, own_changes, with_changes, with_rows, has_changes, committed}
-use Rattle.db_model.specs.Forms.{is_in_form}
-use Rattle.db_model.specs.Answers.{output_rows, IsListing, listing_text, insert_line, commit_line}
+use Rattle.sql_tree.specs.Phrases.{IsPlace}
+use Rattle.sql_binder.specs.Inserts.{inserted_rows}
+use Rattle.db_model.specs.Refusing.{refusal_of}
+use Rattle.db_model.specs.Answers.{IsAnswer, listing_text, insert_line, commit_line, epoch_line}
 
 -- what a text says: the statement that its tokens spell, or none where they spell none
 abbrev pub Reads : List ℕ → Option Statement → Type 0
 Reads text (Some s) = Spells (symbols_of text) s
 Reads text None = (s : Statement) → Spells (symbols_of text) s → ⊥
 
--- an epoch lies in the future
-abbrev pub future_refusal : At → ℕ → Option Refusal
-future_refusal At.View last = None
-future_refusal At.Latest last = None
-future_refusal (At.Epoch n) last = if nat_lt last n then Some (Refusal.EpochInFuture n last) else None
-
--- the greatest epoch is closed, and there is something to commit
-abbrev pub spent_refusal : Bool → ℕ → Option Refusal
-spent_refusal changed last = if changed && nat_le 9223372036854775807 last then Some Refusal.EpochsSpent else None
-
--- why a statement in form is refused
-abbrev pub served_refusal : State → Statement → Option Refusal
-served_refusal state (Statement.Select at q) = future_refusal at state.database.last
-served_refusal state Statement.Commit = spent_refusal (has_changes (own_changes state)) state.database.last
-served_refusal state statement = None
-
--- Why a statement is refused, if it is. What is no statement in form is refused as Syntax at place 1.
-abbrev pub refusal_of : State → Option Statement → Option Refusal
-refusal_of state None = Some (Refusal.Syntax 1)
-refusal_of state (Some s) = if is_in_form state s then served_refusal state s else Some (Refusal.Syntax 1)
-
--- the projection that CREATE TABLE makes: all columns in order, sorted by all, each column encoded plainly
+-- the projection that CREATE TABLE makes: all columns in order, sorted by all, the encoding of each block the shortest
 abbrev pub super_shape : List ℕ → List NewColumn → ℕ → Shape
 super_shape name columns last = record {
   name = super_name name;
-  columns = map (λ e. (e.0, Encoding.Plain)) (enumerate_from 0 columns);
+  columns = enumerate_from 0 (map (λ c. Encoding.Auto) columns);
   sort = map (λ e. e.0) (enumerate_from 0 columns);
   fresh = true;
   lge = last;
@@ -60,16 +41,6 @@ new_table name columns last = record { name = name; columns = columns; rows = []
 abbrev pub with_table : Table → Database → Database
 with_table t d = record d { tables = put_table t d.tables }
 
--- what a column holds of a literal
-abbrev pub narrowed : Wide → Value
-narrowed Wide.Null = Value.Null
-narrowed (Wide.Bool b) = Value.Bool b
-narrowed (Wide.Int n) = Value.Int n
-narrowed (Wide.Text t) = Value.Text t
-
-abbrev pub inserted_rows : List (List Wide) → List (List Value)
-inserted_rows rows = map (map narrowed) rows
-
 -- a commit with changes closes the next epoch; the session's changes end
 abbrev pub after_commit : State → State
 after_commit state = with_changes [] (if has_changes (own_changes state) then (record state { database = committed (own_changes state) state.database }) else state)
@@ -77,8 +48,10 @@ after_commit state = with_changes [] (if has_changes (own_changes state) then (r
 -- the state that a statement leaves which isn't refused
 abbrev pub after : State → Statement → State
 after state (Statement.CreateTable name columns) = record state { database = with_table (new_table name columns state.database.last) state.database }
-after state (Statement.Insert i) = with_changes (with_rows i.table (inserted_rows i.rows) (own_changes state)) state
+after state (Statement.Insert i) = with_changes (with_rows i.table (inserted_rows i) (own_changes state)) state
 after state Statement.Commit = after_commit state
+after state Statement.Rollback = with_changes [] state
+after state (Statement.Session n) = record state { current = n }
 after state statement = state
 
 -- what a statement prints which isn't refused
@@ -86,8 +59,17 @@ abbrev pub Prints : State → Statement → List ℕ → Type 0
 Prints state (Statement.CreateTable name columns) text = text ≡ codes "CREATE TABLE\n"
 Prints state (Statement.Insert i) text = text ≡ insert_line (length i.rows)
 Prints state Statement.Commit text = text ≡ (if has_changes (own_changes state) then commit_line (state.database.last + 1) else codes "COMMIT\n")
-Prints state (Statement.Select at q) text = (listed : List (List Wide)) × IsListing (output_rows at q state) listed × (text ≡ listing_text listed)
+Prints state Statement.Rollback text = text ≡ codes "ROLLBACK\n"
+Prints state (Statement.Select at q) text = (listed : List (List Wide)) × IsAnswer at q state listed × (text ≡ listing_text listed)
+Prints state (Statement.Call f) text = text ≡ epoch_line (state.database.last + 1)
+Prints state (Statement.Session n) text = text ≡ []
 Prints state statement text = ⊥
+
+-- Why a text is refused, if it is: what spells no statement is refused at the exact place of the first token with which no statement
+-- goes on, and a statement for its own reasons.
+abbrev pub Decides : State → List ℕ → Option Statement → Option Refusal → Type 0
+Decides state text None why = (place : ℕ) × IsPlace Spells (symbols_of text) place × (why ≡ Some (Refusal.Syntax place))
+Decides state text (Some s) why = why ≡ refusal_of state s
 
 -- A refused statement prints its ERROR line and changes nothing. Any other prints and leaves what it is defined to.
 abbrev pub Effect : State → Option Statement → Option Refusal → List ℕ → State → Type 0
@@ -99,5 +81,5 @@ Effect old None None printed new = ⊥
 pub record Step (old : State) (text printed : List ℕ) (refusal : Option Refusal) (new : State) : Type 0 where
   pub read : Option Statement
   pub reads : Reads text read
-  pub decided : refusal ≡ refusal_of old read
+  pub decided : Decides old text read refusal
   pub effect : Effect old read refusal printed new

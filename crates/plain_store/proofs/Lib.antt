@@ -1,6 +1,5 @@
-pub mod Places
-pub mod Seen
-pub mod Singles
-pub mod Named
-pub mod Growing
-pub mod Alike
+mod Firsts
+mod Finding
+mod Binding
+mod Joining
+mod Steps

@@ -1,8 +1,10 @@
 ghost use Rattle.std.specs.Prelude.{◌≡◌, IfOk, Some};
-ghost use Rattle.db_model.specs.Step.{Reads, Step};
+ghost use Rattle.db_model.specs.Step.{Step};
+ghost use Rattle.plain_store.specs.Readings.{IsReading};
 ghost use Rattle.sql_tree.specs.Lines.{refusal_text};
 
 use crate::store::PlainStore;
+use sql_binder::BindFault;
 use sql_reader::{ReadFault, read};
 use sql_tree::{Refusal, Statement};
 use sql_words::words;
@@ -15,14 +17,21 @@ pub struct Answer {
     pub refusal: Option<Refusal>,
 }
 
-/// The statement that a text says, or None where it says none.
-fn read_statement(alloc: Global, text: &[u8]) -> Result<Option<Statement>, AllocError>
-    ensures { IfOk result (Reads text.now) }
+/// What a text says: a statement, or the place at which it spells none.
+#[derive(Drop)]
+enum Reading {
+    Says(Statement),
+    Wrong(u64),
+}
+
+/// The statement that a text says, or the place of the first token with which no statement goes on.
+fn read_statement(alloc: Global, text: &[u8]) -> Result<Reading, AllocError>
+    ensures { IfOk result (IsReading text.now) }
 {
     let tokens = words(alloc, text)?;
     match read(alloc, tokens.as_slice(), text) {
-        Ok(statement) => Ok(Some(statement)),
-        Err(ReadFault::Syntax { .. }) => Ok(None),
+        Ok(statement) => Ok(Reading::Says(statement)),
+        Err(ReadFault::Syntax { place }) => Ok(Reading::Wrong(place)),
         Err(ReadFault::Memory) => Err(AllocError),
     }
 }
@@ -46,19 +55,21 @@ impl PlainStore {
     pub fn answer(&mut self, alloc: Global, text: &[u8]) -> Result<Answer, AllocError>
         ensures { IfOk result (λ a. Step self.old text.now a.text.items a.refusal self.new) }
     {
-        let Some(statement) = read_statement(alloc, text)? else {
-            return refused(alloc, Refusal::Syntax(1));
+        let statement = match read_statement(alloc, text)? {
+            Reading::Says(statement) => statement,
+            Reading::Wrong(place) => return refused(alloc, Refusal::Syntax(place)),
         };
-        match self.refusal(alloc, &statement)? {
-            Some(refusal) => refused(alloc, refusal),
-            None => {
-                let text = self.text(alloc, &statement)?;
-                self.perform(alloc, &statement)?;
+        match self.plan(alloc, &statement) {
+            Ok(plan) => {
+                let text = self.text(alloc, &statement, &plan)?;
+                self.perform(alloc, &statement, plan)?;
                 Ok(Answer {
                     text,
                     refusal: None,
                 })
             }
+            Err(BindFault::Refused(refusal)) => refused(alloc, refusal),
+            Err(BindFault::Memory) => Err(AllocError),
         }
     }
 }

@@ -1,5 +1,5 @@
 -- What is held goes on being held where other files change.
-use Rattle.std.proofs.Common.{◌≡◌, ℕ, ◌*◌, ◌+◌, ◌<◌, List, refl, sym, ◌∙◌, ap, inl, inr, arith}
+use Rattle.std.proofs.Common.{◌≡◌, ℕ, ◌*◌, ◌+◌, ◌<◌, List, length, refl, sym, ◌∙◌, ap, inl, inr, arith}
 use Rattle.std.specs.Prelude.{◌⊎◌, Option, Some, None}
 use Rattle.std.specs.FinMap.{get}
 use Rattle.col_base.specs.Maps.{Contents}
@@ -7,6 +7,7 @@ use Rattle.col_disk.proofs.Moving.{changed_kept}
 use Rattle.col_disk.specs.Calls.{Stepped}
 use Rattle.col_disk.specs.Moved.{Changed, NoName, Named, Either}
 use Rattle.col_file.specs.Held.{HoldsColumn}
+use Rattle.col_value.specs.declared.kinds.Encoding.{Encoding}
 use Rattle.col_value.specs.declared.row.Asked.{Asked}
 use Rattle.col_value.specs.declared.value.Value.{Value}
 use Rattle.catalog_types.specs.declared.catalogue.Container.{Container}
@@ -14,8 +15,8 @@ use Rattle.ros_container.specs.Files.{body_of, index_of, IsFileOf}
 use Rattle.ros_container.specs.Held.{HoldsContainer}
 
 -- the two files of a column are as they were
-pub column_kept : (body index rows : ℕ) (m n : Contents) (vs : List Value) → get n body ≡ get m body → get n index ≡ get m index → HoldsColumn body index rows m vs → HoldsColumn body index rows n vs
-column_kept body index rows m n vs same_body same_index held = record {
+pub column_kept : (encoding : Encoding) (body index rows : ℕ) (m n : Contents) (vs : List Value) → get n body ≡ get m body → get n index ≡ get m index → HoldsColumn encoding body index rows m vs → HoldsColumn encoding body index rows n vs
+column_kept encoding body index rows m n vs same_body same_index held = record {
   at = held.at;
   is_index = held.is_index;
   fits = held.fits;
@@ -38,21 +39,21 @@ is_file base columns i lt q (inl is) = (2 * i, omega arith, is)
 is_file base columns i lt q (inr is) = (2 * i + 1, omega arith, omega arith)
 
 -- the files of a container are as they were
-pub rows_kept : (m n : Contents) (columns : ℕ) (k : Container) (rows : List Asked) → ((q : ℕ) → IsFileOf k.base columns q → get n q ≡ get m q) → HoldsContainer m columns k rows → HoldsContainer n columns k rows
-rows_kept m n columns k rows same held = record {
-  each = λ i lt. column_kept _ _ _ m n _ (same _ (is_body k.base columns i (omega arith))) (same _ (is_index k.base columns i (omega arith))) (held.each i lt);
-  epochs = column_kept _ _ _ m n _ (same _ (is_body k.base columns columns (omega arith))) (same _ (is_index k.base columns columns (omega arith))) held.epochs;
+pub rows_kept : (m n : Contents) (encodings : List Encoding) (k : Container) (rows : List Asked) → ((q : ℕ) → IsFileOf k.base (length encodings) q → get n q ≡ get m q) → HoldsContainer m encodings k rows → HoldsContainer n encodings k rows
+rows_kept m n encodings k rows same held = record {
+  each = λ i lt. column_kept _ _ _ _ m n _ (same _ (is_body k.base (length encodings) i (omega arith))) (same _ (is_index k.base (length encodings) i (omega arith))) (held.each i lt);
+  epochs = column_kept _ _ _ _ m n _ (same _ (is_body k.base (length encodings) (length encodings) (omega arith))) (same _ (is_index k.base (length encodings) (length encodings) (omega arith))) held.epochs;
   wide = held.wide;
   within = held.within;
 }
 
 -- two other files changed
-pub still_held : (base i j rows : ℕ) (vs : List Value) (old new : Option Contents) → j < i → Stepped (Changed (Either (Named (body_of base i)) (Named (index_of base i))) NoName) old new
-    → ((m : Contents) → old ≡ Some m → HoldsColumn (body_of base j) (index_of base j) rows m vs) → (n : Contents) → new ≡ Some n → HoldsColumn (body_of base j) (index_of base j) rows n vs
-still_held base i j rows vs None None lt step held n told = absurd (cc)
-still_held base i j rows vs None (Some t) lt step held n told = absurd step
-still_held base i j rows vs (Some m) None lt step held n told = absurd step
-still_held base i j rows vs (Some m) (Some t) lt step held n told = there t step told
+pub still_held : (encoding : Encoding) (base i j rows : ℕ) (vs : List Value) (old new : Option Contents) → j < i → Stepped (Changed (Either (Named (body_of base i)) (Named (index_of base i))) NoName) old new
+    → ((m : Contents) → old ≡ Some m → HoldsColumn encoding (body_of base j) (index_of base j) rows m vs) → (n : Contents) → new ≡ Some n → HoldsColumn encoding (body_of base j) (index_of base j) rows n vs
+still_held encoding base i j rows vs None None lt step held n told = absurd (cc)
+still_held encoding base i j rows vs None (Some t) lt step held n told = absurd step
+still_held encoding base i j rows vs (Some m) None lt step held n told = absurd step
+still_held encoding base i j rows vs (Some m) (Some t) lt step held n told = there t step told
   where
     W : ℕ → Type 0
     W = Either (Named (body_of base i)) (Named (index_of base i))
@@ -65,10 +66,10 @@ still_held base i j rows vs (Some m) (Some t) lt step held n told = there t step
     not_index (inl is) = omega arith
     not_index (inr is) = omega arith
 
-    there : (t : Contents) → Changed W NoName m t → ◌≡◌ {A = Option Contents} (Some t) (Some n) → HoldsColumn (body_of base j) (index_of base j) rows n vs
+    there : (t : Contents) → Changed W NoName m t → ◌≡◌ {A = Option Contents} (Some t) (Some n) → HoldsColumn encoding (body_of base j) (index_of base j) rows n vs
     there t changed told =
         let same : t ≡ n = cc in
-        column_kept _ _ _ m n vs
+        column_kept _ _ _ _ m n vs
         (ap (λ (c : Contents). get c (body_of base j)) (sym same) ∙ changed_kept W NoName m t _ not_body (λ is. is) changed)
         (ap (λ (c : Contents). get c (index_of base j)) (sym same) ∙ changed_kept W NoName m t _ not_index (λ is. is) changed)
         (held m refl)

@@ -1,5 +1,6 @@
 pub mod Rows
 pub mod Order
 pub mod Files
+pub mod Encodings
 pub mod Held
 pub mod Parts

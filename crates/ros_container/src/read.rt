@@ -7,16 +7,19 @@ ghost use Rattle.col_base.specs.Maps.{Contents};
 ghost use Rattle.col_disk.specs.Moved.{Moved, NoName};
 ghost use Rattle.col_file.specs.Held.{HoldsColumn};
 ghost use Rattle.col_value.specs.Order.{IsValue};
+ghost use Rattle.col_value.specs.declared.kinds.Encoding.TheVariants.{Auto};
+ghost use Rattle.ros_container.specs.Encodings.{encodings_of, encoding_at};
 ghost use Rattle.ros_container.specs.Files.{body_of, index_of};
 ghost use Rattle.ros_container.specs.Held.{HoldsContainer, BlamesContainer, HoldsNoRows};
 ghost use Rattle.ros_container.specs.Rows.{epoch_values, AreRows, AreWide, AreWithin};
 
 use crate::files::{body_of, index_of};
+use crate::fitting::encoding_of;
 use crate::transpose::{blank_rows, with_values};
 use catalog_types::{Container, Projection};
 use col_disk::{Disk, StoreFault};
 use col_file::{one_column, read_column};
-use col_value::{Asked, Encoding, Value};
+use col_value::{Asked, Value};
 use std::alloc::{AllocError, Global};
 
 /// The values of one column, or behind the columns the epochs.
@@ -24,22 +27,22 @@ fn read_one<D: Disk>(
     alloc: Global,
     disk: &mut D,
     entry: &Container,
-    columns: usize,
+    shape: &Projection,
     column: usize,
-    encoding: Encoding,
 ) -> Result<Vec<Value>, StoreFault>
-    requires numbers { entry.now.base + 2 * columns + 1 < 2 ^ 62 }
-    requires column { column ≤ columns }
-    ensures found { IfOk result (λ v. (m : Contents) → D.holds disk.old ≡ Some m → HoldsColumn (body_of entry.now.base column) (index_of entry.now.base column) entry.now.rows m v.items) }
+    requires numbers { entry.now.base + 2 * length shape.now.columns + 1 < 2 ^ 62 }
+    requires column { column ≤ length shape.now.columns }
+    ensures found { IfOk result (λ v. (m : Contents) → D.holds disk.old ≡ Some m → HoldsColumn (encoding_at (encodings_of shape.now) column) (body_of entry.now.base column) (index_of entry.now.base column) entry.now.rows m v.items) }
     ensures long { IfOk result (λ v. length v.items ≡ entry.now.rows) }
     ensures values { IfOk result (λ v. All IsValue v.items) }
-    ensures blamed { IfErr result (BlamesContainer columns entry.now (D.holds disk.old)) }
+    ensures blamed { IfErr result (BlamesContainer (encodings_of shape.now) entry.now (D.holds disk.old)) }
     ensures kept { D.holds disk.new ≡ D.holds disk.old }
     ensures moved { Moved ⟦<D as Disk>⟧ NoName NoName disk.old disk.new }
     ensures cause { HasCause StoreFault.Disk (D.faults disk.old) (D.faults disk.new) result }
 {
     let body = body_of(entry.base, column);
     let index = index_of(entry.base, column);
+    let encoding = encoding_of(shape, column);
     read_column(alloc, disk, body, index, entry.rows, encoding)
 }
 
@@ -48,20 +51,21 @@ fn rows_of<D: Disk>(
     alloc: Global,
     disk: &mut D,
     entry: &Container,
-    columns: usize,
+    shape: &Projection,
 ) -> Result<Vec<Asked>, StoreFault>
-    requires numbers { entry.now.base + 2 * columns + 1 < 2 ^ 62 }
-    ensures found { IfOk result (λ v. (m : Contents) → D.holds disk.old ≡ Some m → HoldsColumn (body_of entry.now.base columns) (index_of entry.now.base columns) entry.now.rows m (epoch_values v.items)) }
+    requires numbers { entry.now.base + 2 * length shape.now.columns + 1 < 2 ^ 62 }
+    ensures found { IfOk result (λ v. (m : Contents) → D.holds disk.old ≡ Some m → HoldsColumn Auto (body_of entry.now.base (length (encodings_of shape.now))) (index_of entry.now.base (length (encodings_of shape.now))) entry.now.rows m (epoch_values v.items)) }
     ensures long { IfOk result (λ v. length v.items ≡ entry.now.rows) }
     ensures wide { IfOk result (λ v. AreWide 0 v.items) }
     ensures values { IfOk result (λ v. AreRows v.items) }
     ensures within { IfOk result (λ v. AreWithin entry.now v.items) }
-    ensures blamed { IfErr result (BlamesContainer columns entry.now (D.holds disk.old)) }
+    ensures blamed { IfErr result (BlamesContainer (encodings_of shape.now) entry.now (D.holds disk.old)) }
     ensures kept { D.holds disk.new ≡ D.holds disk.old }
     ensures moved { Moved ⟦<D as Disk>⟧ NoName NoName disk.old disk.new }
     ensures cause { HasCause StoreFault.Disk (D.faults disk.old) (D.faults disk.new) result }
 {
-    match read_one(alloc, disk, entry, columns, columns, Encoding::Auto) {
+    let columns = shape.columns.as_slice().len();
+    match read_one(alloc, disk, entry, shape, columns) {
         Ok(epochs) => match blank_rows(alloc, columns, entry, epochs.as_slice()) {
             Ok(Some(rows)) => Ok(rows),
             Ok(None) => {
@@ -84,24 +88,23 @@ pub fn rows<D: Disk>(
     shape: &Projection,
 ) -> Result<Vec<Asked>, StoreFault>
     requires numbers { entry.now.base + 2 * length shape.now.columns + 1 < 2 ^ 62 }
-    ensures found { IfOk result (λ v. (m : Contents) → D.holds disk.old ≡ Some m → HoldsContainer m (length shape.now.columns) entry.now v.items) }
+    ensures found { IfOk result (λ v. (m : Contents) → D.holds disk.old ≡ Some m → HoldsContainer m (encodings_of shape.now) entry.now v.items) }
     ensures long { IfOk result (λ v. length v.items ≡ entry.now.rows) }
     ensures wide { IfOk result (λ v. AreWide (length shape.now.columns) v.items) }
     ensures values { IfOk result (λ v. AreRows v.items) }
     ensures within { IfOk result (λ v. AreWithin entry.now v.items) }
-    ensures blamed { IfErr result (BlamesContainer (length shape.now.columns) entry.now (D.holds disk.old)) }
-    ensures none { IfErr result (HoldsNoRows (length shape.now.columns) entry.now (D.holds disk.old)) }
+    ensures blamed { IfErr result (BlamesContainer (encodings_of shape.now) entry.now (D.holds disk.old)) }
+    ensures none { IfErr result (HoldsNoRows (encodings_of shape.now) entry.now (D.holds disk.old)) }
     ensures kept { D.holds disk.new ≡ D.holds disk.old }
     ensures moved { Moved ⟦<D as Disk>⟧ NoName NoName disk.old disk.new }
     ensures cause { HasCause StoreFault.Disk (D.faults disk.old) (D.faults disk.new) result }
 {
-    let columns = shape.columns.as_slice();
-    let mut rows = match rows_of(alloc, disk, entry, columns.len()) {
+    let mut rows = match rows_of(alloc, disk, entry, shape) {
         Ok(rows) => rows,
         Err(fault) => return Err(fault),
     };
-    for (i, column) in columns.iter().enumerate() {
-        let values = match read_one(alloc, disk, entry, columns.len(), i, column.encoding) {
+    for i in 0..shape.columns.as_slice().len() {
+        let values = match read_one(alloc, disk, entry, shape, i) {
             Ok(values) => values,
             Err(fault) => return Err(fault),
         };

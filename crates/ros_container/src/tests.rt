@@ -6,12 +6,12 @@ use col_value::{Asked, Encoding, List, Name, Text, Value};
 use std::alloc::{AllocError, Global};
 use std::test::*;
 
-fn shape(alloc: Global, columns: usize, sort: &[usize]) -> Result<Projection, AllocError> {
+fn shape(alloc: Global, encodings: &[Encoding], sort: &[usize]) -> Result<Projection, AllocError> {
     let mut list = Vec::new(alloc);
-    for ordinal in 0..columns {
+    for (ordinal, encoding) in encodings.iter().enumerate() {
         list.push(ProjColumn {
             ordinal,
-            encoding: Encoding::Plain,
+            encoding: *encoding,
         })?;
     }
     Ok(Projection {
@@ -37,17 +37,8 @@ fn entry(rows: u64, least_epoch: u64, greatest_epoch: u64) -> Container {
     }
 }
 
-fn one(alloc: Global, a: i64, ins: u64) -> Result<Asked, AllocError> {
-    let mut row = Vec::new(alloc);
-    row.push(Value::Int(a))?;
-    Ok(Asked {
-        row: List::new(row),
-        ins,
-    })
-}
-
-// a number and a text, or NULL for an empty one
-fn two(alloc: Global, a: i64, b: &str, ins: u64) -> Result<Asked, AllocError> {
+// a number, and a text or NULL for an empty one
+fn asked(alloc: Global, a: i64, b: &str, ins: u64) -> Result<Asked, AllocError> {
     let mut row = Vec::new(alloc);
     row.push(Value::Int(a))?;
     row.push(if b.is_empty() {
@@ -67,8 +58,7 @@ fn write(
     shape: &Projection,
     rows: &[Asked],
 ) -> Result<(), DiskFault> {
-    let columns = shape.columns.as_slice().len();
-    if columns > 64 || rows.is_empty() || !are_rows(columns, rows) {
+    if shape.columns.as_slice().len() > 64 || rows.is_empty() || !are_rows(shape, rows) {
         return Err(DiskFault::Memory);
     }
     write_rows(alloc, disk, 1, shape, rows)
@@ -86,100 +76,80 @@ fn read(
     rows(alloc, disk, entry, shape)
 }
 
-const BODY: [u8; 20] = [4, 2, 1, 0, 0, 0, 0, 0, 0, 0, 1, 1, 0, 0, 0, 0, 0, 0, 0, 2];
-
-const INDEX: [u8; 21] = [
-    2, 0, 0, 1, 0, 0, 0, 0, 0, 0, 0, 1, 1, 0, 0, 0, 0, 0, 0, 0, 2,
+// the rows -7 NULL and 5 b of the epochs 2 and 1, the first column DELTAVAL, the second PLAIN
+const FILES: [(u64, &[u8]); 6] = [
+    (
+        4,
+        &[2, 2, 0xff, 0xff, 0xff, 0xff, 0xff, 0xff, 0xff, 0xf9, 1, 13],
+    ),
+    (
+        8,
+        &[
+            2, 0, 0, 1, 0xff, 0xff, 0xff, 0xff, 0xff, 0xff, 0xff, 0xf9, 1, 0, 0, 0, 0, 0, 0, 0, 5,
+        ],
+    ),
+    (12, &[4, 2, 0, 2, 0, 0, 0, 1, 0x62]),
+    (16, &[2, 0, 0, 0, 2, 0, 0, 0, 1, 0x62]),
+    (20, &[2, 2, 0, 0, 0, 0, 0, 0, 0, 1, 2, 1]),
+    (
+        24,
+        &[
+            2, 0, 0, 1, 0, 0, 0, 0, 0, 0, 0, 1, 1, 0, 0, 0, 0, 0, 0, 0, 2,
+        ],
+    ),
 ];
 
-const EPOCHS: [u8; 20] = [4, 2, 1, 0, 0, 0, 0, 0, 0, 0, 1, 1, 0, 0, 0, 0, 0, 0, 0, 1];
-
-const EPOCHS_INDEX: [u8; 21] = [
-    2, 0, 0, 1, 0, 0, 0, 0, 0, 0, 0, 1, 1, 0, 0, 0, 0, 0, 0, 0, 1,
-];
-
-fn worked(alloc: Global, disk: &mut MemDisk) -> Result<(), DiskFault> {
-    let mut list = Vec::new(alloc);
-    list.push(one(alloc, 1, 1)?)?;
-    list.push(one(alloc, 2, 1)?)?;
-    write(alloc, disk, &shape(alloc, 1, &[0])?, list.as_slice())
-}
+// the epochs as a PLAIN block
+const PLAIN_EPOCHS: [u8; 20] = [4, 2, 1, 0, 0, 0, 0, 0, 0, 0, 2, 1, 0, 0, 0, 0, 0, 0, 0, 1];
 
 #[test]
 fn worked_container(rt: HostRuntime) -> Result<(), Fail> {
     let alloc = rt.alloc();
+    let shape = shape(alloc, &[Encoding::DeltaVal, Encoding::Plain], &[1])?;
+    let mut list = Vec::new(alloc);
+    list.push(asked(alloc, 5, "b", 1)?)?;
+    list.push(asked(alloc, -7, "", 2)?)?;
+    let sorted = sort_rows(&shape, list)?;
     let mut disk = MemDisk::new(alloc);
-    worked(alloc, &mut disk)?;
-    assert!(rt; disk.bytes(4) == Some(BODY.as_slice()));
-    assert!(rt; disk.bytes(8) == Some(INDEX.as_slice()));
-    assert!(rt; disk.bytes(12) == Some(EPOCHS.as_slice()));
-    assert!(rt; disk.bytes(16) == Some(EPOCHS_INDEX.as_slice()));
-    assert!(rt; disk.bytes(20).is_none());
-    let shape = shape(alloc, 1, &[0])?;
-    let back = read(alloc, &mut disk, &entry(2, 1, 1), &shape)?;
-    assert_eq!(rt; back.len(), 2);
-    assert!(rt; back.get(0) == Some(&one(alloc, 1, 1)?));
-    assert!(rt; back.get(1) == Some(&one(alloc, 2, 1)?));
+    write(alloc, &mut disk, &shape, sorted.as_slice())?;
+    for (name, bytes) in FILES {
+        assert!(rt; disk.bytes(name) == Some(bytes), "at {name}");
+    }
+    disk = disk.with(20, &PLAIN_EPOCHS)?;
+    let back = read(alloc, &mut disk, &entry(2, 1, 2), &shape)?;
+    assert!(rt; back == sorted);
     Ok(())
 }
 
 #[test]
 fn spoilt_containers(rt: HostRuntime) -> Result<(), Fail> {
     let alloc = rt.alloc();
-    let shape = shape(alloc, 1, &[0])?;
-    // epochs that are not the entry's
-    for (least, greatest) in [(2u64, 3u64), (0, 0)] {
+    let shape = shape(alloc, &[Encoding::DeltaVal, Encoding::Plain], &[1])?;
+    // a file with a byte that has no meaning, or epochs that are not the entry's
+    for (spoilt, least, greatest, blamed) in [
+        (4u64, 1u64, 2u64, 4u64),
+        (8, 1, 2, 8),
+        (12, 1, 2, 12),
+        (20, 1, 2, 20),
+        (24, 1, 2, 24),
+        (28, 2, 3, 20),
+        (28, 0, 1, 20),
+    ] {
         let mut disk = MemDisk::new(alloc);
-        worked(alloc, &mut disk)?;
+        for (name, bytes) in FILES {
+            disk = disk.with(name, bytes)?;
+        }
+        disk = disk.with(spoilt, &[9])?;
         let fault = read(alloc, &mut disk, &entry(2, least, greatest), &shape).err();
-        assert_eq!(rt; fault, Some(StoreFault::Damaged(12)), "from {least}");
+        assert_eq!(rt; fault, Some(StoreFault::Damaged(blamed)), "at {spoilt}");
     }
-    // one file of the four with a byte that has no meaning
-    for name in [4u64, 8, 12, 16] {
-        let mut disk = MemDisk::new(alloc);
-        worked(alloc, &mut disk)?;
-        disk = disk.with(name, &[9])?;
-        let fault = read(alloc, &mut disk, &entry(2, 1, 1), &shape).err();
-        assert_eq!(rt; fault, Some(StoreFault::Damaged(name)), "at {name}");
-    }
-    Ok(())
-}
-
-#[test]
-fn two_columns(rt: HostRuntime) -> Result<(), Fail> {
-    let alloc = rt.alloc();
-    let shape = shape(alloc, 2, &[1])?;
-    let mut list = Vec::new(alloc);
-    list.push(two(alloc, 5, "", 2)?)?;
-    list.push(two(alloc, 5, "b", 3)?)?;
-    list.push(two(alloc, -1, "a", 1)?)?;
-    list.push(two(alloc, 5, "b", 1)?)?;
-    list.push(two(alloc, -7, "b", 4)?)?;
-    let sorted = sort_rows(&shape, list)?;
-    let mut disk = MemDisk::new(alloc);
-    write(alloc, &mut disk, &shape, sorted.as_slice())?;
-    let back = read(alloc, &mut disk, &entry(5, 1, 4), &shape)?;
-    let wanted = [
-        two(alloc, 5, "", 2)?,
-        two(alloc, -1, "a", 1)?,
-        two(alloc, -7, "b", 4)?,
-        two(alloc, 5, "b", 1)?,
-        two(alloc, 5, "b", 3)?,
-    ];
-    assert_eq!(rt; back.len(), 5);
-    for (got, asked) in back.as_slice().iter().zip(wanted.iter()) {
-        assert!(rt; got == asked);
-    }
-    Ok(())
-}
-
-#[test]
-fn a_fault_in_mid_write(rt: HostRuntime) -> Result<(), Fail> {
-    let alloc = rt.alloc();
     let mut disk = MemDisk::new(alloc).failing_at(&[2])?;
-    assert_eq!(rt; worked(alloc, &mut disk), Err(DiskFault::Failed));
-    assert_eq!(rt; disk.faults(), 1);
-    assert!(rt; disk.bytes(8) == Some(INDEX.as_slice()));
-    assert!(rt; disk.bytes(16).is_none());
+    let mut list = Vec::new(alloc);
+    list.push(asked(alloc, 5, "b", 1)?)?;
+    assert_eq!(rt;
+        write(alloc, &mut disk, &shape, list.as_slice()),
+        Err(DiskFault::Failed)
+    );
+    assert!(rt; disk.faults() == 1 && disk.bytes(8).is_some() && disk.bytes(16).is_none());
     Ok(())
 }

@@ -9,15 +9,17 @@ ghost use Rattle.col_disk.specs.Moved.{Moved, NoName, Named, Either};
 ghost use Rattle.col_file.specs.Column.{IsColumn};
 ghost use Rattle.col_file.specs.Held.{HoldsColumn};
 ghost use Rattle.col_value.specs.declared.value.Value.TheVariants.{Null};
+ghost use Rattle.ros_container.specs.Encodings.{encodings_of, encoding_at, AreTaken};
 ghost use Rattle.ros_container.specs.Files.{body_of, index_of, IsFileOf};
 ghost use Rattle.ros_container.specs.Held.{HoldsContainer};
 ghost use Rattle.ros_container.specs.Rows.{column_values, epoch_values, stored_values, AreRows, AreWide, AreWithin};
 
 use crate::files::{body_of, index_of};
+use crate::fitting::encoding_of;
 use catalog_types::Projection;
 use col_disk::{Disk, DiskFault};
 use col_file::write_column;
-use col_value::{Asked, Encoding, Row, Value};
+use col_value::{Asked, Row, Value};
 use std::alloc::{AllocError, Global};
 
 /// The value of a row in a column; one that is not there is NULL.
@@ -68,15 +70,8 @@ fn stored_values(
     }
 }
 
-/// How a column is written; the epochs are AUTO.
-fn encoding_of(shape: &Projection, column: usize) -> Encoding {
-    match shape.columns.as_slice().get(column) {
-        Some(column) => column.encoding,
-        None => Encoding::Auto,
-    }
-}
-
-/// Makes the two files of one column of a container: a column of the projection, or behind them the epochs. After a
+/// Makes the two files of one column of a container: a column of the projection, in its encoding, or behind them the epochs,
+/// which are AUTO. A DELTAVAL column has numbers and NULL alone. After a
 /// fault each of the two files is as it was, absent, or holds anything, and no other file is touched.
 pub fn write_one<D: Disk>(
     alloc: Global,
@@ -92,8 +87,9 @@ pub fn write_one<D: Disk>(
     requires wide { AreWide (length shape.now.columns) rows.now }
     requires values { AreRows rows.now }
     requires epochs { All (λ a. a.ins ≤ 2 ^ 63 - 1) rows.now }
-    ensures written { OnOk result (IsColumn (body_of base column) (index_of base column) (stored_values (length shape.now.columns) column rows.now) (D.holds disk.new)) }
-    ensures held { OnOk result ((m : Contents) → D.holds disk.new ≡ Some m → HoldsColumn (body_of base column) (index_of base column) (length rows.now) m (stored_values (length shape.now.columns) column rows.now)) }
+    requires taken { AreTaken (encodings_of shape.now) rows.now }
+    ensures written { OnOk result (IsColumn (encoding_at (encodings_of shape.now) column) (body_of base column) (index_of base column) (stored_values (length shape.now.columns) column rows.now) (D.holds disk.new)) }
+    ensures held { OnOk result ((m : Contents) → D.holds disk.new ≡ Some m → HoldsColumn (encoding_at (encodings_of shape.now) column) (body_of base column) (index_of base column) (length rows.now) m (stored_values (length shape.now.columns) column rows.now)) }
     ensures moved { Moved ⟦<D as Disk>⟧ (Either (Named (body_of base column)) (Named (index_of base column))) NoName disk.old disk.new }
     ensures cause { HasCause DiskFault.Failed (D.faults disk.old) (D.faults disk.new) result }
 {
@@ -121,7 +117,8 @@ pub fn write_rows<D: Disk>(
     requires wide { AreWide (length shape.now.columns) rows.now }
     requires values { AreRows rows.now }
     requires epochs { All (λ a. a.ins ≤ 2 ^ 63 - 1) rows.now }
-    ensures held { OnOk result ((m : Contents) → D.holds disk.new ≡ Some m → (k : Entry) → k.base ≡ base → k.rows ≡ length rows.now → AreWithin k rows.now → HoldsContainer m (length shape.now.columns) k rows.now) }
+    requires taken { AreTaken (encodings_of shape.now) rows.now }
+    ensures held { OnOk result ((m : Contents) → D.holds disk.new ≡ Some m → (k : Entry) → k.base ≡ base → k.rows ≡ length rows.now → AreWithin k rows.now → HoldsContainer m (encodings_of shape.now) k rows.now) }
     ensures moved { Moved ⟦<D as Disk>⟧ (IsFileOf base (length shape.now.columns)) NoName disk.old disk.new }
     ensures cause { HasCause DiskFault.Failed (D.faults disk.old) (D.faults disk.new) result }
 {

@@ -3,14 +3,14 @@ use Rattle.col_file.proofs.ByBlocks.{goes_on, ended, none_there}
 use Rattle.col_file.proofs.whole.read_blocks.Goals as goal
 
 pub returns-in-Err-read_on-clause-blamed : goal.returns-in-Err-read_on-clause-blamed
-returns-in-Err-read_on-clause-blamed g c = none_there c.args.body c.args.at.now c.loop-k.k (g.D.Disk.holds c.args.disk.now) (g.D.Disk.holds c.loop-k.disk) c.in-Err-read_on.fault (search rules) c.loop-k.invariant.kept c.in-Err-read_on.ensures.blamed
+returns-in-Err-read_on-clause-blamed g c = none_there c.args.encoding c.args.body c.args.at.now c.loop-k.k (g.D.Disk.holds c.args.disk.now) (g.D.Disk.holds c.loop-k.disk) c.in-Err-read_on.fault (search rules) c.loop-k.invariant.kept c.in-Err-read_on.ensures.blamed
 
 pub loop-k-preserved : goal.loop-k-preserved
 loop-k-preserved g c = record {
-  so_far = goes_on c.args.body c.args.at.now c.loop-k.k (g.D.Disk.holds c.args.disk.now) (g.D.Disk.holds c.loop-k.disk) c.loop-k.values.items c.read_on.new.values.items c.requires (search rules) c.loop-k.invariant.kept c.loop-k.invariant.so_far c.in-Ok-read_on.ensures.found;
+  so_far = goes_on c.args.encoding c.args.body c.args.at.now c.loop-k.k (g.D.Disk.holds c.args.disk.now) (g.D.Disk.holds c.loop-k.disk) c.loop-k.values.items c.read_on.new.values.items c.requires (search rules) c.loop-k.invariant.kept c.loop-k.invariant.so_far c.in-Ok-read_on.ensures.found;
   kept = search rules;
   moved = search rules;
 }
 
 pub returns-clause-found : goal.returns-clause-found
-returns-clause-found g c = ended c.args.body c.args.at.now c.loop-k.k (g.D.Disk.holds c.args.disk.now) c.loop-k.values.items c.requires (search rules) c.loop-k.invariant.so_far
+returns-clause-found g c = ended c.args.encoding c.args.body c.args.at.now c.loop-k.k (g.D.Disk.holds c.args.disk.now) c.loop-k.values.items c.requires (search rules) c.loop-k.invariant.so_far

@@ -5,7 +5,7 @@ use Rattle.col_file.proofs.whole.read_blocks.Given as goal
 
 abbrev pub invariant-loop-k : goal.invariant-loop-k
 invariant-loop-k g l = record {
-  so_far : SoFar l.body l.at l.k (g.D.Disk.holds l.fn.disk) l.values.items;
+  so_far : SoFar l.encoding l.body l.at l.k (g.D.Disk.holds l.fn.disk) l.values.items;
   kept : g.D.Disk.holds l.disk ≡ g.D.Disk.holds l.fn.disk;
   moved : Moved g.D.Disk NoName NoName l.fn.disk l.disk;
 }

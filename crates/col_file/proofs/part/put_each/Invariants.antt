@@ -1,6 +1,0 @@
-use Rattle.std.proofs.Common.{◌≡◌, ◌++◌, take}
-use Rattle.std.specs.List.{flat_map}
-use Rattle.col_file.proofs.part.put_each.Given as goal
-
-abbrev pub invariant-loop-part : goal.invariant-loop-part
-invariant-loop-part g l = l.out.items ≡ l.fn.out.items ++ flat_map g.T.Part.spelling (take l.part-index l.parts)

@@ -1,9 +1,0 @@
-use Rattle.std.proofs.Common.{arith}
-use Rattle.col_file.proofs.Parts.{plain_found, plain_none}
-use Rattle.col_file.proofs.plain.take_plain.Goals as goal
-
-pub returns-clause-found : goal.returns-clause-found
-returns-clause-found c = plain_found c.args.bytes.now c.found_in.result (λ i. omega (arith, c.type_inv.bytes i)) c.found_in.ensures
-
-pub returns-clause-none : goal.returns-clause-none
-returns-clause-none c = plain_none c.args.bytes.now c.found_in.result c.found_in.ensures

@@ -1,9 +1,0 @@
-use Rattle.std.proofs.Common.{rules}
-use Rattle.plain_store.proofs.Seen.{view_added}
-use Rattle.plain_store.specs.Views.{singles}
-use Rattle.plain_store.proofs.listing.add_view.Goals as goal
-
-pub returns : goal.returns
-returns c = view_added c.args.last c.args.place c.args.pending.now c.args.table.now (singles c.args.out.now.items) (singles c.add_visible.new.out.items) (singles c.add_rows_of.new.out.items)
-    c.as_slice.result.now c.waiting_rows-waiting.result.now c.from.result
-    c.in_ok-add_visible.ensures c.in_ok-add_rows_of.ensures (search rules) (search rules) (search rules)

@@ -1,0 +1,4 @@
+mod Seen
+mod Places
+mod Taken
+pub mod OneTable

@@ -1,0 +1,51 @@
+-- What a session sees of a table in memory: no row of it waits to be deleted.
+use Rattle.std.proofs.Common.{◌≡◌, ℕ, List, [], ◌∷◌, ◌++◌, Bool, true, false, cond, map, refl, sym, ◌∙◌, ap, append_assoc}
+use Rattle.std.specs.Prelude.{filter}
+use Rattle.std.proofs.lemmas.List.{map-append}
+use Rattle.std.proofs.lemmas.List.Elements.{filter-append}
+use Rattle.col_value.specs.declared.value.Value.{Value}
+use Rattle.col_value.specs.declared.wide.Wide.{Wide}
+use Rattle.col_value.specs.declared.row.Asked.{Asked}
+use Rattle.col_value.specs.declared.row.Stamped.{Stamped}
+use Rattle.sql_bound.specs.declared.query.BoundQuery.{BoundQuery}
+use Rattle.sql_bound.specs.Values.{of_row, value_of}
+use Rattle.sql_bound.specs.Outputs.{is_kept}
+use Rattle.db_model.specs.Database.{visible}
+use Rattle.db_model.specs.State.{pending_rows, pending_deletes, session_view, without}
+use Rattle.plain_tables.specs.declared.table.Table.{Table}
+use Rattle.plain_tables.specs.declared.table.Pending.{Pending}
+use Rattle.plain_tables.specs.Outputs.{outputs_of}
+use Rattle.plain_tables.specs.Views.{table_of, changes_of}
+
+-- the output rows of some rows and of some more
+pub outputs_append : (q : BoundQuery) (xs ys : List (List Value)) → outputs_of q (xs ++ ys) ≡ outputs_of q xs ++ outputs_of q ys
+outputs_append q xs ys =
+    ap (λ (rows : List (List Value)). map (λ row. map (value_of (of_row row)) q.items) rows) (filter-append (is_kept q.keep) xs ys)
+    ∙ map-append (λ row. map (value_of (of_row row)) q.items) (filter (is_kept q.keep) xs) (filter (is_kept q.keep) ys)
+
+either_empty : (b : Bool) (xs : List Asked) → xs ≡ [] → cond b [] xs ≡ []
+either_empty true xs is = refl
+either_empty false xs is = is
+
+no_deletes : (name : List ℕ) (ps : List Pending) → pending_deletes name (map changes_of ps) ≡ []
+no_deletes name [] = refl
+no_deletes name (p ∷ ps) = either_empty _ _ (no_deletes name ps)
+
+seen_rows : (last : ℕ) (ps : List Pending) (t : Table)
+    → visible last t.rows.items ++ pending_rows t.name (map changes_of ps) ≡ session_view last (map changes_of ps) (table_of t)
+seen_rows last ps t =
+    sym (ap (λ (gone : List Asked). without (map (λ a. a.row) gone) (visible last t.rows.items) ++ pending_rows t.name (map changes_of ps)) (no_deletes t.name ps))
+
+-- output rows that were added one list after the other are those of all that the session sees
+pub view_added : (q : BoundQuery) (last : ℕ) (ps : List Pending) (t : Table) (old mid new : List (List Wide)) (rows : List Stamped) (waiting : List (List Value)) (shown : ℕ)
+    → mid ≡ old ++ outputs_of q (visible shown rows) → new ≡ mid ++ outputs_of q waiting
+    → shown ≡ last → rows ≡ t.rows.items → waiting ≡ pending_rows t.name (map changes_of ps)
+    → new ≡ old ++ outputs_of q (session_view last (map changes_of ps) (table_of t))
+view_added q last ps t old mid new rows waiting shown first second newest same waits =
+    second ∙ ap (λ (front : List (List Wide)). front ++ outputs_of q waiting) first
+    ∙ append_assoc old (outputs_of q (visible shown rows)) (outputs_of q waiting)
+    ∙ ap (λ (epoch : ℕ). old ++ (outputs_of q (visible epoch rows) ++ outputs_of q waiting)) newest
+    ∙ ap (λ (stored : List Stamped). old ++ (outputs_of q (visible last stored) ++ outputs_of q waiting)) same
+    ∙ ap (λ (own : List (List Value)). old ++ (outputs_of q (visible last t.rows.items) ++ outputs_of q own)) waits
+    ∙ ap (λ (seen : List (List Wide)). old ++ seen) (sym (outputs_append q (visible last t.rows.items) (pending_rows t.name (map changes_of ps))))
+    ∙ ap (λ (seen : List (List Value)). old ++ outputs_of q seen) (seen_rows last ps t)

@@ -1,0 +1,18 @@
+-- The output rows of a query without groups over the rows of its one table.
+use Rattle.std.specs.Prelude.{◌≡◌, true, List, [], map, filter}
+use Rattle.std.specs.List.{All}
+use Rattle.col_value.specs.declared.value.Value.{Value}
+use Rattle.col_value.specs.declared.wide.Wide.{Wide}
+use Rattle.sql_bound.specs.declared.query.BoundQuery.{BoundQuery}
+use Rattle.sql_bound.specs.Values.{of_row, value_of}
+use Rattle.sql_bound.specs.Bounds.{is_narrow}
+use Rattle.sql_bound.specs.Outputs.{is_kept}
+
+-- each number in a query has a static bound that a result holds
+pub record AreNarrow (q : BoundQuery) : Type 0 where
+  pub items : All (λ e. is_narrow [] e ≡ true) q.items
+  pub keep : All (λ e. is_narrow [] e ≡ true) q.keep
+
+-- the output rows of a query without groups over these rows of its table
+abbrev pub outputs_of : BoundQuery → List (List Value) → List (List Wide)
+outputs_of q rows = map (λ row. map (value_of (of_row row)) q.items) (filter (is_kept q.keep) rows)
