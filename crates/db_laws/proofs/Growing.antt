@@ -15,13 +15,13 @@ use Rattle.sql_tree.specs.declared.statement.Statement.{Statement}
 use Rattle.sql_tree.specs.declared.refusal.Refusal.{Refusal}
 use Rattle.sql_binder.specs.Inserts.{inserted_rows}
 use Rattle.sql_binder.specs.Names.{first_of}
-use Rattle.db_model.specs.Database.{Table, Database, table_named, is_taken, put_table, mark_all}
+use Rattle.db_model.specs.Database.{Shape, Table, Database, table_named, is_taken, put_table, mark_all}
 use Rattle.db_model.specs.State.{State, Changes, opened_state, own_changes, with_changes, with_rows, joined, has_changes, inserted_at, commit_into, change_named, commit_changes, committed}
 use Rattle.db_model.specs.Forms.{is_built}
 use Rattle.db_model.specs.Refusing.{refusal_of, served_refusal, create_refusal, create_limit, taken_name, if_taken}
 use Rattle.db_model.specs.Step.{Step, Decides, Effect, new_table, with_table, after}
 use Rattle.db_model.specs.Run.{RunTexts}
-use Rattle.db_model.specs.Growth.{early, rows_named, IsOpened, HasGrown}
+use Rattle.db_model.specs.Growth.{early, rows_named, shapes_named, IsOpened, HasGrown}
 use Rattle.db_laws.proofs.Named.{both_hold, denied, free_name, unnamed, put_length, put_all, put_named, change_length, change_all, change_there}
 
 -- no row of these changes waits to be deleted
@@ -31,6 +31,10 @@ IsBare c = c.deletes ≡ []
 -- of a table's rows up to an epoch, those that it had in the database are left
 abbrev pub HasEarly : ℕ → List Table → Table → Type 0
 HasEarly epoch tables u = early epoch u.rows ≡ rows_named u.name tables
+
+-- one that was in the database has the projections that it had there
+abbrev pub HasShapes : List Table → Table → Type 0
+HasShapes tables u = u.shapes ≡ shapes_named u.name u.shapes tables
 
 above : (e epoch : ℕ) → e < epoch → nat_le epoch e ≡ false
 above e epoch later = grind (arith, nat_tests)
@@ -65,6 +69,10 @@ commit_early e epoch ds (c ∷ cs) ts later bare all =
     commit_early e epoch ds cs (change_named c.table (commit_into epoch c) ts) later (All-tail IsBare c cs bare)
     (change_all (HasEarly e ds) c.table (commit_into epoch c) (λ t had. committed_late e epoch c t later (All-head IsBare c cs bare) ∙ had) ts all)
 
+commit_shapes : (epoch : ℕ) (ds : List Table) (cs : List Changes) (ts : List Table) → All (HasShapes ds) ts → All (HasShapes ds) (commit_changes epoch cs ts)
+commit_shapes epoch ds [] ts all = all
+commit_shapes epoch ds (c ∷ cs) ts all = commit_shapes epoch ds cs (change_named c.table (commit_into epoch c) ts) (change_all (HasShapes ds) c.table (commit_into epoch c) (λ t had. had) ts all)
+
 -- a new table, whose name no table had
 created : (d : Database) (state : State) (name : List ℕ) (columns : List NewColumn) → is_taken name state.database.tables ≡ false → HasGrown d state
     → HasGrown d (record state { database = with_table (new_table name columns state.database.last) state.database })
@@ -79,6 +87,7 @@ created d state name columns free grown =
       kept = All-weaker (λ (u : Table). is_some (table_named u.name state.database.tables) ≡ true) (λ (u : Table). is_some (table_named u.name (put_table t state.database.tables)) ≡ true)
           (λ u there. put_named u.name t state.database.tables there) d.tables grown.kept;
       rows = put_all (HasEarly d.last d.tables) t state.database.tables (sym (ap (λ (o : Option Table). option_map_or (λ (u : Table). u.rows) o []) none)) grown.rows;
+      shapes = put_all (HasShapes d.tables) t state.database.tables (sym (ap (λ (o : Option Table). option_map_or (λ (u : Table). u.shapes) o t.shapes) none)) grown.shapes;
       same = λ closed tables. absurd (omega (arith, size, tables, grown.more));
       bare = grown.bare;
       current = grown.current;
@@ -96,6 +105,7 @@ changed d state changes bare grown =
       more = grown.more;
       kept = grown.kept;
       rows = grown.rows;
+      shapes = grown.shapes;
       same = grown.same;
       bare = subst (λ (cs : List Changes). All IsBare cs) (sym own) bare;
       current = grown.current;
@@ -123,6 +133,7 @@ closed d state grown =
       kept = All-weaker (λ (u : Table). is_some (table_named u.name state.database.tables) ≡ true) (λ (u : Table). is_some (table_named u.name (commit_changes epoch cs state.database.tables)) ≡ true)
           (λ u there. commit_there u.name epoch cs state.database.tables ∙ there) d.tables grown.kept;
       rows = commit_early d.last epoch d.tables cs state.database.tables (omega (arith, grown.later)) grown.bare grown.rows;
+      shapes = commit_shapes epoch d.tables cs state.database.tables grown.shapes;
       same = λ closed tables. absurd (omega (arith, closed, grown.later));
       bare = grown.bare;
       current = grown.current;
@@ -212,6 +223,7 @@ grown_none d opened = record {
   kept = All-weaker (λ (t : Table). table_named t.name d.tables ≡ Some t) (λ (t : Table). is_some (table_named t.name d.tables) ≡ true)
       (λ t is. ap (λ (o : Option Table). is_some o) is) d.tables opened.named;
   rows = λ k t within. all_early d.last _ (opened.rows k t within) ∙ sym (ap (λ (o : Option Table). option_map_or (λ (u : Table). u.rows) o []) (opened.named k t within));
+  shapes = λ k t within. sym (ap (λ (o : Option Table). option_map_or (λ (u : Table). u.shapes) o t.shapes) (opened.named k t within));
   same = λ closed tables. refl;
   bare = All-nil IsBare;
   current = refl;
