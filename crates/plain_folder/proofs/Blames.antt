@@ -13,6 +13,7 @@ use Rattle.catalog_types.specs.declared.catalogue.Table.{Table}
 use Rattle.catalog_types.specs.declared.catalogue.Catalogue.{Catalogue}
 use Rattle.catalog_root.specs.Root.{IsRoot, IsFresh, data_file, body_file, IsDamage, BlamesRoot}
 use Rattle.catalog_root.proofs.Roots.{one_gate, one_root, not_fresh}
+use Rattle.ros_container.specs.Encodings.{encodings_of}
 use Rattle.ros_container.specs.Held.{BlamesContainer, HoldsNoRows}
 use Rattle.db_model.specs.Database as model
 use Rattle.plain_folder.specs.Served.{is_served}
@@ -23,13 +24,13 @@ use Rattle.plain_folder.proofs.Rows.{holds_at}
 
 pub blame_rows : (p : Projection) (ks : List Container) (i : ℕ) (k : Container) (now old : Option Contents) (fault : StoreFault)
     → ks ≡ p.containers → i < length ks → get_or ks i k ≡ k → now ≡ old
-    → BlamesContainer (length p.columns) k now fault → HoldsNoRows (length p.columns) k now fault → BlamesProjection p old fault
+    → BlamesContainer (encodings_of p) k now fault → HoldsNoRows (encodings_of p) k now fault → BlamesProjection p old fault
 blame_rows p ks i k now old (StoreFault.Damaged q) whole within is same blames nothing = record {
   container = k;
   listed = subst (λ (js : List Container). Contains js k) whole (i, within, is);
-  broken = subst (λ (holds : Option Contents). BlamesContainer (length p.columns) k holds (StoreFault.Damaged q)) same blames;
+  broken = subst (λ (holds : Option Contents). BlamesContainer (encodings_of p) k holds (StoreFault.Damaged q)) same blames;
   nothing = λ m told rows held.
-      let here = holds_at m (length p.columns) p.containers rows k held (subst (λ (js : List Container). Contains js k) whole (i, within, is)) in
+      let here = holds_at m (encodings_of p) p.containers rows k held (subst (λ (js : List Container). Contains js k) whole (i, within, is)) in
       nothing m (same ∙ told) here.0 here.1;
 }
 blame_rows p ks i k now old StoreFault.Disk whole within is same blames nothing = tt
@@ -86,7 +87,7 @@ blame_listed v c holds (StoreFault.Damaged q) (t, listed, p, in_table, broken) r
         projection_listed = in_table;
         container = broken.container;
         container_listed = broken.listed;
-        broken = subst (λ (h : Option Contents). BlamesContainer (length p.columns) broken.container h (StoreFault.Damaged q)) told broken.broken;
+        broken = subst (λ (h : Option Contents). BlamesContainer (encodings_of p) broken.container h (StoreFault.Damaged q)) told broken.broken;
       })),
       λ d reopens. nothing m told d reopens (only_root m v c reopens.kept root reopens.opens),
     )
@@ -95,8 +96,8 @@ blame_listed v c holds (StoreFault.Damaged q) (t, listed, p, in_table, broken) r
     nothing m told d reopens is =
         let tables : AllZip (IsTableOf m) c.tables d.tables = subst (λ (k : Catalogue). AllZip (IsTableOf m) k.tables d.tables) is reopens.database.tables in
         let found = zip_at (IsTableOf m) c.tables d.tables t tables listed in
-        let rows : HoldsRows m (length p.columns) p.containers found.0.rows =
-        All-contains (λ (x : Projection). HoldsRows m (length x.columns) x.containers found.0.rows) t.projections p found.1.rows in_table in
+        let rows : HoldsRows m (encodings_of p) p.containers found.0.rows =
+        All-contains (λ (x : Projection). HoldsRows m (encodings_of x) x.containers found.0.rows) t.projections p found.1.rows in_table in
         broken.nothing m told found.0.rows rows
 blame_listed v c holds StoreFault.Disk blames roots = tt
 blame_listed v c holds StoreFault.Memory blames roots = tt

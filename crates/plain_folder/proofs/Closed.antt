@@ -10,6 +10,7 @@ use Rattle.col_base.specs.Maps.{Contents}
 use Rattle.col_disk.specs.Moved.{Changed, Moved, NoName, Named, Either}
 use Rattle.col_disk.specs.declared.disk.Disk.{Ghosts}
 use Rattle.col_disk.proofs.Moving.{changed_kept, moved_told, moved_join, moved_wider}
+use Rattle.col_value.specs.declared.kinds.Encoding.{Encoding}
 use Rattle.col_value.specs.declared.row.Asked.{Asked}
 use Rattle.col_value.specs.declared.row.Stamped.{Stamped}
 use Rattle.catalog_types.specs.declared.span.Span.{Span}
@@ -22,6 +23,7 @@ use Rattle.catalog_types.specs.Numbers.{container_spans, projection_spans, table
 use Rattle.catalog_root.specs.Root.{IsRoot, IsOpenGate, body_file, gate_file}
 use Rattle.catalog_root.specs.Listed.{IsIn, IsListed, IsStray, IsOfOther, IsUnlisted}
 use Rattle.catalog_root.proofs.Roots.{gate_before, root_kept}
+use Rattle.ros_container.specs.Encodings.{encodings_of}
 use Rattle.ros_container.proofs.Kept.{rows_kept}
 use Rattle.sql_tree.specs.declared.statement.NewColumn.{NewColumn}
 use Rattle.db_model.specs.Database.{Database, Table}
@@ -32,6 +34,7 @@ use Rattle.plain_folder.specs.Reopens.{HoldsRows, IsTableOf, OpensTo, Reopens, c
 use Rattle.plain_folder.specs.Closing.{DataFrom, IsSpent, IsUnchanged, EndsAs, Installs, LeavesAll, LeavesTables}
 use Rattle.plain_folder.specs.Saving.{whole_projection, kept_column, WasHeld, IsSaved, SavesTables}
 use Rattle.plain_folder.proofs.Below.{moved_between}
+use Rattle.plain_folder.proofs.Whole.{whole_encodings, whole_long}
 use Rattle.plain_folder.proofs.Held.{was_held, told_moved, told_long}
 
 -- what holds of any result holds of a good one
@@ -52,14 +55,16 @@ any_flat {X} P f (y ∷ xs) x (zero, lt, is) any = subst (Any P) (sym (flat_map-
 any_flat P f (y ∷ xs) x (suc k, lt, is) any = subst (Any P) (sym (flat_map-cons f y xs)) (any_right P (f y) (flat_map f xs) (any_flat P f xs x (k, omega (arith, lt), is) any))
 
 -- the numbers of a container of a table's one projection are listed
-listed_number : (c : Catalogue) (t : Kept) (name : List ℕ) (last : ℕ) (ks : List Container) (k : Container) (j : ℕ) → Contains c.tables t
-    → t.projections ≡ whole_projection name last ks ∷ [] → Contains ks k → j < 4 → IsListed c (k.base + j)
-listed_number c t name last ks k j in_catalogue projections in_table small =
+listed_number : (c : Catalogue) (t : Kept) (name : List ℕ) (last : ℕ) (es : List Encoding) (ks : List Container) (k : Container) (j : ℕ) → Contains c.tables t
+    → t.projections ≡ whole_projection name last es ks ∷ [] → Contains ks k → j < 2 * (length es + 1) → IsListed c (k.base + j)
+listed_number c t name last es ks k j in_catalogue projections in_table small =
     let n = k.base + j in
-    let here : Any (IsIn n) (container_spans 1 k) = (0, files 1 k, omega arith, refl, (omega arith, omega (arith, small))) in
-    let in_projection : Any (IsIn n) (projection_spans (whole_projection name last ks)) = any_flat (IsIn n) (container_spans 1) ks k in_table here in
-    let in_projections : Any (IsIn n) (flat_map projection_spans (whole_projection name last ks ∷ [])) =
-    any_flat (IsIn n) projection_spans (whole_projection name last ks ∷ []) (whole_projection name last ks) (0, omega arith, refl) in_projection in
+    let p = whole_projection name last es ks in
+    let wide : length p.columns ≡ length es = whole_long name last es ks in
+    let here : Any (IsIn n) (container_spans (length p.columns) k) = (0, files (length p.columns) k, omega arith, refl, (omega arith, omega (arith, small, wide))) in
+    let in_projection : Any (IsIn n) (projection_spans p) = any_flat (IsIn n) (container_spans (length p.columns)) ks k in_table here in
+    let in_projections : Any (IsIn n) (flat_map projection_spans (p ∷ [])) =
+    any_flat (IsIn n) projection_spans (p ∷ []) p (0, omega arith, refl) in_projection in
     any_flat (IsIn n) table_spans c.tables t in_catalogue (subst (λ (ps : List Projection). Any (IsIn n) (flat_map projection_spans ps)) (sym projections) in_projections)
 
 -- a listed data file stays where a version is installed and what it doesn't list is removed
@@ -77,14 +82,14 @@ listed_stays version c l n changed j listed = changed_kept _ _ l n (4 * j) writt
     removed (inr (v, other, inr is)) = omega (arith, is)
 
 -- rows stay where the files of their containers do
-rows_stay : (l n : Contents) (ks : List Container) (rows : List Stamped) → HoldsRows l 1 ks rows
-    → ((k : Container) (j : ℕ) → Contains ks k → j < 4 → get n (4 * (k.base + j)) ≡ get l (4 * (k.base + j))) → HoldsRows n 1 ks rows
-rows_stay l n [] rows held same = held
-rows_stay l n (k ∷ ks) rows (here, more, first, rest, is) same = (
+rows_stay : (l n : Contents) (es : List Encoding) (ks : List Container) (rows : List Stamped) → HoldsRows l es ks rows
+    → ((k : Container) (j : ℕ) → Contains ks k → j < 2 * (length es + 1) → get n (4 * (k.base + j)) ≡ get l (4 * (k.base + j))) → HoldsRows n es ks rows
+rows_stay l n es [] rows held same = held
+rows_stay l n es (k ∷ ks) rows (here, more, first, rest, is) same = (
   here,
   more,
-  rows_kept l n 1 k here (λ q f. subst (λ (x : ℕ). get n x ≡ get l x) (sym f.2) (same k f.0 (0, omega arith, refl) f.1)) first,
-  rows_stay l n ks more rest (λ j i at small. same j i (suc at.0, omega (arith, at.1), at.2) small),
+  rows_kept l n es k here (λ q f. subst (λ (x : ℕ). get n x ≡ get l x) (sym f.2) (same k f.0 (0, omega arith, refl) f.1)) first,
+  rows_stay l n es ks more rest (λ j i at small. same j i (suc at.0, omega (arith, at.1), at.2) small),
   is,
 )
 
@@ -101,9 +106,12 @@ tables_open c l n version last same [] (u ∷ us) within all = absurd all
 tables_open c l n version last same (t ∷ ts) [] within all = absurd all
 tables_open c l n version last same (t ∷ ts) (u ∷ us) within (here, rest) =
     let (es, tables, alike) = tables_open c l n version last same ts us (λ x at. within x (suc at.0, omega (arith, at.1), at.2)) rest in
-    let rows : HoldsRows n 1 here.containers here.rows =
-    rows_stay l n here.containers here.rows here.held.held
-    (λ k j at small. same (k.base + j) (listed_number c t here.projection last here.containers k j (within t (0, omega arith, refl)) here.projections at small)) in
+    let stayed : HoldsRows n here.encodings here.containers here.rows =
+    rows_stay l n here.encodings here.containers here.rows here.held.held
+    (λ k j at small. same (k.base + j) (listed_number c t here.projection last here.encodings here.containers k j (within t (0, omega arith, refl)) here.projections at small)) in
+    let p = whole_projection here.projection last here.encodings here.containers in
+    let rows : HoldsRows n (encodings_of p) here.containers here.rows =
+    subst (λ (xs : List Encoding). HoldsRows n xs here.containers here.rows) (sym (whole_encodings here.projection last here.encodings here.containers)) stayed in
     let e : Table = record { name = u.name; columns = u.columns; rows = here.rows; shapes = map (moved_shape last) u.shapes } in (
       e ∷ es,
       (
@@ -111,8 +119,8 @@ tables_open c l n version last same (t ∷ ts) (u ∷ us) within (here, rest) =
           name = sym here.name;
           columns = columns_back u.columns ∙ ap (λ (cs : List Column). map column_of cs) (sym here.columns);
           shapes = sym here.shapes;
-          rows = subst (All (λ p. HoldsRows n (length p.columns) p.containers here.rows)) (sym here.projections)
-              (All-cons (λ p. HoldsRows n (length p.columns) p.containers here.rows) (whole_projection here.projection last here.containers) [] rows (All-nil (λ p. HoldsRows n (length p.columns) p.containers here.rows)));
+          rows = subst (All (λ x. HoldsRows n (encodings_of x) x.containers here.rows)) (sym here.projections)
+              (All-cons (λ x. HoldsRows n (encodings_of x) x.containers here.rows) p [] rows (All-nil (λ x. HoldsRows n (encodings_of x) x.containers here.rows)));
         },
         tables,
       ),

@@ -1,31 +1,28 @@
 -- Tables that were read, as the tables of a database.
 use Rattle.std.proofs.Common.{ℕ, ◌≡◌, ◌≤◌, ◌<◌, ◌+◌, ◌*◌, ◌^◌, ◌&&◌, ◌==◌, List, [], ◌∷◌, ◌++◌, map, length, take, get_or, refl, sym, ◌∙◌, ap, ap₂, subst, true, false, Bool, arith, rules}
 use Rattle.std.specs.Prelude.{Option, Some, None, bytes_eq}
-use Rattle.std.proofs.lemmas.List.{map-append, take_more}
+use Rattle.std.proofs.lemmas.List.{map-append, length-map, take_more}
 use Rattle.std.proofs.lemmas.Bool.{eqb-true}
 use Rattle.std.specs.List.{All, AllZip, enumerate_from}
 use Rattle.std.proofs.lemmas.List.Elements.{All-nil, All-cons, All-push}
 use Rattle.col_base.specs.Maps.{Contents}
 use Rattle.col_value.specs.declared.kinds.Encoding.{Encoding}
-use Rattle.catalog_types.specs.declared.catalogue.Column.{Column}
 use Rattle.catalog_types.specs.declared.catalogue.ProjColumn.{ProjColumn}
 use Rattle.catalog_types.specs.declared.catalogue.Projection.{Projection}
 use Rattle.catalog_types.specs.declared.catalogue.Table as kept
+use Rattle.ros_container.specs.Encodings.{encodings_of}
 use Rattle.sql_tree.specs.declared.statement.NewColumn.{NewColumn}
 use Rattle.db_model.specs.Database as model
 use Rattle.db_model.specs.Database.{super_name}
-use Rattle.plain_store.specs.declared.table.Table.{Table}
-use Rattle.plain_store.specs.Views.{table_of, projection_of}
-use Rattle.plain_folder.specs.Served.{is_served_table, is_served_columns, is_served_parts, is_served_sort, is_served_projection, is_served_projections, is_plain}
+use Rattle.plain_tables.specs.declared.table.Table.{Table}
+use Rattle.plain_tables.specs.Views.{table_of, projection_of}
+use Rattle.plain_folder.specs.Served.{are_places, is_whole, is_served_table, is_served_projection, is_served_projections}
 use Rattle.plain_folder.specs.Reopens.{HoldsRows, IsTableOf, column_of, shape_of}
 use Rattle.plain_folder.specs.Loading.{HoldsAll, ToldTable, ToldTables}
 
--- a shape of its parts, and that of a table with so many columns
+-- a shape of its parts
 abbrev shape_with : List ℕ → ℕ → List (ℕ × Encoding) → List ℕ → Bool → model.Shape
 shape_with name lge columns sort fresh = record { name = name; columns = columns; sort = sort; fresh = fresh; lge = lge }
-
-abbrev whole_shape : List ℕ → List NewColumn → ℕ → model.Shape
-whole_shape name columns lge = shape_with name lge (map (λ e. (e.0, Encoding.Plain)) (enumerate_from 0 columns)) (map (λ e. e.0) (enumerate_from 0 columns)) true
 
 eqb_is : (a b : ℕ) → (a == b) ≡ true → a ≡ b
 eqb_is a b is = eqb-true a b is
@@ -39,84 +36,76 @@ pub and_right : (a b : Bool) → (a && b) ≡ true → b ≡ true
 and_right true b e = e
 and_right false b e = cc
 
-plain_is : (e : Encoding) → is_plain e ≡ true → e ≡ Encoding.Plain
-plain_is Encoding.Auto is = cc
-plain_is Encoding.Rle is = cc
-plain_is Encoding.DeltaVal is = cc
-plain_is Encoding.BlockDict is = cc
-plain_is Encoding.Plain is = refl
+-- columns at the places of a list, and such places
+parts_are : (n : ℕ) (ps : List ProjColumn) → are_places n (map (λ c. c.ordinal) ps) ≡ true
+    → map {B = ℕ × Encoding} (λ c. (c.ordinal, c.encoding)) ps ≡ enumerate_from n (map {B = Encoding} (λ c. c.encoding) ps)
+parts_are n [] is = refl
+parts_are n (c ∷ ps) is =
+    let here : c.ordinal ≡ n = eqb_is c.ordinal n (and_left (c.ordinal == n) (are_places (n + 1) (map (λ k. k.ordinal) ps)) is) in
+    ap₂ (λ (i : ℕ) (xs : List (ℕ × Encoding)). (i, c.encoding) ∷ xs) here
+    (parts_are (n + 1) ps (and_right (c.ordinal == n) (are_places (n + 1) (map (λ k. k.ordinal) ps)) is))
 
--- the parts of a projection that is served are those of a table of one column
-parts_are : (ps : List ProjColumn) → is_served_parts ps ≡ true → map {B = ℕ × Encoding} (λ c. (c.ordinal, c.encoding)) ps ≡ (0, Encoding.Plain) ∷ []
-parts_are [] is = cc
-parts_are (c ∷ []) is =
-    let place : c.ordinal ≡ 0 = search (rules, and_left (c.ordinal == 0) (is_plain c.encoding) is) in
-    let plain : c.encoding ≡ Encoding.Plain = plain_is c.encoding (and_right (c.ordinal == 0) (is_plain c.encoding) is) in
-    ap₂ (λ (i : ℕ) (e : Encoding). (i, e) ∷ []) place plain
-parts_are (c ∷ (d ∷ more)) is = cc
+places_are : {X : Type 0} (n : ℕ) (is : List ℕ) (xs : List X) → length is ≡ length xs → are_places n is ≡ true → map {B = ℕ} (λ e. e.0) (enumerate_from n xs) ≡ is
+places_are n [] [] long all = refl
+places_are n [] (x ∷ xs) long all = absurd (omega (arith, long))
+places_are n (i ∷ is) [] long all = absurd (omega (arith, long))
+places_are n (i ∷ is) (x ∷ xs) long all =
+    let here : i ≡ n = eqb_is i n (and_left (i == n) (are_places (n + 1) is) all) in
+    ap₂ (λ (j : ℕ) (js : List ℕ). j ∷ js) (sym here) (places_are (n + 1) is xs (omega (arith, long)) (and_right (i == n) (are_places (n + 1) is) all))
 
-sort_is : (sort : List ℕ) → is_served_sort sort ≡ true → sort ≡ 0 ∷ []
-sort_is [] is = cc
-sort_is (i ∷ []) is = let place : i ≡ 0 = search (rules, is) in ap (λ (j : ℕ). j ∷ []) place
-sort_is (i ∷ (j ∷ more)) is = cc
+-- what is known of the one projection of a table that is served
+pub record IsServed (last : ℕ) (t : kept.Table) (p : Projection) : Type 0 where
+  pub parts : are_places 0 (map (λ c. c.ordinal) p.columns) ≡ true
+  pub sort_long : length p.sort ≡ length t.columns
+  pub sort : are_places 0 p.sort ≡ true
+  pub fresh : p.fresh ≡ true
+  pub lge : p.lge ≡ last
 
--- and there is one column
-one_column : (cs : List Column) → is_served_columns cs ≡ true → (c : Column) × (cs ≡ c ∷ [])
-one_column [] is = cc
-one_column (c ∷ []) is = (c, refl)
-one_column (c ∷ (d ∷ more)) is = cc
+served_one : (last : ℕ) (t : kept.Table) (p : Projection) → t.projections ≡ p ∷ [] → is_served_table last t ≡ true → is_served_projection last t p ≡ true
+served_one last t p one is = subst (λ (ps : List Projection). is_served_projections last t ps ≡ true) one is
 
--- a projection that is served is the one that CREATE TABLE makes
-shape_is : (name : List ℕ) (lge : ℕ) (c : NewColumn) (p : Projection) → name ≡ p.name → lge ≡ p.lge → map {B = ℕ × Encoding} (λ k. (k.ordinal, k.encoding)) p.columns ≡ (0, Encoding.Plain) ∷ []
-    → p.sort ≡ 0 ∷ [] → p.fresh ≡ true → whole_shape name (c ∷ []) lge ≡ shape_of p
-shape_is name lge c p named reached parts sort fresh =
-    let first : shape_with p.name p.lge ((0, Encoding.Plain) ∷ []) (0 ∷ []) true ≡ shape_of p =
-    ap (λ (x : List (ℕ × Encoding)). shape_with p.name p.lge x (0 ∷ []) true) (sym parts)
-    ∙ ap (λ (x : List ℕ). shape_with p.name p.lge (map {B = ℕ × Encoding} (λ k. (k.ordinal, k.encoding)) p.columns) x true) (sym sort)
-    ∙ ap (λ (x : Bool). shape_with p.name p.lge (map {B = ℕ × Encoding} (λ k. (k.ordinal, k.encoding)) p.columns) p.sort x) (sym fresh) in
-    ap (λ (x : List ℕ). shape_with x lge ((0, Encoding.Plain) ∷ []) (0 ∷ []) true) named
-    ∙ ap (λ (x : ℕ). shape_with p.name x ((0, Encoding.Plain) ∷ []) (0 ∷ []) true) reached ∙ first
-
--- the one projection of a table that is served, part by part
-served_one : (last : ℕ) (t : kept.Table) (p : Projection) → t.projections ≡ p ∷ [] → is_served_table last t ≡ true → is_served_projection last t.name p ≡ true
-served_one last t p one is =
-    subst (λ (ps : List Projection). is_served_projections last t.name ps ≡ true) one
-    (and_right (is_served_columns t.columns) (is_served_projections last t.name t.projections) is)
-
-pub served_parts : (last : ℕ) (t : kept.Table) (p : Projection) → t.projections ≡ p ∷ [] → is_served_table last t ≡ true → is_served_parts p.columns ≡ true
-served_parts last t p one is = and_left (is_served_parts p.columns) _ (and_right (bytes_eq p.name (super_name t.name)) _ (served_one last t p one is))
+pub served_facts : (last : ℕ) (t : kept.Table) (p : Projection) → t.projections ≡ p ∷ [] → is_served_table last t ≡ true → IsServed last t p
+served_facts last t p one is =
+    let all = served_one last t p one is in
+    let from_parts = and_right (bytes_eq p.name (super_name t.name)) _ all in
+    let parts = and_left (is_whole (length t.columns) (map (λ c. c.ordinal) p.columns)) _ from_parts in
+    let from_sort = and_right (is_whole (length t.columns) (map (λ c. c.ordinal) p.columns)) _ from_parts in
+    let sort = and_left (is_whole (length t.columns) p.sort) _ from_sort in
+    let from_fresh = and_right (is_whole (length t.columns) p.sort) _ from_sort in
+    let from_lge = and_right p.fresh _ from_fresh in
+    record {
+      parts = and_right (length (map {B = ℕ} (λ c. c.ordinal) p.columns) == length t.columns) _ parts;
+      sort_long = eqb_is (length p.sort) (length t.columns) (and_left (length p.sort == length t.columns) _ sort);
+      sort = and_right (length p.sort == length t.columns) _ sort;
+      fresh = and_left p.fresh _ from_fresh;
+      lge = eqb_is p.lge last (and_left (p.lge == last) _ from_lge);
+    }
 
 pub served_lge : (last : ℕ) (t : kept.Table) (p : Projection) → t.projections ≡ p ∷ [] → is_served_table last t ≡ true → p.lge ≡ last
-served_lge last t p one is =
-    let all = served_one last t p one is in
-    let from_parts = and_right (bytes_eq p.name (super_name t.name)) _ all in
-    let from_sort = and_right (is_served_parts p.columns) _ from_parts in
-    let from_fresh = and_right (is_served_sort p.sort) _ from_sort in
-    let from_lge = and_right p.fresh _ from_fresh in
-    eqb_is p.lge last (and_left (p.lge == last) _ from_lge)
+served_lge last t p one is = (served_facts last t p one is).lge
 
-served_shape : (last : ℕ) (t : kept.Table) (p : Projection) (name : List ℕ) (lge : ℕ) (columns : List NewColumn) → t.projections ≡ p ∷ [] → is_served_table last t ≡ true
-    → name ≡ p.name → lge ≡ p.lge → columns ≡ map column_of t.columns → whole_shape name columns lge ≡ shape_of p
-served_shape last t p name lge columns one is named reached columns_are =
-    let all = served_one last t p one is in
-    let from_parts = and_right (bytes_eq p.name (super_name t.name)) _ all in
-    let from_sort = and_right (is_served_parts p.columns) _ from_parts in
-    let from_fresh = and_right (is_served_sort p.sort) _ from_sort in
-    let single = one_column t.columns (and_left (is_served_columns t.columns) _ is) in
-    let columns_one : columns ≡ column_of single.0 ∷ [] = columns_are ∙ ap (λ (cs : List Column). map column_of cs) single.1 in
-    subst (λ (cs : List NewColumn). whole_shape name cs lge ≡ shape_of p) (sym columns_one)
-    (shape_is name lge (column_of single.0) p named reached (parts_are p.columns (and_left (is_served_parts p.columns) _ from_parts))
-    (sort_is p.sort (and_left (is_served_sort p.sort) _ from_sort)) (and_left p.fresh _ from_fresh))
+-- a table that was read with the names, columns and encodings of the catalogue has the catalogue's projection
+served_shape : (last : ℕ) (t : kept.Table) (p : Projection) (u : Table) → IsServed last t p → u.projection ≡ p.name → u.born ≡ p.lge → u.columns ≡ map column_of t.columns
+    → u.encodings ≡ encodings_of p → projection_of u ≡ shape_of p
+served_shape last t p u served named reached columns encodings =
+    let parts : enumerate_from 0 u.encodings ≡ map {B = ℕ × Encoding} (λ c. (c.ordinal, c.encoding)) p.columns =
+    ap (λ (es : List Encoding). enumerate_from 0 es) encodings ∙ sym (parts_are 0 p.columns served.parts) in
+    let long : length p.sort ≡ length u.columns = served.sort_long ∙ sym (length-map t.columns column_of) ∙ sym (ap (λ (cs : List NewColumn). length cs) columns) in
+    let sort : map {B = ℕ} (λ e. e.0) (enumerate_from 0 u.columns) ≡ p.sort = places_are 0 p.sort u.columns long served.sort in
+    ap₂ (λ (name : List ℕ) (lge : ℕ). shape_with name lge (enumerate_from 0 u.encodings) (map {B = ℕ} (λ e. e.0) (enumerate_from 0 u.columns)) true) named reached
+    ∙ ap₂ (λ (cs : List (ℕ × Encoding)) (is : List ℕ). shape_with p.name p.lge cs is true) parts sort
+    ∙ ap (λ (b : Bool). shape_with p.name p.lge (map {B = ℕ × Encoding} (λ c. (c.ordinal, c.encoding)) p.columns) p.sort b) (sym served.fresh)
 
 -- a table that was read with the rows of its projection is that of the catalogue
 pub found_table : (last : ℕ) (t : kept.Table) (p : Projection) (u : Table) (holds : Option Contents) → is_served_table last t ≡ true → t.projections ≡ p ∷ []
-    → u.name ≡ t.name → u.projection ≡ p.name → u.columns ≡ map column_of t.columns → u.born ≡ p.lge → HoldsAll p holds u.rows.items → ToldTable t holds (table_of u)
-found_table last t p u holds is one named projection columns born rows m told = record {
+    → u.name ≡ t.name → u.projection ≡ p.name → u.columns ≡ map column_of t.columns → u.encodings ≡ encodings_of p → u.born ≡ p.lge → HoldsAll p holds u.rows.items
+    → ToldTable t holds (table_of u)
+found_table last t p u holds is one named projection columns encodings born rows m told = record {
   name = named;
   columns = columns;
-  shapes = ap (λ (s : model.Shape). s ∷ []) (served_shape last t p u.projection u.born u.columns one is projection born columns) ∙ ap (λ (ps : List Projection). map shape_of ps) (sym one);
-  rows = subst (λ (ps : List Projection). All (λ x. HoldsRows m (length x.columns) x.containers u.rows.items) ps) (sym one)
-      (All-cons (λ x. HoldsRows m (length x.columns) x.containers u.rows.items) p [] (rows m told) (All-nil (λ x. HoldsRows m (length x.columns) x.containers u.rows.items)));
+  shapes = ap (λ (s : model.Shape). s ∷ []) (served_shape last t p u (served_facts last t p one is) projection born columns encodings) ∙ ap (λ (ps : List Projection). map shape_of ps) (sym one);
+  rows = subst (λ (ps : List Projection). All (λ x. HoldsRows m (encodings_of x) x.containers u.rows.items) ps) (sym one)
+      (All-cons (λ x. HoldsRows m (encodings_of x) x.containers u.rows.items) p [] (rows m told) (All-nil (λ x. HoldsRows m (encodings_of x) x.containers u.rows.items)));
 }
 
 -- one table more

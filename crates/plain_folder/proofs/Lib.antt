@@ -1,9 +1,10 @@
 pub mod Rows
+pub mod Whole
 pub mod Read
 pub mod Epochs
 pub mod Blames
 pub mod Found
-pub mod Writable
+pub mod Lengths
 pub mod Below
 pub mod Saved
 pub mod Held

@@ -4,6 +4,7 @@ use Rattle.std.specs.Prelude.{◌⊎◌}
 use Rattle.std.specs.List.{All, AllZip, list_all}
 use Rattle.std.proofs.lemmas.List.Elements.{All-head}
 use Rattle.col_base.specs.Maps.{Contents}
+use Rattle.col_value.specs.declared.kinds.Encoding.{Encoding}
 use Rattle.col_value.specs.declared.row.Asked.{Asked}
 use Rattle.col_value.specs.declared.row.Stamped.{Stamped}
 use Rattle.catalog_types.specs.declared.catalogue.Container.{Container}
@@ -11,6 +12,7 @@ use Rattle.catalog_types.specs.declared.catalogue.Projection.{Projection}
 use Rattle.catalog_types.specs.declared.catalogue.Table.{Table as Kept}
 use Rattle.catalog_types.specs.declared.catalogue.Catalogue.{Catalogue}
 use Rattle.catalog_root.proofs.Roots.{one_root, not_fresh}
+use Rattle.ros_container.specs.Encodings.{encodings_of}
 use Rattle.ros_container.specs.Held.{HoldsContainer}
 use Rattle.db_model.specs.Database.{Database, Table, Shape}
 use Rattle.sql_tree.specs.declared.statement.NewColumn.{NewColumn}
@@ -21,26 +23,26 @@ use Rattle.plain_folder.proofs.Held.{one_projection}
 
 -- a container holds one list of rows
 abbrev pub OneContainer : Type 0
-OneContainer = (m : Contents) (columns : ℕ) (k : Container) (xs ys : List Asked) → HoldsContainer m columns k xs → HoldsContainer m columns k ys → xs ≡ ys
+OneContainer = (m : Contents) (encodings : List Encoding) (k : Container) (xs ys : List Asked) → HoldsContainer m encodings k xs → HoldsContainer m encodings k ys → xs ≡ ys
 
-one_rows : OneContainer → (m : Contents) (n : ℕ) (ks : List Container) (xs ys : List Stamped) → HoldsRows m n ks xs → HoldsRows m n ks ys → xs ≡ ys
-one_rows one m n [] xs ys first second = first ∙ sym second
-one_rows one m n (k ∷ ks) xs ys (here, more, held, rest, is) (also, further, holds, others, are) =
-    let front : here ≡ also = one m n k here also held holds in
-    let behind : more ≡ further = one_rows one m n ks more further rest others in
+one_rows : OneContainer → (m : Contents) (es : List Encoding) (ks : List Container) (xs ys : List Stamped) → HoldsRows m es ks xs → HoldsRows m es ks ys → xs ≡ ys
+one_rows one m es [] xs ys first second = first ∙ sym second
+one_rows one m es (k ∷ ks) xs ys (here, more, held, rest, is) (also, further, holds, others, are) =
+    let front : here ≡ also = one m es k here also held holds in
+    let behind : more ≡ further = one_rows one m es ks more further rest others in
     is ∙ ap₂ (λ (xs : List Asked) (ss : List Stamped). map undeleted xs ++ ss) front behind ∙ sym are
 
 one_table : OneContainer → (m : Contents) (last : ℕ) (t : Kept) (u v : Table) → is_served_table last t ≡ true → IsTableOf m t u → IsTableOf m t v → u ≡ v
 one_table one m last t u v served first second =
     let (p, is) = one_projection last t served in
-    let first_rows : HoldsRows m (length p.columns) p.containers u.rows =
-    All-head (λ x. HoldsRows m (length x.columns) x.containers u.rows) p [] (subst (All (λ x. HoldsRows m (length x.columns) x.containers u.rows)) is first.rows) in
-    let second_rows : HoldsRows m (length p.columns) p.containers v.rows =
-    All-head (λ x. HoldsRows m (length x.columns) x.containers v.rows) p [] (subst (All (λ x. HoldsRows m (length x.columns) x.containers v.rows)) is second.rows) in
+    let first_rows : HoldsRows m (encodings_of p) p.containers u.rows =
+    All-head (λ x. HoldsRows m (encodings_of x) x.containers u.rows) p [] (subst (All (λ x. HoldsRows m (encodings_of x) x.containers u.rows)) is first.rows) in
+    let second_rows : HoldsRows m (encodings_of p) p.containers v.rows =
+    All-head (λ x. HoldsRows m (encodings_of x) x.containers v.rows) p [] (subst (All (λ x. HoldsRows m (encodings_of x) x.containers v.rows)) is second.rows) in
     let names : u.name ≡ v.name = first.name ∙ sym second.name in
     let columns : u.columns ≡ v.columns = first.columns ∙ sym second.columns in
     let shapes : u.shapes ≡ v.shapes = first.shapes ∙ sym second.shapes in
-    let rows : u.rows ≡ v.rows = one_rows one m (length p.columns) p.containers u.rows v.rows first_rows second_rows in
+    let rows : u.rows ≡ v.rows = one_rows one m (encodings_of p) p.containers u.rows v.rows first_rows second_rows in
     ap (λ (x : List ℕ). record u { name = x }) names ∙ ap (λ (x : List NewColumn). record u { name = v.name; columns = x }) columns
     ∙ ap (λ (x : List Stamped). record u { name = v.name; columns = v.columns; rows = x }) rows ∙ ap (λ (x : List Shape). record v { shapes = x }) shapes
 

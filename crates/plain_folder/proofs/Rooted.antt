@@ -18,8 +18,8 @@ use Rattle.catalog_root.specs.Root.{IsRoot}
 use Rattle.db_model.specs.Database as model
 use Rattle.db_model.specs.Database.{Database, table_named}
 use Rattle.db_model.specs.Growth.{IsOpened}
-use Rattle.plain_store.specs.declared.table.Table.{Table}
-use Rattle.plain_store.specs.Views.{table_of}
+use Rattle.plain_tables.specs.declared.table.Table.{Table}
+use Rattle.plain_tables.specs.Views.{table_of}
 use Rattle.plain_folder.specs.Served.{is_served, is_served_table}
 use Rattle.plain_folder.specs.Loading.{ToldTables}
 use Rattle.plain_folder.specs.Opening.{IsRead, IsReadBy}

@@ -9,6 +9,7 @@ use Rattle.col_base.specs.Maps.{Contents}
 use Rattle.col_base.proofs.BagLaws.{bag_refl, bag_sym, bag_trans, bag_append, bag_map}
 use Rattle.col_disk.specs.Moved.{Changed, Moved, NoName}
 use Rattle.col_disk.specs.declared.disk.Disk.{Ghosts}
+use Rattle.col_value.specs.declared.kinds.Encoding.{Encoding}
 use Rattle.col_value.specs.declared.row.Asked.{Asked}
 use Rattle.col_value.specs.declared.row.Stamped.{Stamped}
 use Rattle.catalog_types.specs.declared.catalogue.Container.{Container}
@@ -18,15 +19,15 @@ use Rattle.catalog_types.specs.declared.catalogue.Catalogue.{Catalogue}
 use Rattle.sql_tree.specs.declared.statement.NewColumn.{NewColumn}
 use Rattle.db_model.specs.Database as model
 use Rattle.db_model.specs.Growth.{early, late}
-use Rattle.db_model.specs.Kept.{moved_shape}
-use Rattle.plain_store.specs.declared.table.Table.{Table}
-use Rattle.plain_store.specs.Views.{table_of, projection_of}
-use Rattle.plain_store.proofs.Alike.{parted}
+use Rattle.plain_tables.specs.declared.table.Table.{Table}
+use Rattle.plain_tables.specs.Views.{table_of}
+use Rattle.db_laws.proofs.Alike.{parted}
 use Rattle.plain_folder.specs.Reopens.{undeleted, shape_of}
 use Rattle.plain_folder.specs.Closing.{DataFrom}
 use Rattle.plain_folder.specs.Saving.{containers_named, whole_projection, kept_column, AreHeld, HoldsMore, WasHeld, IsSaved, SavesTable, SavesTables}
 use Rattle.plain_folder.proofs.Below.{held_below, below_data, moved_between}
 use Rattle.plain_folder.proofs.Found.{zip_push}
+use Rattle.plain_folder.proofs.Whole.{seconds_from, whole_shape}
 
 -- of two lists what holds of all
 all_front : {X : Type 0} (P : X → Type 0) (xs ys : List X) → All P (xs ++ ys) → All P xs
@@ -35,20 +36,16 @@ all_front P xs ys all k d lt = subst P (get_or_append_left xs ys d k lt) (all k 
 all_last : {X : Type 0} (P : X → Type 0) (xs : List X) (y : X) → All P (xs ++ y ∷ []) → P y
 all_last P xs y all = All-contains P (xs ++ y ∷ []) y all (Contains-push xs y)
 
--- the shape of a table of one column, moved out, is that of its projection in the catalogue
-one_shape : (t : Table) (columns : List NewColumn) (last : ℕ) (ks : List Container) → t.columns ≡ columns → length columns ≡ 1
-    → shape_of (whole_projection t.projection last ks) ≡ moved_shape last (projection_of t)
-one_shape t [] last ks is one = absurd (omega (arith, one))
-one_shape t (c ∷ []) last ks is one = ap (λ (cs : List NewColumn). moved_shape last (projection_of (record t { columns = cs }))) (sym is)
-one_shape t (c ∷ (d ∷ more)) last ks is one = absurd (omega (arith, one))
-
 -- a table's early rows, which were held, and its late rows, which are held behind them, are its rows
 pub saved_one : (next after : ℕ) (kept : Catalogue) (last : ℕ) (t : Kept) (u : Table) (ks js : List Container) (added : List Asked) (found left : Option Contents)
-    → ks ≡ containers_named u.name kept.tables → HoldsMore next after ks js added found left → map undeleted added ≡ late kept.last u.rows.items → length u.columns ≡ 1
-    → t.name ≡ u.name → t.columns ≡ map kept_column u.columns → t.projections ≡ whole_projection u.projection last js ∷ []
+    → ks ≡ containers_named u.name kept.tables → HoldsMore u.encodings next after ks js added found left → map undeleted added ≡ late kept.last u.rows.items → length u.encodings ≡ length u.columns
+    → t.name ≡ u.name → t.columns ≡ map kept_column u.columns → t.projections ≡ whole_projection u.projection last u.encodings js ∷ []
     → SavesTable next after kept last t (table_of u) found left
-saved_one next after kept last t u ks js added found left ks_are more late_are one named columns projections m told was =
-    let held : AreHeld m next ks (early kept.last u.rows.items) = subst (λ (xs : List Container). AreHeld m next xs (early kept.last u.rows.items)) (sym ks_are) was in
+saved_one next after kept last t u ks js added found left ks_are more late_are wide named columns projections m told was =
+    let mine : AreHeld m u.encodings next (containers_named u.name kept.tables) (early kept.last u.rows.items) =
+    subst (λ (es : List Encoding). AreHeld m es next (containers_named u.name kept.tables) (early kept.last u.rows.items)) (seconds_from 0 u.encodings) was in
+    let held : AreHeld m u.encodings next ks (early kept.last u.rows.items) =
+    subst (λ (xs : List Container). AreHeld m u.encodings next xs (early kept.last u.rows.items)) (sym ks_are) mine in
     let (n, sorted, told_now, same, holds) = more m (early kept.last u.rows.items) told held in
     let late_bag : SameBag (map undeleted sorted) (late kept.last u.rows.items) =
     bag_trans (map undeleted sorted) (map undeleted added) (late kept.last u.rows.items) (bag_sym _ _ (bag_map undeleted added sorted same))
@@ -59,10 +56,11 @@ saved_one next after kept last t u ks js added found left ks_are more late_are o
         containers = js;
         rows = early kept.last u.rows.items ++ map undeleted sorted;
         projection = u.projection;
+        encodings = u.encodings;
         name = named;
         columns = columns;
         projections = projections;
-        shapes = ap (λ (ps : List Projection). map shape_of ps) projections ∙ ap (λ (s : model.Shape). s ∷ []) (one_shape u u.columns last js refl one);
+        shapes = ap (λ (ps : List Projection). map shape_of ps) projections ∙ ap (λ (s : model.Shape). s ∷ []) (whole_shape u last js wide);
         held = holds;
         same = bag_trans _ (early kept.last u.rows.items ++ late kept.last u.rows.items) u.rows.items
             (bag_append (early kept.last u.rows.items) (map undeleted sorted) (early kept.last u.rows.items) (late kept.last u.rows.items) (bag_refl (early kept.last u.rows.items)) late_bag)
@@ -81,11 +79,12 @@ still_saved m n next after last le changed (t ∷ ts) (u ∷ us) (here, rest) = 
     containers = here.containers;
     rows = here.rows;
     projection = here.projection;
+    encodings = here.encodings;
     name = here.name;
     columns = here.columns;
     projections = here.projections;
     shapes = here.shapes;
-    held = held_below m n here.containers here.rows next after le (below_data m n next changed) here.held;
+    held = held_below m n here.encodings here.containers here.rows next after le (below_data m n next changed) here.held;
     same = here.same;
   },
   still_saved m n next after last le changed ts us rest,
@@ -105,7 +104,7 @@ saved_more disk kept last next after ts us t u from le first second saved one m 
     let (l, told_l, zipped) = saved m told (all_front (WasHeld m kept kept.next) (map table_of us) (table_of u ∷ []) both) in
     let was_u : WasHeld m kept kept.next (table_of u) = all_last (WasHeld m kept kept.next) (map table_of us) (table_of u) both in
     let held_u : WasHeld l kept next (table_of u) =
-    held_below m l _ _ kept.next next from (below_data m l kept.next (moved_between disk m l told told_l first)) was_u in
+    held_below m l _ _ _ kept.next next from (below_data m l kept.next (moved_between disk m l told told_l first)) was_u in
     let (n, told_n, saved_u) = one l told_l held_u in
     let earlier = still_saved l n next after last le (moved_between disk l n told_l told_n second) ts (map table_of us) zipped in (
       n,

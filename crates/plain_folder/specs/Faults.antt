@@ -7,6 +7,7 @@ use Rattle.catalog_types.specs.declared.catalogue.Projection.{Projection}
 use Rattle.catalog_types.specs.declared.catalogue.Table.{Table}
 use Rattle.catalog_types.specs.declared.catalogue.Catalogue.{Catalogue}
 use Rattle.catalog_root.specs.Root.{IsRoot, IsDamage, body_file}
+use Rattle.ros_container.specs.Encodings.{encodings_of}
 use Rattle.ros_container.specs.Held.{BlamesContainer}
 use Rattle.db_model.specs.Database.{Database}
 use Rattle.plain_folder.specs.Served.{is_served}
@@ -30,7 +31,7 @@ pub record IsBrokenFile (m : Contents) (q : ℕ) : Type 0 where
   pub projection_listed : Contains table.projections projection
   pub container : Container
   pub container_listed : Contains projection.containers container
-  pub broken : BlamesContainer (length projection.columns) container (Some m) (StoreFault.Damaged q)
+  pub broken : BlamesContainer (encodings_of projection) container (Some m) (StoreFault.Damaged q)
 
 -- a file that keeps a folder from opening
 abbrev pub IsDamaged : Contents → ℕ → Type 0

@@ -8,6 +8,7 @@ use Rattle.catalog_types.specs.declared.catalogue.Container.{Container}
 use Rattle.catalog_types.specs.declared.catalogue.Projection.{Projection}
 use Rattle.catalog_types.specs.declared.catalogue.Table.{Table}
 use Rattle.db_model.specs.Database as model
+use Rattle.ros_container.specs.Encodings.{encodings_of}
 use Rattle.ros_container.specs.Held.{BlamesContainer}
 use Rattle.plain_folder.specs.Reopens.{HoldsRows, IsTableOf}
 
@@ -21,7 +22,7 @@ AreLoadable p = All (IsLoadable (length p.columns) p.lge) p.containers
 
 -- where a disk tells its contents, these rows are those of the projection
 abbrev pub HoldsAll : Projection → Option Contents → List Stamped → Type 0
-HoldsAll p holds rows = (m : Contents) → holds ≡ Some m → HoldsRows m (length p.columns) p.containers rows
+HoldsAll p holds rows = (m : Contents) → holds ≡ Some m → HoldsRows m (encodings_of p) p.containers rows
 
 -- and this table is that of the catalogue, and these tables are those
 abbrev pub ToldTable : Table → Option Contents → model.Table → Type 0
@@ -34,8 +35,8 @@ ToldTables ts holds us = (m : Contents) → holds ≡ Some m → AllZip (IsTable
 pub record IsBroken (p : Projection) (holds : Option Contents) (q : ℕ) : Type 0 where
   pub container : Container
   pub listed : Contains p.containers container
-  pub broken : BlamesContainer (length p.columns) container holds (StoreFault.Damaged q)
-  pub nothing : (m : Contents) → holds ≡ Some m → (rows : List Stamped) → HoldsRows m (length p.columns) p.containers rows → ⊥
+  pub broken : BlamesContainer (encodings_of p) container holds (StoreFault.Damaged q)
+  pub nothing : (m : Contents) → holds ≡ Some m → (rows : List Stamped) → HoldsRows m (encodings_of p) p.containers rows → ⊥
 
 abbrev pub BlamesProjection : Projection → Option Contents → StoreFault → Type 0
 BlamesProjection p holds (StoreFault.Damaged q) = IsBroken p holds q

@@ -11,6 +11,8 @@ use Rattle.catalog_types.specs.declared.catalogue.Projection.{Projection}
 use Rattle.catalog_types.specs.declared.catalogue.Table as kept
 use Rattle.catalog_types.specs.declared.catalogue.Catalogue.{Catalogue}
 use Rattle.catalog_root.specs.Root.{IsRoot, IsFresh}
+use Rattle.col_value.specs.declared.kinds.Encoding.{Encoding}
+use Rattle.ros_container.specs.Encodings.{encodings_of}
 use Rattle.ros_container.specs.Held.{HoldsContainer}
 use Rattle.sql_tree.specs.declared.statement.NewColumn.{NewColumn}
 use Rattle.db_model.specs.Database.{Database, Table, Shape}
@@ -28,11 +30,11 @@ OpensTo m c = (IsFresh m × (c ≡ no_tables)) ⊎ ((v : ℕ) × IsRoot m v c)
 abbrev pub undeleted : Asked → Stamped
 undeleted a = record { row = a.row; ins = a.ins; del = None }
 
--- the rows that containers of so many columns hold, the oldest container first
-abbrev pub HoldsRows : Contents → ℕ → List Container → List Stamped → Type 0
-HoldsRows m columns [] rows = rows ≡ []
-HoldsRows m columns (k ∷ ks) rows =
-    (here : List Asked) × (more : List Stamped) × HoldsContainer m columns k here × HoldsRows m columns ks more × (rows ≡ map undeleted here ++ more)
+-- the rows that containers whose columns have these encodings hold, the oldest container first
+abbrev pub HoldsRows : Contents → List Encoding → List Container → List Stamped → Type 0
+HoldsRows m encodings [] rows = rows ≡ []
+HoldsRows m encodings (k ∷ ks) rows =
+    (here : List Asked) × (more : List Stamped) × HoldsContainer m encodings k here × HoldsRows m encodings ks more × (rows ≡ map undeleted here ++ more)
 
 abbrev pub column_of : Column → NewColumn
 column_of c = record { name = c.name; kind = c.kind; not_null = c.not_null }
@@ -46,7 +48,7 @@ pub record IsTableOf (m : Contents) (t : kept.Table) (u : Table) : Type 0 where
   pub name : u.name ≡ t.name
   pub columns : u.columns ≡ map column_of t.columns
   pub shapes : u.shapes ≡ map shape_of t.projections
-  pub rows : All (λ p. HoldsRows m (length p.columns) p.containers u.rows) t.projections
+  pub rows : All (λ p. HoldsRows m (encodings_of p) p.containers u.rows) t.projections
 
 -- the database that a catalogue and its files spell
 pub record IsDatabaseOf (m : Contents) (c : Catalogue) (d : Database) : Type 0 where

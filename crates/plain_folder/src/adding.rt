@@ -6,17 +6,18 @@ ghost use Rattle.col_base.specs.Bags.{SameBag};
 ghost use Rattle.col_base.specs.Causes.{HasCause};
 ghost use Rattle.col_disk.specs.Moved.{Moved, NoName};
 ghost use Rattle.db_model.specs.Growth.{late};
+ghost use Rattle.catalog_types.specs.Numbers.{file_count};
+ghost use Rattle.ros_container.specs.Encodings.{encodings_of};
 ghost use Rattle.ros_container.specs.Files.{IsFileOf};
 ghost use Rattle.plain_folder.specs.Reopens.{undeleted};
-ghost use Rattle.plain_folder.specs.Saving.{IsWritable, IsOfOne, HoldsNew};
+ghost use Rattle.plain_folder.specs.Saving.{HoldsNew};
 
 use crate::presort::presorted;
 use catalog_types::{Container, Projection};
 use col_disk::{Disk, DiskFault};
 use col_value::{Asked, Stamped};
-use ros_container::{sort_rows, write_rows};
+use ros_container::{are_rows, sort_rows, write_rows};
 use std::alloc::{AllocError, Global};
-use value_bytes::is_value;
 
 /// The rows that were inserted after an epoch. None where one of them is deleted.
 pub fn late_rows(
@@ -40,25 +41,6 @@ pub fn late_rows(
         })?;
     }
     Ok(Some(out))
-}
-
-fn is_writable(asked: &Asked) -> bool
-    ensures { IsTrue result → IsWritable asked.now }
-{
-    let row = asked.row.as_slice();
-    row.len() == 1 && asked.ins < 1 << 63 && row.iter().all(|value| is_value(value))
-}
-
-/// Whether each row can stand in a container of one column.
-pub fn are_writable(rows: &[Asked]) -> bool
-    ensures { IsTrue result → All IsWritable rows.now }
-{
-    for asked in rows {
-        if !is_writable(asked) {
-            return false;
-        }
-    }
-    true
 }
 
 #[tactic(auto, using(crate::proofs::Epochs::lesser_more))]
@@ -109,7 +91,7 @@ fn in_order(alloc: Global, shape: &Projection, rows: Vec<Asked>) -> Result<Vec<A
     sort_rows(shape, near)
 }
 
-#[tactic(auto, using(crate::proofs::Writable::some_sorted))]
+#[tactic(auto, using(crate::proofs::Lengths::some_sorted))]
 /// Writes rows as a container with this base, in container order. Rows that can't stand in one are answered as want of
 /// memory: no store has such.
 pub fn write_container<D: Disk>(
@@ -120,18 +102,18 @@ pub fn write_container<D: Disk>(
     base: u64,
 ) -> Result<Container, DiskFault>
     requires some { 0 < length rows.items }
-    requires shape { IsOfOne shape.now }
-    requires numbers { base + 4 ≤ 2 ^ 62 }
+    requires shape { All (λ i. i < length shape.now.columns) shape.now.sort }
+    requires numbers { base + file_count (length shape.now.columns) ≤ 2 ^ 62 }
     ensures base { IfOk result (λ k. k.base ≡ base) }
-    ensures held { IfOk result (λ k. HoldsNew rows.items k (D.holds disk.new)) }
-    ensures moved { Moved ⟦<D as Disk>⟧ (IsFileOf base 1) NoName disk.old disk.new }
+    ensures held { IfOk result (λ k. HoldsNew (encodings_of shape.now) rows.items k (D.holds disk.new)) }
+    ensures moved { Moved ⟦<D as Disk>⟧ (IsFileOf base (length shape.now.columns)) NoName disk.old disk.new }
     ensures cause { HasCause DiskFault.Failed (D.faults disk.old) (D.faults disk.new) result }
 {
     let sorted = match in_order(alloc, shape, rows) {
         Ok(sorted) => sorted,
         Err(AllocError) => return Err(DiskFault::Memory),
     };
-    if !are_writable(sorted.as_slice()) {
+    if !are_rows(shape, sorted.as_slice()) {
         return Err(DiskFault::Memory);
     }
     match write_rows(alloc, disk, base, shape, sorted.as_slice()) {

@@ -5,7 +5,7 @@ ghost use Rattle.col_base.specs.Causes.{HasCause};
 ghost use Rattle.col_disk.specs.Moved.{Moved, NoName};
 ghost use Rattle.catalog_types.specs.Valid.{IsValid};
 ghost use Rattle.catalog_root.specs.Listed.{IsUnlisted};
-ghost use Rattle.plain_store.specs.Views.{table_of};
+ghost use Rattle.plain_tables.specs.Views.{table_of};
 ghost use Rattle.plain_folder.specs.Served as rule;
 ghost use Rattle.plain_folder.specs.Closing.{IsUnchanged, LeavesTables, LeavesAll, Installs};
 
@@ -15,7 +15,8 @@ use catalog_root::{clean, commit};
 use catalog_types::Catalogue;
 use col_disk::{Disk, DiskFault};
 use col_value::List;
-use plain_store::{PlainStore, Table};
+use plain_store::PlainStore;
+use plain_tables::Table;
 use std::alloc::{AllocError, Global};
 
 // From this number on nothing is written.

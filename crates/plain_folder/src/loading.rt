@@ -4,15 +4,16 @@ ghost use Rattle.std.specs.Prelude.{◌≡◌, ◌≤◌, ◌++◌, ℕ, [], ◌
 ghost use Rattle.std.specs.List.{All};
 ghost use Rattle.col_base.specs.Causes.{HasCause};
 ghost use Rattle.col_disk.specs.Moved.{Moved, NoName};
-ghost use Rattle.plain_store.specs.Views as view;
+ghost use Rattle.ros_container.specs.Encodings.{encodings_of};
+ghost use Rattle.plain_tables.specs.Views as view;
 ghost use Rattle.plain_folder.specs.Served.{is_served_table};
 ghost use Rattle.plain_folder.specs.Reopens.{undeleted, column_of};
 ghost use Rattle.plain_folder.specs.Loading.{AreLoadable, HoldsAll, ToldTable, ToldTables, BlamesProjection, BlamesTable, BlamesTables};
 
 use catalog_types::{Column, Projection, Table as Kept};
 use col_disk::{Disk, StoreFault};
-use col_value::{Asked, List, Stamped};
-use plain_store::Table;
+use col_value::{Asked, Encoding, List, Stamped};
+use plain_tables::Table;
 use sql_tree::NewColumn;
 use std::alloc::{AllocError, Global};
 
@@ -79,6 +80,18 @@ fn columns_of(alloc: Global, columns: &[Column]) -> Result<List<NewColumn>, Allo
     Ok(List::new(copies))
 }
 
+fn encodings_of(alloc: Global, p: &Projection) -> Result<List<Encoding>, AllocError>
+    ensures { IfOk result (λ v. v ≡ encodings_of p.now) }
+{
+    let encodings: Vec<Encoding> = p
+        .columns
+        .as_slice()
+        .iter()
+        .map(|part| part.encoding)
+        .collect(alloc)?;
+    Ok(List::new(encodings))
+}
+
 /// A table of these rows, with the names and columns of the catalogue.
 fn table_with(
     alloc: Global,
@@ -89,6 +102,7 @@ fn table_with(
     ensures name { IfOk result (λ u. u.name ≡ t.now.name) }
     ensures projection { IfOk result (λ u. u.projection ≡ p.now.name) }
     ensures columns { IfOk result (λ u. u.columns ≡ map column_of t.now.columns) }
+    ensures encodings { IfOk result (λ u. u.encodings ≡ encodings_of p.now) }
     ensures rows { IfOk result (λ u. u.rows.items ≡ rows.items) }
     ensures born { IfOk result (λ u. u.born ≡ p.now.lge) }
 {
@@ -96,6 +110,7 @@ fn table_with(
         name: t.name.copy(alloc)?,
         projection: p.name.copy(alloc)?,
         columns: columns_of(alloc, t.columns.as_slice())?,
+        encodings: encodings_of(alloc, p)?,
         rows,
         born: p.lge,
     })

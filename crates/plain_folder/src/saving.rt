@@ -1,27 +1,25 @@
 //! A table as one of the catalogue, with its new rows written.
 
 ghost use Rattle.std.specs.Prelude.{◌≡◌, ◌≤◌, ◌<◌, ◌+◌, ◌++◌, ℕ, [], ◌∷◌, Some, map, length, IfOk, OnOk};
-ghost use Rattle.std.specs.List.{find};
+ghost use Rattle.std.specs.List.{All, enumerate_from, find};
 ghost use Rattle.std.specs.Str.{bytes_eq};
 ghost use Rattle.std.specs.Option.{option_copied};
 ghost use Rattle.col_base.specs.Causes.{HasCause};
 ghost use Rattle.col_disk.specs.Moved.{Moved, NoName};
 ghost use Rattle.db_model.specs.Growth.{late};
-ghost use Rattle.plain_store.specs.Views.{table_of};
+ghost use Rattle.ros_container.specs.Encodings.{encodings_of};
+ghost use Rattle.plain_tables.specs.Views.{table_of};
 ghost use Rattle.plain_folder.specs.Reopens.{undeleted};
 ghost use Rattle.plain_folder.specs.Closing.{DataFrom};
-ghost use Rattle.plain_folder.specs.Saving.{containers_of, containers_named, whole_projection, kept_column, IsOfOne, HoldsMore, SavesTable, SavesTables};
+ghost use Rattle.plain_folder.specs.Saving.{containers_of, containers_named, part_of, whole_projection, kept_column, HoldsMore, SavesTable, SavesTables};
 
 use crate::adding::{late_rows, write_container};
 use catalog_types::{Catalogue, Column, Container, ProjColumn, Projection, Table as Kept};
 use col_disk::{Disk, DiskFault};
 use col_value::{Asked, Encoding, List, Name, Stamped};
-use plain_store::Table;
+use plain_tables::Table;
 use sql_tree::NewColumn;
 use std::alloc::{AllocError, Global};
-
-// The numbers of a container of one column and its epochs.
-const NUMBERS: u64 = 4;
 
 // Numbers are drawn below this one.
 const MOST_NUMBERS: u64 = 1 << 61;
@@ -78,21 +76,40 @@ fn columns_of(alloc: Global, columns: List<NewColumn>) -> Result<List<Column>, A
     Ok(List::new(kept))
 }
 
-/// The projection that CREATE TABLE makes of one column, without rows.
-fn bare_projection(alloc: Global, name: Name, last: u64) -> Result<Projection, AllocError>
-    ensures { IfOk result (λ p. p ≡ whole_projection name last []) }
+fn parts_of(alloc: Global, encodings: &[Encoding]) -> Result<Vec<ProjColumn>, AllocError>
+    ensures { IfOk result (λ v. v.items ≡ map part_of (enumerate_from 0 encodings.now)) }
 {
-    let mut columns = Vec::with_capacity(alloc, 1)?;
-    columns.push(ProjColumn {
-        ordinal: 0,
-        encoding: Encoding::Plain,
-    })?;
-    let mut sort = Vec::with_capacity(alloc, 1)?;
-    sort.push(0)?;
+    encodings
+        .iter()
+        .enumerate()
+        .map(|(ordinal, encoding)| ProjColumn {
+            ordinal,
+            encoding: *encoding,
+        })
+        .collect(alloc)
+}
+
+fn places_of(alloc: Global, encodings: &[Encoding]) -> Result<Vec<usize>, AllocError>
+    ensures { IfOk result (λ v. v.items ≡ map (λ e. e.0) (enumerate_from 0 encodings.now)) }
+{
+    encodings.iter().enumerate().map(|(place, _)| place).collect(alloc)
+}
+
+/// The projection that CREATE TABLE makes, of columns in these encodings, without rows.
+fn bare_projection(
+    alloc: Global,
+    name: Name,
+    last: u64,
+    encodings: &[Encoding],
+) -> Result<Projection, AllocError>
+    ensures whole { IfOk result (λ p. p ≡ whole_projection name last encodings.now []) }
+    ensures long { IfOk result (λ p. length p.columns ≡ length encodings.now) }
+    ensures sorted { IfOk result (λ p. All (λ i. i < length p.columns) p.sort) }
+{
     Ok(Projection {
         name,
-        columns: List::new(columns),
-        sort: List::new(sort),
+        columns: List::new(parts_of(alloc, encodings)?),
+        sort: List::new(places_of(alloc, encodings)?),
         fresh: true,
         lge: last,
         born: 0,
@@ -120,20 +137,14 @@ fn kept_table(
     })
 }
 
-/// The new rows of a table of one column. Deleted rows and tables of more columns are answered as want of memory: no
-/// store has such.
+/// The new rows of a table. Deleted rows are answered as want of memory: no store has such.
 fn new_rows(
     alloc: Global,
     rows: Vec<Stamped>,
-    columns: usize,
     epoch: u64,
 ) -> Result<Vec<Asked>, AllocError>
-    ensures late { IfOk result (λ v. map undeleted v.items ≡ late epoch rows.items) }
-    ensures columns { IfOk result (λ v. columns ≡ 1) }
+    ensures { IfOk result (λ v. map undeleted v.items ≡ late epoch rows.items) }
 {
-    if columns != 1 {
-        return Err(AllocError);
-    }
     match late_rows(alloc, rows, epoch)? {
         Some(added) => Ok(added),
         None => Err(AllocError),
@@ -150,8 +161,9 @@ fn add_container<D: Disk>(
     rows: Vec<Asked>,
     next: u64,
 ) -> Result<u64, DiskFault>
-    requires shape { IsOfOne shape.now }
-    ensures held { IfOk result (λ after. HoldsMore next after containers.old.items containers.new.items rows.items (D.holds disk.old) (D.holds disk.new)) }
+    requires shape { All (λ i. i < length shape.now.columns) shape.now.sort }
+    requires most { length shape.now.columns ≤ 64 }
+    ensures held { IfOk result (λ after. HoldsMore (encodings_of shape.now) next after containers.old.items containers.new.items rows.items (D.holds disk.old) (D.holds disk.new)) }
     ensures next { IfOk result (λ after. next ≤ after) }
     ensures moved { Moved ⟦<D as Disk>⟧ (DataFrom next) NoName disk.old disk.new }
     ensures cause { HasCause DiskFault.Failed (D.faults disk.old) (D.faults disk.new) result }
@@ -162,9 +174,11 @@ fn add_container<D: Disk>(
     if next >= MOST_NUMBERS {
         return Err(DiskFault::Memory);
     }
+    // two for each column and two for the epochs
+    let numbers = 2 * (shape.columns.as_slice().len() as u64 + 1);
     match write_container(alloc, disk, shape, rows, next) {
         Ok(container) => match containers.push(container) {
-            Ok(()) => Ok(next + NUMBERS),
+            Ok(()) => Ok(next + numbers),
             Err(_) => Err(DiskFault::Memory),
         },
         Err(fault) => Err(fault),
@@ -189,7 +203,8 @@ pub struct Saved {
     pub next: u64,
 }
 
-/// Writes the rows of a table that are later than the catalogue, with numbers from `next` on.
+/// Writes the rows of a table that are later than the catalogue, with numbers from `next` on. A table whose columns
+/// aren't as many as their encodings, or more than 64, is answered as want of memory: no store has such.
 fn save_table<D: Disk>(
     alloc: Global,
     disk: &mut D,
@@ -207,10 +222,14 @@ fn save_table<D: Disk>(
         name,
         projection,
         columns,
+        encodings,
         rows,
         ..
     } = table;
-    let added = match new_rows(alloc, rows, columns.as_slice().len(), kept.last) {
+    if encodings.as_slice().len() != columns.as_slice().len() || encodings.as_slice().len() > 64 {
+        return Err(DiskFault::Memory);
+    }
+    let added = match new_rows(alloc, rows, kept.last) {
         Ok(added) => added,
         Err(AllocError) => return Err(DiskFault::Memory),
     };
@@ -221,7 +240,7 @@ fn save_table<D: Disk>(
         Ok(containers) => containers,
         Err(AllocError) => return Err(DiskFault::Memory),
     };
-    let shape = match bare_projection(alloc, projection, last) {
+    let shape = match bare_projection(alloc, projection, last, encodings.as_slice()) {
         Ok(shape) => shape,
         Err(AllocError) => return Err(DiskFault::Memory),
     };

@@ -1,49 +1,37 @@
 //! Which catalogues are served.
 
-ghost use Rattle.std.specs.Prelude.{◌≡◌, IfOk};
+ghost use Rattle.std.specs.Prelude.{◌≡◌, map, IfOk};
 ghost use Rattle.std.specs.Str.{bytes_eq};
 ghost use Rattle.std.specs.List.{list_all};
 ghost use Rattle.db_model.specs.Database.{super_name};
 ghost use Rattle.plain_folder.specs.Served as rule;
 
-use catalog_types::{Catalogue, Column, Container, ProjColumn, Projection, Table};
-use col_value::{ColType, Encoding, Name};
+use catalog_types::{Catalogue, Container, ProjColumn, Projection, Table};
+use col_value::Name;
 use std::alloc::{AllocError, Global};
 
-fn has_served_column(columns: &[Column]) -> bool
-    ensures { result ≡ rule.is_served_columns columns.now }
+fn are_places(places: &[usize]) -> bool
+    ensures { result ≡ rule.are_places 0 places.now }
 {
-    match columns {
-        [column] => column.kind == ColType::Integer && !column.not_null,
-        _ => false,
+    for (at, place) in places.iter().enumerate() {
+        if *place != at {
+            return false;
+        }
     }
+    true
 }
 
-fn is_plain(encoding: Encoding) -> bool
-    ensures { result ≡ rule.is_plain encoding }
+/// Whether these are the places of all columns of a table of so many.
+fn is_whole(columns: usize, places: &[usize]) -> bool
+    ensures { result ≡ rule.is_whole columns places.now }
 {
-    match encoding {
-        Encoding::Plain => true,
-        _ => false,
-    }
+    places.len() == columns && are_places(places)
 }
 
-fn has_served_part(parts: &[ProjColumn]) -> bool
-    ensures { result ≡ rule.is_served_parts parts.now }
+fn ordinals(alloc: Global, parts: &[ProjColumn]) -> Result<Vec<usize>, AllocError>
+    ensures { IfOk result (λ v. v.items ≡ map (λ c. c.ordinal) parts.now) }
 {
-    match parts {
-        [part] => part.ordinal == 0 && is_plain(part.encoding),
-        _ => false,
-    }
-}
-
-fn has_served_sort(sort: &[usize]) -> bool
-    ensures { result ≡ rule.is_served_sort sort.now }
-{
-    match sort {
-        [place] => *place == 0,
-        _ => false,
-    }
+    parts.iter().map(|part| part.ordinal).collect(alloc)
 }
 
 fn is_served_container(container: &Container) -> bool
@@ -71,36 +59,31 @@ fn is_super_of(alloc: Global, name: &Name, table: &Name) -> Result<bool, AllocEr
 fn is_served_projection(
     alloc: Global,
     last: u64,
-    table: &Name,
+    table: &Table,
     p: &Projection,
 ) -> Result<bool, AllocError>
     ensures { IfOk result (λ b. b ≡ rule.is_served_projection last table.now p.now) }
 {
-    let named = is_super_of(alloc, &p.name, table)?;
+    let columns = table.columns.as_slice().len();
+    let named = is_super_of(alloc, &p.name, &table.name)?;
+    let ordinals = ordinals(alloc, p.columns.as_slice())?;
     Ok(
         named
-            && has_served_part(p.columns.as_slice())
-            && has_served_sort(p.sort.as_slice())
+            && is_whole(columns, ordinals.as_slice())
+            && is_whole(columns, p.sort.as_slice())
             && p.fresh
             && p.lge == last
             && are_served_containers(p.containers.as_slice()),
     )
 }
 
-fn has_served_projection(alloc: Global, last: u64, table: &Table) -> Result<bool, AllocError>
-    ensures { IfOk result (λ b. b ≡ rule.is_served_projections last table.now.name table.now.projections) }
-{
-    match table.projections.as_slice() {
-        [p] => is_served_projection(alloc, last, &table.name, p),
-        _ => Ok(false),
-    }
-}
-
 fn is_served_table(alloc: Global, last: u64, table: &Table) -> Result<bool, AllocError>
     ensures { IfOk result (λ b. b ≡ rule.is_served_table last table.now) }
 {
-    let served = has_served_projection(alloc, last, table)?;
-    Ok(has_served_column(table.columns.as_slice()) && served)
+    match table.projections.as_slice() {
+        [p] => is_served_projection(alloc, last, table, p),
+        _ => Ok(false),
+    }
 }
 
 fn are_served_tables(alloc: Global, last: u64, tables: &[Table]) -> Result<bool, AllocError>

@@ -1,5 +1,5 @@
 use crate::{Opened, close_tables, open_tables};
-use col_disk::{DiskFault, MemDisk, StoreFault};
+use col_disk::{MemDisk, StoreFault};
 use std::alloc::Global;
 use std::test::Fail;
 
@@ -27,7 +27,8 @@ fn run(alloc: Global, disk: &mut MemDisk, statements: &[&str]) -> Result<Vec<u8>
     }
 }
 
-// Two runs: the second one's rows are a container of their own, and the first one's catalogue goes.
+// Two runs over columns of each type: the second one's rows are a container of their own, and the first one's
+// catalogue goes.
 #[test]
 fn two_runs_are_one_table(rt: HostRuntime) -> Result<(), Fail> {
     let alloc = rt.alloc();
@@ -36,8 +37,8 @@ fn two_runs_are_one_table(rt: HostRuntime) -> Result<(), Fail> {
         alloc,
         &mut disk,
         &[
-            "CREATE TABLE t (a INTEGER)",
-            "INSERT INTO t VALUES (7), (-2)",
+            "CREATE TABLE t (a INTEGER, b VARCHAR(3) NOT NULL, c BOOLEAN)",
+            "INSERT INTO t VALUES (7, 'x', TRUE), (-2, '', NULL)",
             "COMMIT",
         ],
     )?;
@@ -47,7 +48,7 @@ fn two_runs_are_one_table(rt: HostRuntime) -> Result<(), Fail> {
         &mut disk,
         &[
             "CREATE TABLE b (x INTEGER)",
-            "INSERT INTO t VALUES (4)",
+            "INSERT INTO t VALUES (NULL, 'yz', FALSE)",
             "COMMIT",
         ],
     )?;
@@ -56,36 +57,12 @@ fn two_runs_are_one_table(rt: HostRuntime) -> Result<(), Fail> {
         alloc,
         &mut disk,
         &[
-            "SELECT a FROM t",
+            "SELECT * FROM t",
             "AT EPOCH 1 SELECT a FROM t",
             "SELECT x FROM b",
         ],
     )?;
-    assert!(rt; text.as_slice() == b"-2\n4\n7\n(3 rows)\n-2\n7\n(2 rows)\n(0 rows)\n".as_slice());
-    Ok(())
-}
-
-// Rows that nobody committed are gone, and a run that changes nothing calls the disk no more after the opening.
-#[test]
-fn nothing_changed_calls_nothing(rt: HostRuntime) -> Result<(), Fail> {
-    let alloc = rt.alloc();
-    let mut disk = MemDisk::new(alloc);
-    run(alloc, &mut disk, &["CREATE TABLE t (a INTEGER)"])?;
-    let mut opened = match open_tables(alloc, &mut disk) {
-        Ok(opened) => opened,
-        Err(_) => return Err(Fail::new("not opened")),
-    };
-    printed(
-        alloc,
-        &mut opened,
-        &["INSERT INTO t VALUES (1)", "SELECT a FROM t"],
-    )?;
-    let calls = disk.calls();
-    let Opened { store, kept } = opened;
-    assert!(rt; close_tables(alloc, &mut disk, store, &kept).is_ok());
-    assert_eq!(rt; disk.calls(), calls);
-    let text = run(alloc, &mut disk, &["SELECT a FROM t"])?;
-    assert!(rt; text.as_slice() == b"(0 rows)\n".as_slice());
+    assert!(rt; text.as_slice() == b"|yz|f\n-2||\n7|x|t\n(3 rows)\n-2\n7\n(2 rows)\n(0 rows)\n".as_slice());
     Ok(())
 }
 
@@ -97,17 +74,17 @@ fn fault(alloc: Global, disk: &mut MemDisk) -> Option<StoreFault> {
     }
 }
 
-// A lone data file; a table of two columns; a listed file that is absent.
+// A lone data file; a projection sorted by its second column first; a listed file that is absent.
 #[test]
 fn damaged_folders(rt: HostRuntime) -> Result<(), Fail> {
     let alloc = rt.alloc();
     let mut lone = MemDisk::new(alloc).with(8, &[1])?;
     assert!(rt; fault(alloc, &mut lone) == Some(StoreFault::Damaged(8)));
-    let wide = [
+    let turned = [
         0x56, 0x43, 0x41, 0x54, 1, 0, 0, 2, 1, 1, 0x74, 2, 1, 0x61, 1, 0, 1, 0x62, 1, 0, 1, 7,
-        0x74, 0x5f, 0x73, 0x75, 0x70, 0x65, 0x72, 2, 0, 4, 1, 4, 2, 0, 1, 1, 0, 0, 0,
+        0x74, 0x5f, 0x73, 0x75, 0x70, 0x65, 0x72, 2, 0, 4, 1, 4, 2, 1, 0, 1, 0, 0, 0,
     ];
-    let mut foreign = MemDisk::new(alloc).with(5, &wide)?.with(6, &[0x56])?;
+    let mut foreign = MemDisk::new(alloc).with(5, &turned)?.with(6, &[0x56])?;
     assert!(rt; fault(alloc, &mut foreign) == Some(StoreFault::Damaged(5)));
     let listed = [
         0x56, 0x43, 0x41, 0x54, 1, 1, 0, 6, 1, 1, 0x74, 1, 1, 0x61, 1, 0, 1, 7, 0x74, 0x5f, 0x73,
@@ -117,39 +94,4 @@ fn damaged_folders(rt: HostRuntime) -> Result<(), Fail> {
     let absent = fault(alloc, &mut bare);
     assert!(rt; absent == Some(StoreFault::Damaged(8)) || absent == Some(StoreFault::Damaged(16)));
     Ok(())
-}
-
-// Each call of the opening and of the clean end fails in turn, until there are fewer calls.
-#[test]
-fn each_call_of_the_end_fails(rt: HostRuntime) -> Result<(), Fail> {
-    let alloc = rt.alloc();
-    for failing in 0..40 {
-        let mut disk = MemDisk::new(alloc).failing_at(&[failing])?;
-        let mut opened = match open_tables(alloc, &mut disk) {
-            Ok(opened) => opened,
-            Err(fault) => {
-                assert!(rt; fault == StoreFault::Disk);
-                continue;
-            }
-        };
-        printed(
-            alloc,
-            &mut opened,
-            &[
-                "CREATE TABLE t (a INTEGER)",
-                "INSERT INTO t VALUES (3)",
-                "COMMIT",
-            ],
-        )?;
-        let Opened { store, kept } = opened;
-        match close_tables(alloc, &mut disk, store, &kept) {
-            // The failing number wasn't reached.
-            Ok(()) => {
-                assert!(rt; disk.calls() <= failing && disk.bytes(22).is_some());
-                return Ok(());
-            }
-            Err(fault) => assert!(rt; fault == DiskFault::Failed && disk.faults() == 1),
-        }
-    }
-    Err(Fail::new("each of 40 calls failed"))
 }

@@ -1,6 +1,7 @@
 use Rattle.std.proofs.Common.{◌≡◌, ◌∙◌, ap, sym, length, subst, rules}
 use Rattle.std.specs.Prelude.{List}
 use Rattle.col_value.specs.declared.row.Asked.{Asked}
+use Rattle.ros_container.specs.Encodings.{encodings_of}
 use Rattle.ros_container.specs.Rows.{AreWithin}
 use Rattle.ros_container.specs.Held.{HoldsContainer}
 use Rattle.plain_folder.proofs.Epochs.{all_within}
@@ -15,8 +16,7 @@ returns-in-Ok-write_rows-clause-held g c =
       c.in-Ok.sorted.items,
       c.in-Ok.ensures,
       λ m told.
-          subst (λ (xs : List Asked). HoldsContainer m 1 k xs) (sym first)
-          (subst (λ n. HoldsContainer m n k rows) c.requires.shape.columns
+          subst (λ (xs : List Asked). HoldsContainer m (encodings_of c.args.shape.now) k xs) (sym first)
           (c.in-Ok-write_rows.ensures.held m told k c.container_of.ensures.base (c.container_of.ensures.rows ∙ ap (λ (xs : List Asked). length xs) again)
-          (subst (λ (xs : List Asked). AreWithin k xs) again (all_within k c.as_slice-in-Ok-write_rows.result.now c.container_of.ensures.least c.container_of.ensures.greatest)))),
+          (subst (λ (xs : List Asked). AreWithin k xs) again (all_within k c.as_slice-in-Ok-write_rows.result.now c.container_of.ensures.least c.container_of.ensures.greatest))),
     )

@@ -1,6 +1,6 @@
 use Rattle.std.proofs.Common.{◌≡◌, map, refl, rules}
 use Rattle.std.proofs.lemmas.Result.{on_ok_weaker}
-use Rattle.plain_store.specs.Views.{table_of}
+use Rattle.plain_tables.specs.Views.{table_of}
 use Rattle.plain_folder.proofs.Closed.{leaves_all}
 use Rattle.plain_folder.proofs.closing.write_tables.Goals as goal
 

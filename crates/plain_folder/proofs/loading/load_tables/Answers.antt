@@ -1,7 +1,7 @@
 use Rattle.std.proofs.Common.{◌≡◌, ◌≤◌, ◌∙◌, sym, refl, rules, arith}
 use Rattle.std.specs.List.{All}
 use Rattle.col_value.specs.declared.row.Stamped.{Stamped}
-use Rattle.plain_store.specs.declared.table.Table.{Table}
+use Rattle.plain_tables.specs.declared.table.Table.{Table}
 use Rattle.plain_folder.proofs.Blames.{blame_tables}
 use Rattle.plain_folder.proofs.Found.{tables_more, names_more, all_more}
 use Rattle.plain_folder.proofs.loading.load_tables.Goals as goal

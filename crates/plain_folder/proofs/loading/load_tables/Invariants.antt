@@ -2,7 +2,7 @@ use Rattle.std.proofs.Common.{ℕ, ◌≡◌, ◌≤◌, take, map}
 use Rattle.std.specs.Prelude.{Some}
 use Rattle.std.specs.List.{All}
 use Rattle.col_disk.specs.Moved.{Moved, NoName}
-use Rattle.plain_store.specs.Views as view
+use Rattle.plain_tables.specs.Views as view
 use Rattle.plain_folder.specs.Loading.{ToldTables}
 use Rattle.plain_folder.proofs.loading.load_tables.Given as goal
 

@@ -1,7 +1,7 @@
 use Rattle.std.proofs.Common.{◌≡◌, List, subst, map, true, false, refl, rules}
 use Rattle.catalog_types.specs.declared.catalogue.Table.{Table}
 use Rattle.plain_folder.specs.Loading.{BlamesTables}
-use Rattle.plain_store.specs.Views.{table_of}
+use Rattle.plain_tables.specs.Views.{table_of}
 use Rattle.plain_folder.specs.Served.{is_served}
 use Rattle.plain_folder.proofs.Blames.{blame_unserved, blame_listed}
 use Rattle.plain_folder.proofs.Rooted.{opened_root}

@@ -1,7 +1,10 @@
-use Rattle.std.proofs.Common.{◌≡◌, ◌∙◌, ◌∷◌, [], List, ℕ, ap, length, map, refl, rules}
+use Rattle.std.proofs.Common.{◌≡◌, ◌∙◌, ◌∷◌, [], List, ℕ, ap, subst, length, map, refl, rules}
 use Rattle.catalog_types.specs.declared.catalogue.Projection.{Projection}
-use Rattle.plain_folder.specs.Saving.{containers_named, whole_projection, kept_column}
+use Rattle.col_value.specs.declared.kinds.Encoding.{Encoding}
+use Rattle.ros_container.specs.Encodings.{encodings_of}
+use Rattle.plain_folder.specs.Saving.{containers_named, whole_projection, kept_column, HoldsMore}
 use Rattle.plain_folder.proofs.Saved.{saved_one}
+use Rattle.plain_folder.proofs.Whole.{whole_encodings}
 use Rattle.plain_folder.proofs.saving.save_table.Goals as goal
 
 pub returns-in-Ok-kept_table-clause-saved : goal.returns-in-Ok-kept_table-clause-saved
@@ -10,13 +13,16 @@ returns-in-Ok-kept_table-clause-saved g c =
     let t = c.in-Ok-kept_table.table in
     let js = c.add_container.new.containers.items in
     let ks_are : c.in-Ok-from_slice.containers.items ≡ containers_named u.name c.args.kept.now.tables = search rules in
-    let one : length u.columns ≡ 1 = search rules in
+    let wide : length u.encodings ≡ length u.columns = search rules in
     let named : t.name ≡ u.name = search rules in
     let columns : t.columns ≡ map kept_column u.columns = search rules in
-    let shape : c.in-Ok-bare_projection.shape ≡ whole_projection u.projection c.args.last [] = search rules in
-    let filled : c.filled.result ≡ whole_projection u.projection c.args.last js =
+    let shape : c.in-Ok-bare_projection.shape ≡ whole_projection u.projection c.args.last u.encodings [] = search rules in
+    let filled : c.filled.result ≡ whole_projection u.projection c.args.last u.encodings js =
     c.filled.ensures ∙ ap (λ (p : Projection). record p { born = length js; containers = js }) shape in
-    let projections : t.projections ≡ whole_projection u.projection c.args.last js ∷ [] =
+    let projections : t.projections ≡ whole_projection u.projection c.args.last u.encodings js ∷ [] =
     c.in-Ok-kept_table.ensures.projections ∙ ap (λ (p : Projection). p ∷ []) filled in
+    let es : encodings_of c.in-Ok-bare_projection.shape ≡ u.encodings = ap (λ (p : Projection). encodings_of p) shape ∙ whole_encodings u.projection c.args.last u.encodings [] in
+    let more : HoldsMore u.encodings c.args.next c.in-Ok-add_container.after c.in-Ok-from_slice.containers.items js c.in-Ok.added.items _ _ =
+    subst (λ (xs : List Encoding). HoldsMore xs c.args.next c.in-Ok-add_container.after c.in-Ok-from_slice.containers.items js c.in-Ok.added.items _ _) es c.in-Ok-add_container.ensures.held in
     saved_one c.args.next c.in-Ok-add_container.after c.args.kept.now c.args.last t u c.in-Ok-from_slice.containers.items js c.in-Ok.added.items _ _
-    ks_are c.in-Ok-add_container.ensures.held c.in-Ok.ensures.late one named columns projections
+    ks_are more c.in-Ok.ensures wide named columns projections

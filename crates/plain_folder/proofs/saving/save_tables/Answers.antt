@@ -2,7 +2,7 @@ use Rattle.std.proofs.Common.{◌≡◌, ◌∙◌, ◌++◌, ◌∷◌, [], Lis
 use Rattle.std.proofs.lemmas.List.{append-nil}
 use Rattle.col_disk.proofs.Moving.{moved_none, moved_join, moved_wider}
 use Rattle.col_disk.specs.Moved.{Moved, NoName}
-use Rattle.plain_store.specs.declared.table.Table.{Table}
+use Rattle.plain_tables.specs.declared.table.Table.{Table}
 use Rattle.plain_folder.specs.Closing.{DataFrom}
 use Rattle.plain_folder.proofs.Below.{later_data}
 use Rattle.plain_folder.proofs.Saved.{saved_none, saved_more, nothing_left}

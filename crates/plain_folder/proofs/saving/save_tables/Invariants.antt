@@ -2,8 +2,8 @@ use Rattle.std.proofs.Common.{ℕ, ◌≡◌, ◌≤◌, ◌++◌, map}
 use Rattle.std.specs.Prelude.{List, Some}
 use Rattle.std.specs.List.{All}
 use Rattle.col_disk.specs.Moved.{Moved, NoName}
-use Rattle.plain_store.specs.Views.{table_of}
-use Rattle.plain_store.specs.declared.table.Table.{Table}
+use Rattle.plain_tables.specs.Views.{table_of}
+use Rattle.plain_tables.specs.declared.table.Table.{Table}
 use Rattle.plain_folder.specs.Closing.{DataFrom}
 use Rattle.plain_folder.specs.Saving.{SavesTables}
 use Rattle.plain_folder.proofs.saving.save_tables.Given as goal
