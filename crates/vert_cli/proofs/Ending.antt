@@ -12,7 +12,7 @@ use Rattle.catalog_types.specs.declared.catalogue.Catalogue.{Catalogue}
 use Rattle.db_model.specs.Database.{Database}
 use Rattle.db_model.specs.State.{State, opened_state}
 use Rattle.db_model.specs.Growth.{HasGrown}
-use Rattle.plain_store.proofs.Growing.{grown_none, grown_texts}
+use Rattle.db_laws.proofs.Growing.{grown_none, grown_texts}
 use Rattle.plain_folder.specs.Opening.{IsRead}
 use Rattle.plain_folder.specs.Faults.{BlamesFolder}
 use Rattle.plain_folder.specs.Closing.{IsUnchanged, LeavesTables}

@@ -1,3 +1,2 @@
 pub mod Running
-pub mod OneText
 pub mod Ending

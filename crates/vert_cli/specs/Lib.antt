@@ -4,4 +4,3 @@ pub mod Statements
 pub mod Runs
 pub mod Folders
 pub mod Ends
-pub mod OneText

@@ -7,18 +7,16 @@
 //! left (`RanScript`); after a fault of the sink the first statements ran and their text was taken, and of the next one's
 //! text a front or nothing. `Session` promises the same of the opening, of one statement (`Answered` and `Stopped` of
 //! `specs/Statements.antt`) and of the clean end, and `dir_of` reads DIR (`dir_of_words` of `specs/Words.antt`).
-//! `a_script_has_one_text` says that the text is one.
+//! That the text is one is a law of `one_text`.
 #![tactic(auto)]
 
 mod faults;
-mod laws;
 mod program;
 mod script;
 mod session;
 mod words;
 
 pub use faults::{Outcome, RunFault, Status};
-pub use laws::a_script_has_one_text;
 pub use program::run;
 pub use session::Session;
 pub use words::dir_of;
