@@ -85,7 +85,7 @@ step_once reading list old text p q why also m n first second =
     let refused : why ≡ also = decided_once old text second.read why also (subst (λ (r : Option Statement). Decides old text r why) same first.decided) second.decided in
     let here : Effect old second.read also p m =
     subst (λ (r : Option Refusal). Effect old second.read r p m) refused (subst (λ (r : Option Statement). Effect old r why p m) same first.effect) in
-    let both = effect_once listing old second.read also p q m n here second.effect in
+    let both = effect_once list old second.read also p q m n here second.effect in
     (both.0, refused, both.1)
 
 pub texts_once : OneReading → OneList → (texts : List (List ℕ)) (old : State) (p q : List ℕ) (r s : Bool) (m n : State)
