@@ -1,0 +1,24 @@
+-- The statements of docs/SQL.md, in their order.
+CREATE TABLE pieces (part VARCHAR(20) NOT NULL, weight INTEGER, fragile BOOLEAN);
+INSERT INTO pieces VALUES ('bolt', 12, FALSE), ('lamp', 340, TRUE), ('cable', NULL, FALSE);
+COMMIT;
+SELECT part, weight * 2 AS double FROM pieces WHERE NOT fragile ORDER BY double DESC;
+SELECT pieces.part FROM pieces ORDER BY 1 LIMIT 1;
+AT EPOCH 0 SELECT part FROM pieces;
+AT EPOCH LATEST SELECT part FROM pieces WHERE weight IS NULL;
+SELECT GET_CURRENT_EPOCH();
+\session 1;
+SELECT part FROM pieces WHERE;
+DROP TABLE pieces;
+SELECT part FROM parts;
+SELECT size FROM pieces;
+SELECT part AS x, weight AS x FROM pieces ORDER BY x;
+CREATE TABLE pieces (a INTEGER);
+INSERT INTO pieces VALUES ('nut', 2);
+SELECT part + 1 FROM pieces;
+SELECT weight * weight * weight FROM pieces;
+CREATE TABLE u (a VARCHAR(65001));
+AT EPOCH 3 SELECT part FROM pieces;
+INSERT INTO pieces VALUES ('x', 9223372036854775808, TRUE);
+INSERT INTO pieces VALUES ('a very long name indeed', 1, TRUE);
+INSERT INTO pieces VALUES (NULL, 1, TRUE);
