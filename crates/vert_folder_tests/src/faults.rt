@@ -43,8 +43,7 @@ fn each_call_of_the_disk_fails_in_turn(rt: HostRuntime) -> Result<(), Fail> {
 // their sums: a number that stays between the bounds of its block is another number.
 fn text_of(name: u64, at: usize, byte: u8) -> &'static [u8] {
     match (name, at, byte) {
-        (4, 10, 2) => b"2\n2\n(2 rows)\n",
-        (4, 19, 1) => b"1\n1\n(2 rows)\n",
+        (4, 11, 1) => b"1\n1\n(2 rows)\n",
         _ => ROWS,
     }
 }

@@ -28,7 +28,7 @@ fn worked_scripts(rt: HostRuntime) -> Result<(), Fail> {
         (
             "SELECT b FROM t; COMMIT",
             Status::Refused,
-            "ERROR 1 Syntax 1\nCOMMIT\n",
+            "ERROR 4 UnknownColumn b\nCOMMIT\n",
         ),
     ] {
         let script = format!(in alloc; "{ROW}{more}")?;
@@ -60,12 +60,12 @@ fn odd_scripts(rt: HostRuntime) -> Result<(), Fail> {
         (
             b"COMMIT; SELECT 'a;",
             Status::Refused,
-            "COMMIT\nERROR 1 Syntax 1\n",
+            "COMMIT\nERROR 1 Syntax 2\n",
         ),
         (
             b"COMMIT\0; COMMIT",
             Status::Refused,
-            "ERROR 1 Syntax 1\nCOMMIT\n",
+            "ERROR 1 Syntax 2\nCOMMIT\n",
         ),
         (
             b"\xff; COMMIT; '\xc3'",

@@ -116,6 +116,6 @@ fn two_sessions(rt: HostRuntime) -> Result<(), Fail> {
         session.close(alloc, &mut disk)?;
         assert_eq!(rt; disk.names(alloc)?.as_slice(), [5, 6].as_slice());
     }
-    assert!(rt; out.bytes() == b"CREATE TABLE\n(0 rows)\nERROR 1 Syntax 1\n".as_slice());
+    assert!(rt; out.bytes() == b"CREATE TABLE\n(0 rows)\nERROR 2 UnknownTable s\n".as_slice());
     Ok(())
 }
