@@ -15,14 +15,14 @@ use Rattle.sql_tree.specs.declared.statement.Statement.{Statement}
 use Rattle.sql_tree.specs.declared.refusal.Refusal.{Refusal}
 use Rattle.sql_binder.specs.Inserts.{inserted_rows}
 use Rattle.sql_binder.specs.Names.{first_of}
-use Rattle.db_model.specs.Database.{Shape, Table, Database, table_named, is_taken, put_table, mark_all}
+use Rattle.db_model.specs.Database.{Table, Database, table_named, is_taken, put_table, mark_all}
 use Rattle.db_model.specs.State.{State, Changes, opened_state, own_changes, with_changes, with_rows, joined, has_changes, inserted_at, commit_into, change_named, commit_changes, committed}
 use Rattle.db_model.specs.Forms.{is_built}
-use Rattle.db_model.specs.Refusing.{refusal_of, served_refusal, create_refusal, create_limit, taken_name, if_taken}
+use Rattle.db_model.specs.Refusing.{served_refusal, create_refusal, create_limit, taken_name, if_taken}
 use Rattle.db_model.specs.Step.{Step, Decides, Effect, new_table, with_table, after}
 use Rattle.db_model.specs.Run.{RunTexts}
 use Rattle.db_model.specs.Growth.{early, rows_named, shapes_named, IsOpened, HasGrown}
-use Rattle.db_laws.proofs.Named.{both_hold, denied, free_name, unnamed, put_length, put_all, put_named, change_length, change_all, change_there}
+use Rattle.db_laws.proofs.Named.{free_name, unnamed, put_length, put_all, put_named, change_length, change_all, change_there}
 
 -- no row of these changes waits to be deleted
 abbrev pub IsBare : Changes → Type 0
@@ -223,7 +223,8 @@ grown_none d opened = record {
   kept = All-weaker (λ (t : Table). table_named t.name d.tables ≡ Some t) (λ (t : Table). is_some (table_named t.name d.tables) ≡ true)
       (λ t is. ap (λ (o : Option Table). is_some o) is) d.tables opened.named;
   rows = λ k t within. all_early d.last _ (opened.rows k t within) ∙ sym (ap (λ (o : Option Table). option_map_or (λ (u : Table). u.rows) o []) (opened.named k t within));
-  shapes = λ k t within. sym (ap (λ (o : Option Table). option_map_or (λ (u : Table). u.shapes) o t.shapes) (opened.named k t within));
+  shapes = All-weaker (λ (t : Table). table_named t.name d.tables ≡ Some t) (HasShapes d.tables)
+      (λ t is. sym (ap (λ (o : Option Table). option_map_or (λ (u : Table). u.shapes) o t.shapes) is)) d.tables opened.named;
   same = λ closed tables. refl;
   bare = All-nil IsBare;
   current = refl;

@@ -7,7 +7,6 @@ use Rattle.col_value.specs.declared.wide.Wide.{Wide}
 use Rattle.col_value.specs.Prints.{row_text}
 use Rattle.sql_tree.specs.declared.query.At.{At}
 use Rattle.sql_tree.specs.declared.query.Query.{Query}
-use Rattle.sql_bound.specs.declared.query.BoundQuery.{BoundQuery}
 use Rattle.sql_bound.specs.Outputs.{output}
 use Rattle.sql_bound.specs.Printed.{IsPrinted}
 use Rattle.sql_binder.specs.Queries.{bound_query, source_table}

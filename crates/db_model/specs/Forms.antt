@@ -1,10 +1,9 @@
 -- Which statements are served, and what a statement names.
-use Rattle.std.specs.Prelude.{ℕ, ◌==◌, Bool, true, false, List, Option, Some, None, option_map, position, bytes_eq}
+use Rattle.std.specs.Prelude.{ℕ, ◌==◌, Bool, true, false, List, Option, option_map, position, bytes_eq}
 use Rattle.sql_tree.specs.declared.statement.Function.{Function}
 use Rattle.sql_tree.specs.declared.statement.NewColumn.{NewColumn}
 use Rattle.sql_tree.specs.declared.statement.Statement.{Statement}
-use Rattle.sql_tree.specs.declared.query.Query.{Query}
-use Rattle.sql_binder.specs.Queries.{is_single, source_table}
+use Rattle.sql_binder.specs.Queries.{is_single}
 use Rattle.db_model.specs.Database.{Table, table_named}
 
 abbrev pub is_current_epoch : Function → Bool

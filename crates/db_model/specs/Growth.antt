@@ -27,9 +27,9 @@ pub record IsOpened (d : Database) : Type 0 where
   pub named : All (λ t. table_named t.name d.tables ≡ Some t) d.tables
   pub rows : All (λ t. All (λ s. s.ins ≤ d.last) t.rows) d.tables
 
--- A state that statements have made of a database. Each table of the database is still there; each table has, of the rows up to
--- the epoch at which the database was opened, exactly those that it had then; one that was there has the projections that it had; and where neither an epoch was closed nor a table
--- made, the database is the same. No row waits to be deleted, and session 1 of eight is current.
+-- A state that statements have made of a database. Each table of the database is still there, with the projections that it had;
+-- each table has, of the rows up to the epoch at which the database was opened, exactly those that it had then; and where neither
+-- an epoch was closed nor a table made, the database is the same. No row waits to be deleted, and session 1 of eight is current.
 pub record HasGrown (d : Database) (state : State) : Type 0 where
   pub later : d.last ≤ state.database.last
   pub ahm : state.database.ahm ≡ d.ahm

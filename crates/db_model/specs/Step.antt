@@ -1,13 +1,11 @@
 -- One statement: what it is, whether it is refused, what it prints and what it leaves.
-use Rattle.std.specs.Prelude.{ℕ, ◌≡◌, ◌&&◌, ◌+◌, if◌then◌else◌, nat_lt, nat_le, Bool, true, List, [], ◌∷◌, map, length, Option, Some, None, codes}
+use Rattle.std.specs.Prelude.{ℕ, ◌≡◌, ◌+◌, if◌then◌else◌, true, List, [], ◌∷◌, map, length, Option, Some, None, codes}
 use Rattle.std.specs.List.{enumerate_from}
-use Rattle.col_value.specs.declared.value.Value.{Value}
 use Rattle.col_value.specs.declared.wide.Wide.{Wide}
 use Rattle.col_value.specs.declared.kinds.Encoding.{Encoding}
 use Rattle.sql_words.specs.Symbols.{symbols_of}
 use Rattle.sql_tree.specs.declared.statement.NewColumn.{NewColumn}
 use Rattle.sql_tree.specs.declared.statement.Statement.{Statement}
-use Rattle.sql_tree.specs.declared.query.At.{At}
 use Rattle.sql_tree.specs.declared.refusal.Refusal.{Refusal}
 use Rattle.sql_tree.specs.Spells.{Spells}
 use Rattle.sql_tree.specs.Lines.{refusal_text}
