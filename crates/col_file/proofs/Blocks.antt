@@ -36,7 +36,7 @@ told_true rows e vs is = rw (eq-eqb (length vs) (min 1024 (rows - e.first)) is.l
 pub block_not : (encoding : Encoding) (rows : ℕ) (e : Entry) (vs : List Value) (bytes : List ℕ) → SpellsAs encoding vs bytes → test rows e vs ≡ false → SpellsBlock encoding rows e bytes → ⊥
 block_not encoding rows e vs bytes spells told (us, is, spelled) =
     let same : vs ≡ us = one_list encoding encoding vs us bytes spells spelled in
-    let told : test rows e vs ≡ true = subst (λ (ws : List Value). test rows e ws ≡ true) (sym same) (told_true rows e us is) in
+    let also : test rows e vs ≡ true = subst (λ (ws : List Value). test rows e ws ≡ true) (sym same) (told_true rows e us is) in
     absurd (cc)
 
 pub last_piece : (e : Entry) (o : Option (Vec ℕ Global)) (len : ℕ) (file : Option (List ℕ)) → ◌≡◌ {A = Option ℕ} (Some len) (option_map length file)

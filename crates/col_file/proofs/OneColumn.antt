@@ -1,5 +1,5 @@
 -- Two files hold one list of values.
-use Rattle.std.proofs.Common.{◌≡◌, ℕ, List, [], ◌∷◌, ◌++◌, Option, Some, sym, ap, ap₂, subst, ◌∙◌, inr}
+use Rattle.std.proofs.Common.{◌≡◌, ℕ, List, [], ◌∷◌, ◌++◌, Option, Some, sym, ap₂, subst, ◌∙◌, inr}
 use Rattle.std.specs.Prelude.{Result, Ok, Err, IfErr, Vec}
 use Rattle.std.specs.declared.alloc.Global.{Global}
 use Rattle.std.specs.FinMap.{get}
@@ -15,7 +15,7 @@ use Rattle.pos_index.specs.declared.index.PosIndex.{PosIndex}
 use Rattle.pos_index.specs.Index.{index_spelling, IsIndex, Fits}
 use Rattle.pos_index.proofs.Reading.{one_spelling}
 use Rattle.col_file.specs.Column.{IsFile}
-use Rattle.col_file.specs.Read.{Blames, piece}
+use Rattle.col_file.specs.Read.{Blames}
 use Rattle.col_file.specs.Held.{HasBlocks, HoldsNoBlocks, HoldsColumn, BlamesColumn}
 
 one_by_blocks : (encoding : Encoding) (rows : ℕ) (bytes : List ℕ) (es : List Entry) (vs ws : List Value) → HasBlocks encoding rows bytes es vs → HasBlocks encoding rows bytes es ws → vs ≡ ws

@@ -16,8 +16,21 @@ ghost use Rattle.col_file.specs.Held.{HoldsColumn};
 use block_choice::encode;
 use col_disk::{Disk, DiskFault};
 use col_value::{Encoding, Value};
-use pos_index::{block_at, blocks_of, build, have_spellings};
+use pos_index::{blocks_of, build, have_spellings};
 use std::alloc::{AllocError, Global};
+
+/// The values of block k.
+fn block_at(values: &[Value], k: usize) -> &[Value]
+    requires { 1024 * k < length values.now }
+    ensures { result.now ≡ nth_block k values.now }
+{
+    let rest = values.split_at(1024 * k).1;
+    if rest.len() <= 1024 {
+        rest
+    } else {
+        rest.split_at(1024).0
+    }
+}
 
 /// Appends block k to the body, and its place to the places.
 fn push_block(
