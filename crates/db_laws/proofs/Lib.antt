@@ -1,3 +1,3 @@
 mod Named
-mod Growing
-mod Alike
+pub mod Growing
+pub mod Alike
