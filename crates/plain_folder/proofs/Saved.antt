@@ -37,13 +37,14 @@ all_last : {X : Type 0} (P : X → Type 0) (xs : List X) (y : X) → All P (xs +
 all_last P xs y all = All-contains P (xs ++ y ∷ []) y all (Contains-push xs y)
 
 -- a table's early rows, which were held, and its late rows, which are held behind them, are its rows
-pub saved_one : (next after : ℕ) (kept : Catalogue) (last : ℕ) (t : Kept) (u : Table) (ks js : List Container) (added : List Asked) (found left : Option Contents)
-    → ks ≡ containers_named u.name kept.tables → HoldsMore u.encodings next after ks js added found left → map undeleted added ≡ late kept.last u.rows.items → length u.encodings ≡ length u.columns
+pub saved_one : (next after : ℕ) (kept : Catalogue) (last : ℕ) (t : Kept) (u : Table) (es : List Encoding) (ks js : List Container) (added : List Asked) (found left : Option Contents)
+    → ks ≡ containers_named u.name kept.tables → es ≡ u.encodings → HoldsMore es next after ks js added found left → map undeleted added ≡ late kept.last u.rows.items → length u.encodings ≡ length u.columns
     → t.name ≡ u.name → t.columns ≡ map kept_column u.columns → t.projections ≡ whole_projection u.projection last u.encodings js ∷ []
     → SavesTable next after kept last t (table_of u) found left
-saved_one next after kept last t u ks js added found left ks_are more late_are wide named columns projections m told was =
+saved_one next after kept last t u es ks js added found left ks_are es_are holds_more late_are wide named columns projections m told was =
+    let more : HoldsMore u.encodings next after ks js added found left = subst (λ (xs : List Encoding). HoldsMore xs next after ks js added found left) es_are holds_more in
     let mine : AreHeld m u.encodings next (containers_named u.name kept.tables) (early kept.last u.rows.items) =
-    subst (λ (es : List Encoding). AreHeld m es next (containers_named u.name kept.tables) (early kept.last u.rows.items)) (seconds_from 0 u.encodings) was in
+    subst (λ (xs : List Encoding). AreHeld m xs next (containers_named u.name kept.tables) (early kept.last u.rows.items)) (seconds_from 0 u.encodings) was in
     let held : AreHeld m u.encodings next ks (early kept.last u.rows.items) =
     subst (λ (xs : List Container). AreHeld m u.encodings next xs (early kept.last u.rows.items)) (sym ks_are) mine in
     let (n, sorted, told_now, same, holds) = more m (early kept.last u.rows.items) told held in

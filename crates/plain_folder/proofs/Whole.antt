@@ -57,9 +57,13 @@ whole_sorted name last es ks =
     let long = whole_long name last es ks in
     All-weaker (λ i. i < 0 + length es) (λ i. i < length (whole_projection name last es ks).columns) (λ i lt. omega (arith, lt, long)) (map {B = ℕ} (λ e. e.0) (enumerate_from 0 es)) (places_below 0 es)
 
+-- a shape of its parts
+abbrev shape_with : List ℕ → ℕ → List (ℕ × Encoding) → List ℕ → model.Shape
+shape_with name last columns sort = record { name = name; columns = columns; sort = sort; fresh = true; lge = last }
+
 -- its shape is that of a table with as many columns, moved out
 pub whole_shape : (t : Table) (last : ℕ) (ks : List Container) → length t.encodings ≡ length t.columns
     → shape_of (whole_projection t.projection last t.encodings ks) ≡ moved_shape last (projection_of t)
 whole_shape t last ks same =
-    ap₂ (λ (parts : List (ℕ × Encoding)) (sort : List ℕ). record model.Shape { name = t.projection; columns = parts; sort = sort; fresh = true; lge = last })
+    ap₂ (λ (parts : List (ℕ × Encoding)) (sort : List ℕ). shape_with t.projection last parts sort)
     (parts_from 0 t.encodings) (places_alike 0 t.encodings t.columns same)

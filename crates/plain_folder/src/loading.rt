@@ -10,7 +10,7 @@ ghost use Rattle.plain_folder.specs.Served.{is_served_table};
 ghost use Rattle.plain_folder.specs.Reopens.{undeleted, column_of};
 ghost use Rattle.plain_folder.specs.Loading.{AreLoadable, HoldsAll, ToldTable, ToldTables, BlamesProjection, BlamesTable, BlamesTables};
 
-use catalog_types::{Column, Projection, Table as Kept};
+use catalog_types::{Column, ProjColumn, Projection, Table as Kept};
 use col_disk::{Disk, StoreFault};
 use col_value::{Asked, Encoding, List, Stamped};
 use plain_tables::Table;
@@ -80,16 +80,10 @@ fn columns_of(alloc: Global, columns: &[Column]) -> Result<List<NewColumn>, Allo
     Ok(List::new(copies))
 }
 
-fn encodings_of(alloc: Global, p: &Projection) -> Result<List<Encoding>, AllocError>
-    ensures { IfOk result (λ v. v ≡ encodings_of p.now) }
+fn encodings_in(alloc: Global, parts: &[ProjColumn]) -> Result<Vec<Encoding>, AllocError>
+    ensures { IfOk result (λ v. v.items ≡ map (λ c. c.encoding) parts.now) }
 {
-    let encodings: Vec<Encoding> = p
-        .columns
-        .as_slice()
-        .iter()
-        .map(|part| part.encoding)
-        .collect(alloc)?;
-    Ok(List::new(encodings))
+    parts.iter().map(|part| part.encoding).collect(alloc)
 }
 
 /// A table of these rows, with the names and columns of the catalogue.
@@ -110,7 +104,7 @@ fn table_with(
         name: t.name.copy(alloc)?,
         projection: p.name.copy(alloc)?,
         columns: columns_of(alloc, t.columns.as_slice())?,
-        encodings: encodings_of(alloc, p)?,
+        encodings: List::new(encodings_in(alloc, p.columns.as_slice())?),
         rows,
         born: p.lge,
     })

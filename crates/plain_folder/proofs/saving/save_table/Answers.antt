@@ -1,8 +1,8 @@
-use Rattle.std.proofs.Common.{◌≡◌, ◌∙◌, ◌∷◌, [], List, ℕ, ap, subst, length, map, refl, rules}
+use Rattle.std.proofs.Common.{◌≡◌, ◌∙◌, ◌∷◌, [], List, ℕ, ap, length, map, refl, rules}
 use Rattle.catalog_types.specs.declared.catalogue.Projection.{Projection}
 use Rattle.col_value.specs.declared.kinds.Encoding.{Encoding}
 use Rattle.ros_container.specs.Encodings.{encodings_of}
-use Rattle.plain_folder.specs.Saving.{containers_named, whole_projection, kept_column, HoldsMore}
+use Rattle.plain_folder.specs.Saving.{containers_named, whole_projection, kept_column}
 use Rattle.plain_folder.proofs.Saved.{saved_one}
 use Rattle.plain_folder.proofs.Whole.{whole_encodings}
 use Rattle.plain_folder.proofs.saving.save_table.Goals as goal
@@ -22,7 +22,5 @@ returns-in-Ok-kept_table-clause-saved g c =
     let projections : t.projections ≡ whole_projection u.projection c.args.last u.encodings js ∷ [] =
     c.in-Ok-kept_table.ensures.projections ∙ ap (λ (p : Projection). p ∷ []) filled in
     let es : encodings_of c.in-Ok-bare_projection.shape ≡ u.encodings = ap (λ (p : Projection). encodings_of p) shape ∙ whole_encodings u.projection c.args.last u.encodings [] in
-    let more : HoldsMore u.encodings c.args.next c.in-Ok-add_container.after c.in-Ok-from_slice.containers.items js c.in-Ok.added.items _ _ =
-    subst (λ (xs : List Encoding). HoldsMore xs c.args.next c.in-Ok-add_container.after c.in-Ok-from_slice.containers.items js c.in-Ok.added.items _ _) es c.in-Ok-add_container.ensures.held in
-    saved_one c.args.next c.in-Ok-add_container.after c.args.kept.now c.args.last t u c.in-Ok-from_slice.containers.items js c.in-Ok.added.items _ _
-    ks_are more c.in-Ok.ensures wide named columns projections
+    saved_one c.args.next c.in-Ok-add_container.after c.args.kept.now c.args.last t u (encodings_of c.in-Ok-bare_projection.shape) c.in-Ok-from_slice.containers.items js c.in-Ok.added.items _ _
+    ks_are es c.in-Ok-add_container.ensures.held c.in-Ok.ensures wide named columns projections
