@@ -1,9 +1,8 @@
 -- Which file is to blame, and that the container then holds no rows.
-use Rattle.std.proofs.Common.{◌≡◌, ℕ, ◌+◌, ◌<◌, ◌≤◌, List, [], ◌∷◌, length, refl, sym, subst, inl, inr, ◌∙◌, ap, arith}
+use Rattle.std.proofs.Common.{◌≡◌, ℕ, ◌+◌, ◌<◌, ◌≤◌, List, length, refl, sym, subst, inl, inr, arith}
 use Rattle.std.specs.Prelude.{◌⊎◌, Option, Some, pos, Result, Ok, Err, IfErr, Vec}
 use Rattle.std.specs.declared.alloc.Global.{Global}
 use Rattle.std.specs.List.{All}
-use Rattle.std.specs.FinMap.{get}
 use Rattle.std.proofs.lemmas.List.Elements.{All-map, All-weaker}
 use Rattle.catalog_types.specs.declared.catalogue.Container.{Container}
 use Rattle.col_base.specs.Maps.{Contents}
@@ -18,7 +17,7 @@ use Rattle.col_value.specs.declared.value.Value.{Value}
 use Rattle.col_value.specs.declared.value.Value.TheVariants as value
 use Rattle.ros_container.specs.Encodings.{encoding_at}
 use Rattle.ros_container.specs.Files.{body_of, index_of}
-use Rattle.ros_container.specs.Held.{HoldsContainer, IsNoEpochs, BlamesContainer, HoldsNoRows}
+use Rattle.ros_container.specs.Held.{HoldsContainer, BlamesContainer, HoldsNoRows}
 use Rattle.ros_container.specs.Rows.{column_values, epoch_values, AreWithin, IsWithin, IsEpochOf}
 use Rattle.ros_container.proofs.Writing.{epochs_auto}
 

@@ -1,6 +1,6 @@
 -- What is held goes on being held where other files change.
 use Rattle.std.proofs.Common.{◌≡◌, ℕ, ◌*◌, ◌+◌, ◌<◌, List, length, refl, sym, ◌∙◌, ap, inl, inr, arith}
-use Rattle.std.specs.Prelude.{◌⊎◌, Option, Some, None}
+use Rattle.std.specs.Prelude.{Option, Some, None}
 use Rattle.std.specs.FinMap.{get}
 use Rattle.col_base.specs.Maps.{Contents}
 use Rattle.col_disk.proofs.Moving.{changed_kept}

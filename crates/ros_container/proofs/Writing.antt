@@ -1,7 +1,7 @@
 -- Writing one column after the other.
 use borrow.Author.Count.{below_more}
 use Rattle.std.proofs.Common.{◌≡◌, ℕ, ◌+◌, ◌<◌, Bool, true, false, List, length, get_or, refl, sym, subst, ap, ◌∙◌, arith}
-use Rattle.std.specs.Prelude.{◌==◌, Option, Some, Result, Ok, Err, OnOk, pos, if◌then◌else◌}
+use Rattle.std.specs.Prelude.{◌==◌, Option, Some, Result, Ok, Err, OnOk, pos}
 use Rattle.std.proofs.Math.ListN.{get_or-eq_default}
 use Rattle.std.proofs.lemmas.List.{length-map}
 use Rattle.col_disk.specs.declared.disk.DiskFault.{DiskFault}

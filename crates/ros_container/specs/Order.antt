@@ -1,5 +1,4 @@
 -- The order of a container's rows.
-use Rattle.std.specs.Prelude.{ℕ, List}
 use Rattle.std.specs.Ordering.{nat_cmp, on, then_cmp}
 use Rattle.std.specs.declared.cmp.Ordering.{Ordering}
 use Rattle.catalog_types.specs.declared.catalogue.Projection.{Projection}

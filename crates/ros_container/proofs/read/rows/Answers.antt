@@ -1,4 +1,4 @@
-use Rattle.std.proofs.Common.{◌≡◌, length, sym, subst, ap, ◌∙◌, ◌+◌, arith}
+use Rattle.std.proofs.Common.{◌≡◌, length, sym, subst, ap, ◌∙◌, ◌+◌}
 use Rattle.col_disk.proofs.Moving.{moved_join}
 use Rattle.col_value.specs.declared.kinds.Encoding.TheVariants.{Auto}
 use Rattle.ros_container.specs.Encodings.{encodings_of, encoding_at}

@@ -1,4 +1,4 @@
-use Rattle.std.proofs.Common.{length, ap, ◌∙◌, arith}
+use Rattle.std.proofs.Common.{length, ap, arith}
 use Rattle.std.proofs.lemmas.List.{length-map}
 use Rattle.ros_container.specs.Encodings.{encodings_of, encoding_at}
 use Rattle.ros_container.specs.Rows.{stored_values}
