@@ -1,11 +1,11 @@
 //! The rows of one container: a projection's rows on the disk, two files for each column and two for the epochs.
 //!
 //! The files and their names are those of `specs/Files.antt`, and `HoldsContainer` of `specs/Held.antt` says that
-//! they hold some rows: each column in the encoding that the projection's shape says, and behind them the epochs, which are
-//! AUTO. `sort_rows` brings rows into the order that a container has, `write_rows` makes all its files and
-//! `write_one` those of one column, of rows that `are_rows` takes, and `rows` reads all rows again; it blames a file only where the container holds
-//! no rows at all. A container holds one list of rows (`one_container`), and goes on holding it where other files
-//! change (`container_kept`).
+//! they hold some rows: each column in the encoding that the projection's shape says, and behind them the epochs, which
+//! are AUTO. `sort_rows` brings rows into the order that a container has. Of rows that `are_rows` takes, `write_rows`
+//! makes all files and `write_one` those of one column. `rows` reads all rows again, and blames a file only where the
+//! container holds no rows at all. A container holds one list of rows (`one_container`), and goes on holding it where
+//! other files change (`container_kept`).
 #![tactic(auto)]
 
 mod files;

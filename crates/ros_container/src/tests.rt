@@ -83,26 +83,44 @@ fn read(
     rows(alloc, disk, entry, shape)
 }
 
+/// A disk with the files of these rows.
+fn written(alloc: Global, shape: &Projection, rows: &[Asked]) -> Result<MemDisk, DiskFault> {
+    let mut disk = MemDisk::new(alloc);
+    write(alloc, &mut disk, shape, rows)?;
+    Ok(disk)
+}
+
+/// 5 of epoch 1 and NULL of epoch 2.
+fn two_rows(alloc: Global) -> Result<Vec<Asked>, AllocError> {
+    let mut rows = Vec::new(alloc);
+    rows.push(asked(alloc, Some(5), 1)?)?;
+    rows.push(asked(alloc, None, 2)?)?;
+    Ok(rows)
+}
+
 #[test]
 fn a_container(rt: HostRuntime) -> Result<(), Fail> {
     let alloc = rt.alloc();
     let shape = shape(alloc)?;
-    let mut list = Vec::new(alloc);
-    list.push(asked(alloc, Some(5), 1)?)?;
-    list.push(asked(alloc, None, 2)?)?;
-    let sorted = sort_rows(&shape, list)?;
-    let mut disk = MemDisk::new(alloc);
-    write(alloc, &mut disk, &shape, sorted.as_slice())?;
+    let sorted = sort_rows(&shape, two_rows(alloc)?)?;
+    let mut disk = written(alloc, &shape, sorted.as_slice())?;
     // the last column, PLAIN, and the epochs
     let plain: &[u8] = &[4, 2, 0, 1, 0, 0, 0, 0, 0, 0, 0, 5];
     let epochs: &[u8] = &[2, 2, 0, 0, 0, 0, 0, 0, 0, 1, 2, 1];
     assert!(rt; disk.bytes(36) == Some(plain) && disk.bytes(44) == Some(epochs));
     let back = read(alloc, &mut disk, &entry(1, 2), &shape)?;
     assert!(rt; back == sorted);
+    Ok(())
+}
+
+#[test]
+fn spoilt_containers(rt: HostRuntime) -> Result<(), Fail> {
+    let alloc = rt.alloc();
+    let shape = shape(alloc)?;
+    let rows = two_rows(alloc)?;
     // a file that spells nothing is blamed, and for epochs past the entry's their body
     for (spoilt, greatest, blamed) in [(12u64, 2u64, 12u64), (16, 2, 16), (52, 1, 44)] {
-        let mut disk = MemDisk::new(alloc);
-        write(alloc, &mut disk, &shape, sorted.as_slice())?;
+        let disk = written(alloc, &shape, rows.as_slice())?;
         let mut disk = disk.with(spoilt, &[9])?;
         assert_eq!(rt;
             read(alloc, &mut disk, &entry(1, greatest), &shape).err(),
@@ -117,11 +135,10 @@ fn a_container(rt: HostRuntime) -> Result<(), Fail> {
 fn a_failing_disk(rt: HostRuntime) -> Result<(), Fail> {
     let alloc = rt.alloc();
     let shape = shape(alloc)?;
-    let mut list = Vec::new(alloc);
-    list.push(asked(alloc, Some(5), 1)?)?;
+    let rows = two_rows(alloc)?;
     let mut disk = MemDisk::new(alloc).failing_at(&[2])?;
     assert_eq!(rt;
-        write(alloc, &mut disk, &shape, list.as_slice()),
+        write(alloc, &mut disk, &shape, rows.as_slice()),
         Err(DiskFault::Failed)
     );
     assert!(rt; disk.bytes(8).is_some() && disk.bytes(16).is_none());

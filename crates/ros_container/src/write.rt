@@ -70,9 +70,9 @@ fn stored_values(
     }
 }
 
-/// Makes the two files of one column of a container: a column of the projection, in its encoding, or behind them the epochs,
-/// which are AUTO. A DELTAVAL column has numbers and NULL alone. After a
-/// fault each of the two files is as it was, absent, or holds anything, and no other file is touched.
+/// Makes the two files of one column of a container: a column of the projection, in its encoding, or behind them the
+/// epochs, which are AUTO. A DELTAVAL column has numbers and NULL alone. After a fault each of the two files is as it
+/// was, absent, or holds anything, and no other file is touched.
 pub fn write_one<D: Disk>(
     alloc: Global,
     disk: &mut D,
