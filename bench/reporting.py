@@ -1,0 +1,152 @@
+#!/usr/bin/env python3
+"""Two tables as a reporting user has them, filled and asked by vert and by sqlite3 in one run.
+
+    bench/reporting.py [ROWS ..]      default: 100000 1000000
+
+The orders are the generated ones (a number sequence that any program can make again); the sales are wider, with texts, NULL and truth
+values. For each it prints what filling the table costs (the script's INSERTs, COMMIT and the end of the run), what opening the folder
+costs, how large the folder is beside a load file of the same rows, and for each query the seconds of one answer, those of sqlite3 over
+a file of its own, and their ratio. A query is run five times inside one process, and the same process without queries is taken off.
+Peak memory is that of the process that runs it. sqlite3 is left out where it isn't installed.
+"""
+import glob
+import os
+import shutil
+import subprocess
+import sys
+import tempfile
+import time
+
+TOP = os.path.dirname(os.path.dirname(os.path.abspath(__file__)))
+VERT = os.path.join(TOP, "crates/vert/out/vert")
+AGAIN = 5
+
+
+def numbers(rows):
+    x = 0
+    for _ in range(rows):
+        x = (6364136223846793005 * x + 1442695040888963407) % 2**64
+        yield x >> 33
+
+
+def orders(rows):
+    regions = ["north", "south", "east", "west"]
+    for i, y in enumerate(numbers(rows), 1):
+        yield (i, regions[y % 4], y // 4 % 10, y // 40 % 10000)
+
+
+def sales(rows):
+    shops = ["mill", "harbour", "station", "market", "old town"]
+    articles = ["lamp", "cable", "switch", "socket", "fuse", "bulb, 40 W", "bulb, 60 W", "plug"]
+    day = 20250101
+    for i, y in enumerate(numbers(rows)):
+        if i % (rows // 300 + 1) == 0:
+            day += 1
+        cents = None if y % 50 == 0 else 100 + y // 50 % 9000
+        returned = None if y // 7 % 20 == 0 else y // 7 % 9 == 0
+        yield (day, shops[y % 5], articles[y // 5 % 8], 1 + y // 40 % 30, cents, returned)
+
+
+SETS = [
+    (
+        "orders",
+        "id INTEGER NOT NULL, region VARCHAR(8), qty INTEGER, price INTEGER",
+        orders,
+        [
+            ("filter", "SELECT id, price FROM orders WHERE region = 'west' AND qty > 7 AND price < 100", ""),
+            ("sum in a filter", "SELECT id FROM orders WHERE qty * price > 89000 OR price IS NULL", ""),
+            ("all in order", "SELECT region, qty, price, id FROM orders ORDER BY price DESC, qty", ", region, id"),
+            ("first 10 in order", "SELECT region, qty, price, id FROM orders ORDER BY price DESC, qty LIMIT 10", ", region, id"),
+        ],
+    ),
+    (
+        "sales",
+        "day INTEGER NOT NULL, shop VARCHAR(12) NOT NULL, article VARCHAR(20), pieces INTEGER, cents INTEGER, returned BOOLEAN",
+        sales,
+        [
+            ("a month of a shop", "SELECT day, article, pieces * cents AS total FROM sales WHERE shop = 'harbour' AND day BETWEEN 20250110 AND 20250112 AND NOT returned", ""),
+            ("unknown", "SELECT day, shop FROM sales WHERE cents IS NULL AND returned IS NULL", ""),
+            ("greatest 20", "SELECT shop, article, pieces * cents AS total, day FROM sales WHERE returned = FALSE ORDER BY total DESC LIMIT 20", ", shop, article, day"),
+        ],
+    ),
+]
+
+
+def literal(value):
+    if value is None:
+        return "NULL"
+    if isinstance(value, bool):
+        return "TRUE" if value else "FALSE"
+    return str(value) if isinstance(value, int) else "'" + value + "'"
+
+
+def run(words, source):
+    """Seconds and peak megabytes of a process of its own."""
+    pid = os.fork()
+    if pid == 0:
+        with open(source) as text, open(os.devnull, "w") as none:
+            os.dup2(text.fileno(), 0)
+            os.dup2(none.fileno(), 1)
+            os.execvp(words[0], words)
+    start = time.time()
+    _, _, used = os.wait4(pid, 0)
+    return time.time() - start, used.ru_maxrss / 1024
+
+
+def best(words, source):
+    runs = [run(words, source) for _ in range(3)]
+    return min(r[0] for r in runs), max(r[1] for r in runs)
+
+
+def keyed(query, more):
+    """The same query for sqlite3, with the ties of the printed order behind its keys."""
+    if " ORDER BY " not in query:
+        return query
+    head, limit = query.split(" LIMIT ") if " LIMIT " in query else (query, None)
+    return head + more + (" LIMIT " + limit if limit else "")
+
+
+def measure(rows, work):
+    peer = shutil.which("sqlite3")
+    for name, columns, make, queries in SETS:
+        lines = list(make(rows))
+        create = f"CREATE TABLE {name} ({columns});\n"
+        fill = ""
+        for k in range(0, rows, 100000):
+            fill += f"INSERT INTO {name} VALUES " + ", ".join("(" + ", ".join(map(literal, l)) + ")" for l in lines[k : k + 100000]) + ";\n"
+        load = sum(len("|".join("" if v is None else literal(v).strip("'") for v in l)) + 1 for l in lines)
+        path = lambda end: os.path.join(work, name + end)
+        open(path(".sql"), "w").write(create + fill + "COMMIT;\n")
+        open(path(".lite"), "w").write("BEGIN;\n" + create + fill + "COMMIT;\n")
+        open(path("-none.sql"), "w").write("SELECT GET_CURRENT_EPOCH();\n")
+        open(path("-none.lite"), "w").write("SELECT 1;\n")
+        ours = run([VERT, path(""), path(".sql")], os.devnull)
+        size = sum(os.path.getsize(f) for f in glob.glob(path("/*")))
+        line = f"{rows} rows of {name}: filled in {ours[0]:.2f} s with {ours[1]:.0f} MB"
+        if peer:
+            theirs = run([peer, path(".db")], path(".lite"))
+            line += f" (sqlite3 {theirs[0]:.2f} s, {theirs[1]:.0f} MB)"
+        print(line)
+        opened = best([VERT, path(""), path("-none.sql")], os.devnull)
+        print(f"  opened in {opened[0]:.2f} s with {opened[1]:.0f} MB; folder {size} bytes, load file {load} bytes, ratio {size / load:.3f}")
+        bare = best([peer, path(".db")], path("-none.lite"))[0] if peer else 0
+        for title, query, more in queries:
+            open(path("-q.sql"), "w").write("SELECT GET_CURRENT_EPOCH();\n" + (query + ";\n") * AGAIN)
+            open(path("-q.lite"), "w").write("SELECT 1;\n" + (keyed(query, more) + ";\n") * AGAIN)
+            seconds, peak = best([VERT, path(""), path("-q.sql")], os.devnull)
+            ours = (seconds - opened[0]) / AGAIN
+            line = f"  {title:<20} vert {ours:.3f} s, {peak:.0f} MB"
+            if peer:
+                theirs = (best([peer, path(".db")], path("-q.lite"))[0] - bare) / AGAIN
+                line += f"; sqlite3 {theirs:.3f} s; ratio {ours / theirs if theirs > 0 else 0:.2f}"
+            print(line)
+
+
+def main():
+    subprocess.run([os.path.join(TOP, "bin/vert")], stdout=subprocess.DEVNULL, stderr=subprocess.DEVNULL)  # builds it
+    for rows in map(int, sys.argv[1:] or ["100000", "1000000"]):
+        with tempfile.TemporaryDirectory() as work:
+            measure(rows, work)
+
+
+main()
