@@ -85,7 +85,7 @@ SELECT k FROM m WHERE k = 1 OR k = 2 AND a = 1;
 SELECT k FROM m WHERE (k = 1 OR k = 2) AND a = 1;
 SELECT k FROM m WHERE NOT k = 1 AND NOT k = 2;
 SELECT k FROM m WHERE NOT (k = 1 AND k = 2);
-SELECT k FROM m WHERE NOT NOT f;
+SELECT k FROM m WHERE NOT (NOT f);
 SELECT k FROM m WHERE (a = 1) = f;
 SELECT k FROM m WHERE (a = 1) = (b = 10);
 SELECT k FROM m WHERE (a IS NULL) = (b IS NULL);

@@ -22,7 +22,7 @@ CONDITIONS = [
     "a BETWEEN 1 AND 3", "NOT a BETWEEN 1 AND 3", "a BETWEEN b AND 10", "a BETWEEN 3 AND 1", "s BETWEEN 'X' AND 'x'", "a BETWEEN NULL AND 3",
     "a IN (1, 3, 5)", "NOT a IN (1, 3, 5)", "a IN (1, NULL)", "NOT a IN (1, NULL)", "s IN ('x', 'X')", "a IN (b)", "a + 1 IN (b, 3)", "f IN (TRUE)",
     "a + b = 20", "a - b > 0", "a * 2 = b", "- a > 0", "a + 1 > a", "a * a < 50", "a - - b = 12", "(a + b) * 2 = 24", "1 + 2 * 3 = 7", "(1 + 2) * 3 = 9",
-    "k = 1 OR k = 2 AND a = 1", "(k = 1 OR k = 2) AND a = 1", "NOT k = 1 AND NOT k = 2", "NOT (k = 1 AND k = 2)", "NOT NOT f", "(a = 1) = f", "(a = 1) = (b = 10)",
+    "k = 1 OR k = 2 AND a = 1", "(k = 1 OR k = 2) AND a = 1", "NOT k = 1 AND NOT k = 2", "NOT (k = 1 AND k = 2)", "NOT (NOT f)", "(a = 1) = f", "(a = 1) = (b = 10)",
     "(a IS NULL) = (b IS NULL)", "(f OR a = 3) IS NULL", "a = 1 OR a = 2 OR a = 3", "a > 0 AND b > 0 AND f", "k > 3 AND k <= 6", "k BETWEEN 4 AND 6 AND NOT f",
 ]
 # output columns, each list with its kinds
