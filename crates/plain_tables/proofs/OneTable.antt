@@ -1,5 +1,5 @@
 -- The output rows of a query over one table, without groups.
-use Rattle.std.proofs.Common.{◌≡◌, List, [], ◌∷◌, ◌++◌, Bool, false, cond, map, refl, sym, ◌∙◌, ap, append-nil}
+use Rattle.std.proofs.Common.{◌≡◌, List, [], ◌∷◌, Bool, false, cond, map, refl, ◌∙◌, ap, append-nil}
 use Rattle.std.specs.Prelude.{filter}
 use Rattle.col_value.specs.declared.value.Value.{Value}
 use Rattle.col_value.specs.declared.wide.Wide.{Wide}

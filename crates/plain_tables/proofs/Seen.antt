@@ -1,7 +1,8 @@
 -- What a session sees of a table in memory: no row of it waits to be deleted.
-use Rattle.std.proofs.Common.{◌≡◌, ℕ, List, [], ◌∷◌, ◌++◌, Bool, true, false, cond, map, refl, sym, ◌∙◌, ap, append_assoc}
-use Rattle.std.specs.Prelude.{filter}
-use Rattle.std.proofs.lemmas.List.{map-append}
+use Rattle.std.proofs.Common.{◌≡◌, ℕ, ◌+◌, List, [], ◌∷◌, ◌++◌, Bool, true, false, not, cond, map, length, refl, sym, ◌∙◌, ap, append_assoc}
+use Rattle.std.specs.Prelude.{filter, position, bytes_eq, nat_lt, Some, None}
+use Rattle.std.specs.List.{position_or_len}
+use Rattle.std.proofs.lemmas.List.{map-append, length-map}
 use Rattle.std.proofs.lemmas.List.Elements.{filter-append}
 use Rattle.col_value.specs.declared.value.Value.{Value}
 use Rattle.col_value.specs.declared.wide.Wide.{Wide}
@@ -11,11 +12,31 @@ use Rattle.sql_bound.specs.declared.query.BoundQuery.{BoundQuery}
 use Rattle.sql_bound.specs.Values.{of_row, value_of}
 use Rattle.sql_bound.specs.Outputs.{is_kept}
 use Rattle.db_model.specs.Database.{visible}
+use Rattle.db_model.specs.Database as model
+use Rattle.db_model.specs.Forms.{table_place}
 use Rattle.db_model.specs.State.{pending_rows, pending_deletes, session_view, without}
 use Rattle.plain_tables.specs.declared.table.Table.{Table}
 use Rattle.plain_tables.specs.declared.table.Pending.{Pending}
 use Rattle.plain_tables.specs.Outputs.{outputs_of}
 use Rattle.plain_tables.specs.Views.{table_of, changes_of}
+
+first_place : (name : List ℕ) (ts : List Table) → position_or_len (λ (t : Table). bytes_eq t.name name) ts ≡ position_or_len (λ (t : model.Table). bytes_eq t.name name) (map table_of ts)
+first_place name [] = refl
+first_place name (t ∷ ts) = ap (λ (n : ℕ). cond (not (bytes_eq t.name name)) (1 + n) 0) (first_place name ts)
+
+-- a table stands where what it stands for does
+pub place_seen : (name : List ℕ) (ts : List Table) → position (λ (t : Table). bytes_eq t.name name) ts ≡ table_place name (map table_of ts)
+place_seen name ts =
+    ap (λ (n : ℕ). cond (nat_lt n (length ts)) (Some n) None) (first_place name ts)
+    ∙ ap (λ (n : ℕ). cond (nat_lt (position_or_len (λ (t : model.Table). bytes_eq t.name name) (map table_of ts)) n) (Some (position_or_len (λ (t : model.Table). bytes_eq t.name name) (map table_of ts))) None)
+    (sym (length-map ts table_of))
+
+-- the output row of a row that is kept
+pub row_added : (q : BoundQuery) (row : List Value) (old new : List (List Wide)) (shown : List Wide)
+    → is_kept q.keep row ≡ true → shown ≡ map (value_of (of_row row)) q.items → new ≡ old ++ shown ∷ [] → new ≡ old ++ outputs_of q (row ∷ [])
+row_added q row old new shown kept is added =
+    added ∙ ap (λ (r : List Wide). old ++ r ∷ []) is
+    ∙ sym (ap (λ (b : Bool). old ++ map (λ (r : List Value). map (value_of (of_row r)) q.items) (cond b (row ∷ []) [])) kept)
 
 -- the output rows of some rows and of some more
 pub outputs_append : (q : BoundQuery) (xs ys : List (List Value)) → outputs_of q (xs ++ ys) ≡ outputs_of q xs ++ outputs_of q ys

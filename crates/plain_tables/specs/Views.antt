@@ -2,7 +2,7 @@
 use Rattle.std.specs.Prelude.{ℕ, true, false, List, [], ◌∷◌, ◌++◌, map}
 use Rattle.std.specs.List.{enumerate_from}
 use Rattle.col_value.specs.declared.value.Value.{Value}
-use Rattle.db_model.specs.Database.{Shape, Database}
+use Rattle.db_model.specs.Database.{Shape}
 use Rattle.db_model.specs.Database as model
 use Rattle.db_model.specs.State.{State, Changes, inserted_at}
 use Rattle.plain_tables.specs.declared.table.Table.{Table}

@@ -5,14 +5,14 @@
 #![tactic(auto)]
 
 mod creating;
-mod printing;
 mod lists;
+mod printing;
 mod selecting;
 mod table;
 
 pub use creating::{auto_encodings, copied_columns, create_refusal, projection_name};
-pub use printing::{commit_text, epoch_text, insert_text, listing, waiting_rows};
 pub use lists::{add_rows, commit_all, find_table, has_rows, put, table_place};
+pub use printing::{commit_text, epoch_text, insert_text, listing, waiting_rows};
 pub use selecting::output_rows;
 pub use table::{Pending, Table};
 

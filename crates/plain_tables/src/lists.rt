@@ -1,4 +1,4 @@
-ghost use Rattle.std.specs.Prelude.{◌≡◌, ◌+◌, ◌++◌, [], ◌∷◌, map, take, drop, length, ◌≤◌, OnOk, IfSome, IfNone};
+ghost use Rattle.std.specs.Prelude.{◌≡◌, ◌+◌, ◌++◌, [], ◌∷◌, map, take, drop, length, position, ◌≤◌, OnOk, IfSome, IfNone};
 ghost use Rattle.std.specs.Str.{bytes_eq};
 ghost use Rattle.std.specs.Option.{option_map, option_copied};
 ghost use Rattle.std.specs.List.{flat_map};
@@ -31,13 +31,19 @@ pub fn find_table<'a>(tables: &'a [Table], name: &[u8]) -> Option<&'a Table>
     None
 }
 
+fn place_named(tables: &[Table], name: &[u8]) -> Option<usize>
+    ensures { result ≡ position (λ t. bytes_eq t.name name.now) tables.now }
+{
+    tables
+        .iter()
+        .position(|table| table.name.as_slice() == name)
+}
+
 /// Where the table of a name stands among all tables.
 pub fn table_place(tables: &[Table], name: &[u8]) -> Option<usize>
     ensures { result ≡ table_place name.now (map table_of tables.now) }
 {
-    tables
-        .iter()
-        .position(|table| same(table.name.as_slice(), name))
+    place_named(tables, name)
 }
 
 /// Where a table stands by its name: before the first table of a greater one.
