@@ -21,7 +21,7 @@ second_some None b x none is = is
 second_some (Some y) b x none is = cc
 
 -- where five reasons give none, the last gives none
-pub last_none : (a b c d e : Option Refusal) → first_of a (first_of b (first_of c (first_of d e))) ≡ None → e ≡ None
+pub last_none : (a b c d e : Option Refusal) → first_of a (first_of (first_of b c) (first_of d e)) ≡ None → e ≡ None
 last_none (Some x) b c d e is = cc
 last_none None (Some x) c d e is = cc
 last_none None None (Some x) d e is = cc

@@ -1,6 +1,6 @@
 -- What a query prints, and the step of a statement text.
-use Rattle.std.proofs.Common.{◌≡◌, ℕ, List, [], ◌∷◌, refl, sym, ◌∙◌, ap, subst}
-use Rattle.std.specs.Prelude.{Option, Some, None}
+use Rattle.std.proofs.Common.{◌≡◌, ℕ, List, refl, sym, ◌∙◌, ap, subst}
+use Rattle.std.specs.Prelude.{Option, Some, None, Result, Ok, Err, IfOk}
 use Rattle.std.proofs.lemmas.Option.{same_Some}
 use Rattle.col_value.specs.declared.value.Value.{Value}
 use Rattle.col_value.specs.declared.wide.Wide.{Wide}
@@ -17,12 +17,12 @@ use Rattle.sql_bound.specs.Printed.{IsPrinted}
 use Rattle.sql_binder.specs.Queries.{source_table, bound_query}
 use Rattle.db_model.specs.Database.{Table, table_named}
 use Rattle.db_model.specs.State.{State, own_changes}
-use Rattle.db_model.specs.Forms.{table_place}
 use Rattle.db_model.specs.Refusing.{refusal_of}
 use Rattle.db_model.specs.Answers.{rows_at, output_over, IsAnswerOver, IsAnswerIn, IsAnswer}
 use Rattle.db_model.specs.Step.{Step, Prints, after}
 use Rattle.plain_tables.specs.Outputs.{outputs_of}
 use Rattle.plain_tables.proofs.OneTable.{output_of_one}
+use Rattle.plain_store.specs.declared.answering.Answer.{Answer}
 use Rattle.plain_store.specs.Plans.{IsBoundIn}
 
 printed_over : (at : At) (q : Query) (state : State) (b : BoundQuery) (place : ℕ) (t : Table) (rows listed : List (List Wide))
@@ -31,7 +31,7 @@ printed_over : (at : At) (q : Query) (state : State) (b : BoundQuery) (place : �
 printed_over at q state b place t rows listed bound are printed =
     let seen : List (List Value) = rows_at at state.database.last (own_changes state) t in
     let all : rows ≡ output_over at q state place t =
-        are ∙ ap (λ (c : BoundQuery). outputs_of c seen) bound ∙ sym (output_of_one (bound_query place t.columns q) seen refl) in
+    are ∙ ap (λ (c : BoundQuery). outputs_of c seen) bound ∙ sym (output_of_one (bound_query place t.columns q) seen refl) in
     subst (λ (put : List (List Wide)). IsPrinted (bound_query place t.columns q).order q.limit put listed) all
     (subst (λ (c : BoundQuery). IsPrinted c.order c.limit rows listed) bound printed)
 
@@ -59,6 +59,13 @@ pub refused_step : (old : State) (text printed : List ℕ) (why : Option Refusal
 refused_step old text printed why s r spelled refused told is =
     subst (λ (o : Option Refusal). Step old text printed o old) (sym is)
     (record { read = Some s; reads = spelled; decided = sym refused; effect = (told, refl) })
+
+pub refused_answer : {E : Type 0} (old : State) (text : List ℕ) (s : Statement) (r : Refusal) (result : Result Answer E)
+    → Spells (symbols_of text) s → refusal_of old s ≡ Some r
+    → IfOk result (λ a. a.text.items ≡ refusal_text r) → IfOk result (λ a. a.refusal ≡ Some r)
+    → IfOk result (λ a. Step old text a.text.items a.refusal old)
+refused_answer old text s r (Ok a) spelled refused told is = refused_step old text a.text.items a.refusal s r spelled refused told is
+refused_answer old text s r (Err e) spelled refused told is = tt
 
 -- a statement that isn't
 pub accepted_step : (old : State) (text printed : List ℕ) (s : Statement) (new : State)

@@ -89,6 +89,13 @@ impl PlainStore {
         0
     }
 
+    /// Session 1 is current: no statement leaves it yet.
+    fn first_session(&self)
+        ensures { self.now.current ≡ 1 }
+    {
+        let _ = &self.last;
+    }
+
     /// The rows that wait, by table.
     pub(crate) fn pending(&self) -> &[Pending]
         ensures { own_changes self.now ≡ map changes_of result.now }
@@ -110,14 +117,7 @@ impl PlainStore {
         let Some(table) = find_table(self.tables.as_slice(), source_table(query)) else {
             unreachable!();
         };
-        let rows = output_rows(
-            alloc,
-            bound,
-            at,
-            table,
-            self.pending.as_slice(),
-            self.last,
-        )?;
+        let rows = output_rows(alloc, bound, at, table, self.pending.as_slice(), self.last)?;
         let printed = order_rows(rows, bound.order.as_slice(), bound.limit)?;
         listing(alloc, printed.as_slice())
     }
@@ -144,7 +144,10 @@ impl PlainStore {
         ensures { IfOk result (λ v. Prints self.now statement.now v.items) }
     {
         match (statement, plan) {
-            (Statement::CreateTable(_, _), Plan::Create) => Vec::from_slice(alloc, b"CREATE TABLE\n"),
+            (Statement::CreateTable(_, _), Plan::Create) => Vec::from_slice(
+                alloc,
+                b"CREATE TABLE\n",
+            ),
             (Statement::Insert(insert), Plan::Insert(_)) => {
                 insert_text(alloc, insert.rows.as_slice().len())
             }
@@ -218,7 +221,13 @@ impl PlainStore {
                 self.pending = Vec::new(alloc);
                 Ok(())
             }
-            _ => Ok(()),
+            (Statement::Select(_, _), _) => Ok(()),
+            (Statement::Call(_), _) => Ok(()),
+            (Statement::Session(_), Plan::Session) => {
+                self.first_session();
+                Ok(())
+            }
+            _ => unreachable!(),
         }
     }
 }

@@ -13,4 +13,4 @@ returns-in-Ok c =
 pub returns-in-Err-Syntax : goal.returns-in-Err-Syntax
 returns-in-Err-Syntax c =
     subst (λ (tokens : List Token). IsPlace Spells (map (symbol_of c.args.text.now) tokens) c.in-Err-Syntax.place)
-    (c.as_slice.ensures.value ∙ c.in_ok-tokens.ensures.tokens) c.in-Err-Syntax.ensures.refused
+    (c.as_slice.ensures.value ∙ c.in_ok-tokens.ensures.tokens) (rw c.in-Err-Syntax.field-0-is at c.in-Err-Syntax.ensures.refused)
