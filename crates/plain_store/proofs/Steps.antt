@@ -20,31 +20,34 @@ use Rattle.db_model.specs.State.{State, own_changes}
 use Rattle.db_model.specs.Refusing.{refusal_of}
 use Rattle.db_model.specs.Answers.{rows_at, output_over, IsAnswerOver, IsAnswerIn, IsAnswer}
 use Rattle.db_model.specs.Step.{Step, Prints, after}
+use Rattle.query_order.specs.Enough.{IsEnough}
+use Rattle.query_order.proofs.Enough.{enough_printed}
 use Rattle.plain_tables.specs.Outputs.{outputs_of}
 use Rattle.plain_tables.proofs.OneTable.{output_of_one}
 use Rattle.plain_store.specs.declared.answering.Answer.{Answer}
 use Rattle.plain_store.specs.Plans.{IsBoundIn}
 
-printed_over : (at : At) (q : Query) (state : State) (b : BoundQuery) (place : ℕ) (t : Table) (rows listed : List (List Wide))
-    → b ≡ bound_query place t.columns q → rows ≡ outputs_of b (rows_at at state.database.last (own_changes state) t)
-    → IsPrinted b.order b.limit rows listed → IsAnswerOver at q state place t listed
-printed_over at q state b place t rows listed bound are printed =
+printed_over : (at : At) (q : Query) (state : State) (b : BoundQuery) (place : ℕ) (t : Table) (listed : List (List Wide))
+    → b ≡ bound_query place t.columns q → IsPrinted b.order b.limit (outputs_of b (rows_at at state.database.last (own_changes state) t)) listed
+    → IsAnswerOver at q state place t listed
+printed_over at q state b place t listed bound printed =
     let seen : List (List Value) = rows_at at state.database.last (own_changes state) t in
-    let all : rows ≡ output_over at q state place t =
-    are ∙ ap (λ (c : BoundQuery). outputs_of c seen) bound ∙ sym (output_of_one (bound_query place t.columns q) seen refl) in
+    let all : outputs_of b seen ≡ output_over at q state place t =
+    ap (λ (c : BoundQuery). outputs_of c seen) bound ∙ sym (output_of_one (bound_query place t.columns q) seen refl) in
     subst (λ (put : List (List Wide)). IsPrinted (bound_query place t.columns q).order q.limit put listed) all
-    (subst (λ (c : BoundQuery). IsPrinted c.order c.limit rows listed) bound printed)
+    (subst (λ (c : BoundQuery). IsPrinted c.order c.limit (outputs_of b seen) listed) bound printed)
 
--- output rows in the printed order are an answer of the query
+-- enough output rows in the printed order are an answer of the query
 pub answered : (at : At) (q : Query) (state : State) (b : BoundQuery) (t : Table) (rows listed : List (List Wide))
     → IsBoundIn state.database.tables q b → Some t ≡ table_named (source_table q) state.database.tables
-    → rows ≡ outputs_of b (rows_at at state.database.last (own_changes state) t) → IsPrinted b.order b.limit rows listed → IsAnswer at q state listed
-answered at q state b t rows listed within named are printed =
+    → IsEnough b.order b.limit (outputs_of b (rows_at at state.database.last (own_changes state) t)) rows → IsPrinted b.order b.limit rows listed → IsAnswer at q state listed
+answered at q state b t rows listed within named enough printed =
     let same : within.table ≡ t = same_Some within.table t (sym within.named ∙ sym named) in
     let bound : b ≡ bound_query within.place t.columns q = within.bound ∙ ap (λ (u : Table). bound_query within.place u.columns q) same in
     subst (λ (o : Option ℕ). IsAnswerIn at q state o (table_named (source_table q) state.database.tables) listed) (sym within.stands)
     (subst (λ (o : Option Table). IsAnswerIn at q state (Some within.place) o listed) named
-    (printed_over at q state b within.place t rows listed bound are printed))
+    (printed_over at q state b within.place t listed bound
+    (enough_printed b.order b.limit (outputs_of b (rows_at at state.database.last (own_changes state) t)) rows listed enough printed)))
 
 -- a text that spells nothing
 pub wrong_step : (old : State) (text printed : List ℕ) (why : Option Refusal) (place : ℕ)

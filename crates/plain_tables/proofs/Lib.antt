@@ -1,4 +1,5 @@
 mod Seen
+mod Collected
 mod Places
 mod Taken
 pub mod OneTable

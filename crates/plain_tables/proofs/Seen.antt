@@ -1,13 +1,11 @@
 -- What a session sees of a table in memory: no row of it waits to be deleted.
-use Rattle.std.proofs.Common.{◌≡◌, ℕ, ◌+◌, List, [], ◌∷◌, ◌++◌, Bool, true, false, not, cond, map, length, refl, sym, ◌∙◌, ap, append_assoc}
+use Rattle.std.proofs.Common.{◌≡◌, ℕ, ◌+◌, List, [], ◌∷◌, ◌++◌, Bool, true, false, not, cond, map, length, refl, sym, ◌∙◌, ap}
 use Rattle.std.specs.Prelude.{filter, position, bytes_eq, nat_lt, Some, None}
 use Rattle.std.specs.List.{position_or_len}
 use Rattle.std.proofs.lemmas.List.{map-append, length-map}
 use Rattle.std.proofs.lemmas.List.Elements.{filter-append}
 use Rattle.col_value.specs.declared.value.Value.{Value}
-use Rattle.col_value.specs.declared.wide.Wide.{Wide}
 use Rattle.col_value.specs.declared.row.Asked.{Asked}
-use Rattle.col_value.specs.declared.row.Stamped.{Stamped}
 use Rattle.sql_bound.specs.declared.query.BoundQuery.{BoundQuery}
 use Rattle.sql_bound.specs.Values.{of_row, value_of}
 use Rattle.sql_bound.specs.Outputs.{is_kept}
@@ -31,13 +29,6 @@ place_seen name ts =
     ∙ ap (λ (n : ℕ). cond (nat_lt (position_or_len (λ (t : model.Table). bytes_eq t.name name) (map table_of ts)) n) (Some (position_or_len (λ (t : model.Table). bytes_eq t.name name) (map table_of ts))) None)
     (sym (length-map ts table_of))
 
--- the output row of a row that is kept
-pub row_added : (q : BoundQuery) (row : List Value) (old new : List (List Wide)) (shown : List Wide)
-    → is_kept q.keep row ≡ true → shown ≡ map (value_of (of_row row)) q.items → new ≡ old ++ shown ∷ [] → new ≡ old ++ outputs_of q (row ∷ [])
-row_added q row old new shown kept is added =
-    added ∙ ap (λ (r : List Wide). old ++ r ∷ []) is
-    ∙ sym (ap (λ (b : Bool). old ++ map (λ (r : List Value). map (value_of (of_row r)) q.items) (cond b (row ∷ []) [])) kept)
-
 -- the output rows of some rows and of some more
 pub outputs_append : (q : BoundQuery) (xs ys : List (List Value)) → outputs_of q (xs ++ ys) ≡ outputs_of q xs ++ outputs_of q ys
 outputs_append q xs ys =
@@ -52,21 +43,8 @@ no_deletes : (name : List ℕ) (ps : List Pending) → pending_deletes name (map
 no_deletes name [] = refl
 no_deletes name (p ∷ ps) = either_empty _ _ (no_deletes name ps)
 
-seen_rows : (last : ℕ) (ps : List Pending) (t : Table)
+-- what a session sees is what is visible and its own rows
+pub seen_rows : (last : ℕ) (ps : List Pending) (t : Table)
     → visible last t.rows.items ++ pending_rows t.name (map changes_of ps) ≡ session_view last (map changes_of ps) (table_of t)
 seen_rows last ps t =
     sym (ap (λ (gone : List Asked). without (map (λ a. a.row) gone) (visible last t.rows.items) ++ pending_rows t.name (map changes_of ps)) (no_deletes t.name ps))
-
--- output rows that were added one list after the other are those of all that the session sees
-pub view_added : (q : BoundQuery) (last : ℕ) (ps : List Pending) (t : Table) (old mid new : List (List Wide)) (rows : List Stamped) (waiting : List (List Value)) (shown : ℕ)
-    → mid ≡ old ++ outputs_of q (visible shown rows) → new ≡ mid ++ outputs_of q waiting
-    → shown ≡ last → rows ≡ t.rows.items → waiting ≡ pending_rows t.name (map changes_of ps)
-    → new ≡ old ++ outputs_of q (session_view last (map changes_of ps) (table_of t))
-view_added q last ps t old mid new rows waiting shown first second newest same waits =
-    second ∙ ap (λ (front : List (List Wide)). front ++ outputs_of q waiting) first
-    ∙ append_assoc old (outputs_of q (visible shown rows)) (outputs_of q waiting)
-    ∙ ap (λ (epoch : ℕ). old ++ (outputs_of q (visible epoch rows) ++ outputs_of q waiting)) newest
-    ∙ ap (λ (stored : List Stamped). old ++ (outputs_of q (visible last stored) ++ outputs_of q waiting)) same
-    ∙ ap (λ (own : List (List Value)). old ++ (outputs_of q (visible last t.rows.items) ++ outputs_of q own)) waits
-    ∙ ap (λ (seen : List (List Wide)). old ++ seen) (sym (outputs_append q (visible last t.rows.items) (pending_rows t.name (map changes_of ps))))
-    ∙ ap (λ (seen : List (List Value)). old ++ outputs_of q seen) (seen_rows last ps t)

@@ -1,5 +1,6 @@
 //! Tables in memory, each as one list of rows, and what is asked of them: their names, a new table, rows that join them, the
-//! output rows of a query over one of them, and the texts of answers.
+//! output rows of a query over one of them, and the texts of answers. Of a query with a limit no more output rows are held
+//! than twice the limit and 4096.
 //!
 //! `specs/Views.antt` says which table of `db_model` a `Table` is seen as, and which changes of a session its pending rows.
 #![tactic(auto)]

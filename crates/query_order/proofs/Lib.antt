@@ -1,1 +1,3 @@
+pub mod Enough
 pub mod OneList
+pub mod Ordered

@@ -1,5 +1,5 @@
 -- The printed order is total and only equal rows tie, so the same rows have one printed list.
-use Rattle.std.proofs.Common.{◌≡◌, ℕ, Bool, true, false, List, [], ◌∷◌, slice_index_or, Option, Some, None, refl, sym, ap, ◌∙◌}
+use Rattle.std.proofs.Common.{◌≡◌, ℕ, Bool, true, false, List, [], ◌∷◌, slice_index_or, Option, sym, ap, ◌∙◌}
 use Rattle.std.proofs.lemmas.Cmp.{on_total, back_total, then_total}
 use Rattle.std.proofs.lemmas.List.Sorted.{IsPermutation-trans, IsPermutation-sym}
 use Rattle.std.specs.Cmp.{IsTotalOrder}
@@ -12,7 +12,7 @@ use Rattle.col_value.specs.Laws.{wide_total, wide_row_total, wide_row_exact}
 use Rattle.col_value.specs.Order.{wide_cmp}
 use Rattle.col_value.specs.declared.wide.Wide.{Wide}
 use Rattle.col_value.specs.declared.wide.Wide.TheVariants.{Null}
-use Rattle.sql_bound.specs.Printed.{key_cmp, printed_cmp, limited, IsPrinted}
+use Rattle.sql_bound.specs.Printed.{key_cmp, printed_cmp, limited}
 use Rattle.query_order.specs.OneList.{HasOnePrintedList}
 
 alike_total : {K : Type 0} (R S : K → K → Ordering) → ((x y : K) → S x y ≡ R x y) → IsTotalOrder R → IsTotalOrder S

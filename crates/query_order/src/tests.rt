@@ -1,5 +1,5 @@
-// What no clause says: that the call answers other than want of memory.
-use crate::order_rows;
+// What no clause says: that the calls answer other than want of memory.
+use crate::{cut_back, order_rows};
 use col_value::{List, Wide, WideRow};
 use std::alloc::{AllocError, Global};
 use std::test::Fail;
@@ -37,6 +37,26 @@ fn rows_in_order(rt: HostRuntime) -> Result<(), Fail> {
         }
         let ordered = order_rows(rows, &[(0, true)], limit)?;
         let text = printed(alloc, ordered.as_slice())?;
+        assert_eq!(rt; text.as_slice(), want.as_bytes());
+    }
+    Ok(())
+}
+
+// Few rows stay as they came; of many the first are left.
+#[test]
+fn rows_cut_back(rt: HostRuntime) -> Result<(), Fail> {
+    let alloc = rt.alloc();
+    for (count, limit, want) in [
+        (3, Some(1), "0|5\n1|5\n2|5\n"),
+        (3, None, "0|5\n1|5\n2|5\n"),
+        (4100, Some(2), "4099|5\n4098|5\n"),
+    ] {
+        let mut rows = Vec::new(alloc);
+        for n in 0..count {
+            rows.push(row(alloc, Some(n), 5)?)?;
+        }
+        let kept = cut_back(rows, &[(0, true)], limit)?;
+        let text = printed(alloc, kept.as_slice())?;
         assert_eq!(rt; text.as_slice(), want.as_bytes());
     }
     Ok(())

@@ -1,7 +1,7 @@
-use Rattle.std.proofs.Common.{◌≡◌, ◌++◌, take}
+use Rattle.std.proofs.Common.{take}
 use Rattle.db_model.specs.Database.{visible}
-use Rattle.plain_tables.specs.Outputs.{outputs_of}
+use Rattle.plain_tables.specs.Outputs.{outputs_of, Collects}
 use Rattle.plain_tables.proofs.selecting.add_visible.Given as goal
 
 abbrev pub invariant-loop-row : goal.invariant-loop-row
-invariant-loop-row l = l.out.items ≡ l.fn.out.items ++ outputs_of l.query (visible l.epoch (take l.row-index l.rows))
+invariant-loop-row l = Collects l.query l.fn.out.items l.out.items (outputs_of l.query (visible l.epoch (take l.row-index l.rows)))
