@@ -92,7 +92,11 @@ fn parts_of(alloc: Global, encodings: &[Encoding]) -> Result<Vec<ProjColumn>, Al
 fn places_of(alloc: Global, encodings: &[Encoding]) -> Result<Vec<usize>, AllocError>
     ensures { IfOk result (λ v. v.items ≡ map (λ e. e.0) (enumerate_from 0 encodings.now)) }
 {
-    encodings.iter().enumerate().map(|(place, _)| place).collect(alloc)
+    encodings
+        .iter()
+        .enumerate()
+        .map(|(place, _)| place)
+        .collect(alloc)
 }
 
 /// The projection that CREATE TABLE makes, of columns in these encodings, without rows.
@@ -138,11 +142,7 @@ fn kept_table(
 }
 
 /// The new rows of a table. Deleted rows are answered as want of memory: no store has such.
-fn new_rows(
-    alloc: Global,
-    rows: Vec<Stamped>,
-    epoch: u64,
-) -> Result<Vec<Asked>, AllocError>
+fn new_rows(alloc: Global, rows: Vec<Stamped>, epoch: u64) -> Result<Vec<Asked>, AllocError>
     ensures { IfOk result (λ v. map undeleted v.items ≡ late epoch rows.items) }
 {
     match late_rows(alloc, rows, epoch)? {

@@ -62,7 +62,9 @@ fn two_runs_are_one_table(rt: HostRuntime) -> Result<(), Fail> {
             "SELECT x FROM b",
         ],
     )?;
-    assert!(rt; text.as_slice() == b"|yz|f\n-2||\n7|x|t\n(3 rows)\n-2\n7\n(2 rows)\n(0 rows)\n".as_slice());
+    assert!(rt;
+        text.as_slice() == b"|yz|f\n-2||\n7|x|t\n(3 rows)\n-2\n7\n(2 rows)\n(0 rows)\n".as_slice()
+    );
     Ok(())
 }
 

@@ -22,11 +22,23 @@ fn place(alloc: Global, text: &str) -> u64 {
 fn places(rt: HostRuntime) {
     let alloc = rt.alloc();
     for (text, want) in [
-        ("CREATE TABLE t (a INTEGER NOT NULL, b VARCHAR(4294967295))", 0),
-        ("create projection p (a encoding rle, b) as select a, b from t order by b, a", 0),
-        ("INSERT INTO t VALUES (1, 'it''s', NULL), (-2, TRUE, FALSE)", 0),
+        (
+            "CREATE TABLE t (a INTEGER NOT NULL, b VARCHAR(4294967295))",
+            0,
+        ),
+        (
+            "create projection p (a encoding rle, b) as select a, b from t order by b, a",
+            0,
+        ),
+        (
+            "INSERT INTO t VALUES (1, 'it''s', NULL), (-2, TRUE, FALSE)",
+            0,
+        ),
         ("UPDATE t SET a = b + 1, c = 'x' WHERE NOT a IS NULL", 0),
-        ("AT EPOCH 3 SELECT a, COUNT(*) AS n FROM t AS x, u JOIN v ON TRUE GROUP BY x.a LIMIT 5", 0),
+        (
+            "AT EPOCH 3 SELECT a, COUNT(*) AS n FROM t AS x, u JOIN v ON TRUE GROUP BY x.a LIMIT 5",
+            0,
+        ),
         ("\\session 8", 0),
         ("", 1),
         ("SELECT ( a IN ( b ) ) IN (c) FROM t", 9),

@@ -56,7 +56,13 @@ fn the_files_of_a_run(rt: HostRuntime) -> Result<(), Fail> {
     assert_eq!(rt; status, Status::Done);
     assert!(rt; out.bytes().ends_with(ROWS));
     assert_eq!(rt; disk.names(alloc)?.as_slice(), NAMES.as_slice());
-    for (name, bytes) in [(4, COLUMN), (8, BOUNDS), (12, EPOCH), (21, CATALOGUE), (22, GATE)] {
+    for (name, bytes) in [
+        (4, COLUMN),
+        (8, BOUNDS),
+        (12, EPOCH),
+        (21, CATALOGUE),
+        (22, GATE),
+    ] {
         assert!(rt; disk.bytes(name) == Some(bytes), "{name}");
     }
 
