@@ -51,7 +51,8 @@ fn refused(alloc: Global, refusal: Refusal) -> Result<Answer, AllocError>
 
 impl PlainStore {
     /// One statement text: what it prints and leaves, by the definition of a step. Without the memory for it
-    /// nothing is printed, and what the store then holds isn't said.
+    /// nothing is printed, and what the store then holds isn't said. A query over a table with a row that is none of values
+    /// is answered so, too.
     pub fn answer(&mut self, alloc: Global, text: &[u8]) -> Result<Answer, AllocError>
         ensures { IfOk result (λ a. Step self.old text.now a.text.items a.refusal self.new) }
     {

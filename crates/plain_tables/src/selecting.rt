@@ -55,8 +55,8 @@ fn cut(alloc: Global, out: &mut Vec<WideRow>, query: &BoundQuery) -> Result<(), 
     }
 }
 
-/// The output row of a row joins the output, if the row is kept. What is no row of values is answered as want of memory: no
-/// store has one.
+/// The output row of a row joins the output, if the row is kept. What is no row of values is answered as want of memory: an
+/// INSERT binds none, and a file that holds one is damaged.
 fn add_row(
     alloc: Global,
     out: &mut Vec<WideRow>,
