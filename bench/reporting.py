@@ -106,8 +106,13 @@ def keyed(query, more):
     return head + more + (" LIMIT " + limit if limit else "")
 
 
-def measure(rows, work):
-    peer = shutil.which("sqlite3")
+def peer_program():
+    if not shutil.which("sqlite3") and shutil.which("apt-get"):
+        subprocess.run(["apt-get", "install", "-y", "sqlite3"], stdout=subprocess.DEVNULL, stderr=subprocess.DEVNULL)
+    return shutil.which("sqlite3")
+
+
+def measure(rows, work, peer, times):
     for name, columns, make, queries in SETS:
         lines = list(make(rows))
         create = f"CREATE TABLE {name} ({columns});\n"
@@ -127,14 +132,17 @@ def measure(rows, work):
             theirs = run([peer, path(".db")], path(".lite"))
             line += f" (sqlite3 {theirs[0]:.2f} s, {theirs[1]:.0f} MB)"
         print(line)
+        times.setdefault((name, "filled"), []).append(ours[0])
         opened = best([VERT, path(""), path("-none.sql")], os.devnull)
         print(f"  opened in {opened[0]:.2f} s with {opened[1]:.0f} MB; folder {size} bytes, load file {load} bytes, ratio {size / load:.3f}")
+        times.setdefault((name, "opened"), []).append(opened[0])
         bare = best([peer, path(".db")], path("-none.lite"))[0] if peer else 0
         for title, query, more in queries:
             open(path("-q.sql"), "w").write("SELECT GET_CURRENT_EPOCH();\n" + (query + ";\n") * AGAIN)
             open(path("-q.lite"), "w").write("SELECT 1;\n" + (keyed(query, more) + ";\n") * AGAIN)
             seconds, peak = best([VERT, path(""), path("-q.sql")], os.devnull)
             ours = (seconds - opened[0]) / AGAIN
+            times.setdefault((name, title), []).append(ours)
             line = f"  {title:<20} vert {ours:.3f} s, {peak:.0f} MB"
             if peer:
                 theirs = (best([peer, path(".db")], path("-q.lite"))[0] - bare) / AGAIN
@@ -144,9 +152,15 @@ def measure(rows, work):
 
 def main():
     subprocess.run([os.path.join(TOP, "bin/vert")], stdout=subprocess.DEVNULL, stderr=subprocess.DEVNULL)  # builds it
-    for rows in map(int, sys.argv[1:] or ["100000", "1000000"]):
+    peer, times = peer_program(), {}
+    sizes = list(map(int, sys.argv[1:] or ["100000", "1000000"]))
+    for rows in sizes:
         with tempfile.TemporaryDirectory() as work:
-            measure(rows, work)
+            measure(rows, work, peer, times)
+    if len(sizes) > 1:
+        print(f"from {sizes[0]} to {sizes[-1]} rows, {sizes[-1] / sizes[0]:.0f} times as many, vert takes so many times as long:")
+        for (name, title), spent in times.items():
+            print(f"  {name}, {title}: {spent[-1] / max(spent[0], 1e-4):.1f}")
 
 
 main()
