@@ -6,7 +6,7 @@
 The orders are the generated ones (a number sequence that any program can make again); the sales are wider, with texts, NULL and truth
 values. For each it prints what filling the table costs (the script's INSERTs, COMMIT and the end of the run), what opening the folder
 costs, how large the folder is beside a load file of the same rows, and for each query the seconds of one answer, those of sqlite3 over
-a file of its own, and their ratio. A query is run five times inside one process, and the same process without queries is taken off.
+a file of its own, and their ratio. A query is run several times inside one process, and the same process without queries is taken off.
 Peak memory is that of the process that runs it. sqlite3 is left out where it isn't installed.
 """
 import glob
@@ -19,7 +19,6 @@ import time
 
 TOP = os.path.dirname(os.path.dirname(os.path.abspath(__file__)))
 VERT = os.path.join(TOP, "crates/vert/out/vert")
-AGAIN = 5
 
 
 def numbers(rows):
@@ -137,15 +136,16 @@ def measure(rows, work, peer, times):
         print(f"  opened in {opened[0]:.2f} s with {opened[1]:.0f} MB; folder {size} bytes, load file {load} bytes, ratio {size / load:.3f}")
         times.setdefault((name, "opened"), []).append(opened[0])
         bare = best([peer, path(".db")], path("-none.lite"))[0] if peer else 0
+        again = 20 if rows <= 100000 else 5
         for title, query, more in queries:
-            open(path("-q.sql"), "w").write("SELECT GET_CURRENT_EPOCH();\n" + (query + ";\n") * AGAIN)
-            open(path("-q.lite"), "w").write("SELECT 1;\n" + (keyed(query, more) + ";\n") * AGAIN)
+            open(path("-q.sql"), "w").write("SELECT GET_CURRENT_EPOCH();\n" + (query + ";\n") * again)
+            open(path("-q.lite"), "w").write("SELECT 1;\n" + (keyed(query, more) + ";\n") * again)
             seconds, peak = best([VERT, path(""), path("-q.sql")], os.devnull)
-            ours = (seconds - opened[0]) / AGAIN
+            ours = (seconds - opened[0]) / again
             times.setdefault((name, title), []).append(ours)
             line = f"  {title:<20} vert {ours:.3f} s, {peak:.0f} MB"
             if peer:
-                theirs = (best([peer, path(".db")], path("-q.lite"))[0] - bare) / AGAIN
+                theirs = (best([peer, path(".db")], path("-q.lite"))[0] - bare) / again
                 line += f"; sqlite3 {theirs:.3f} s; ratio {ours / theirs if theirs > 0 else 0:.2f}"
             print(line)
 
