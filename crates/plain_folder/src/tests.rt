@@ -28,7 +28,7 @@ fn run(alloc: Global, disk: &mut MemDisk, statements: &[&str]) -> Result<Vec<u8>
 }
 
 // Two runs over columns of each type: the second one's rows are a container of their own, and the first one's
-// catalogue goes.
+// catalogue goes. The first container has the numbers 1 to 8, so the first version is 9.
 #[test]
 fn two_runs_are_one_table(rt: HostRuntime) -> Result<(), Fail> {
     let alloc = rt.alloc();
@@ -42,7 +42,7 @@ fn two_runs_are_one_table(rt: HostRuntime) -> Result<(), Fail> {
             "COMMIT",
         ],
     )?;
-    assert!(rt; disk.bytes(21).is_some() && disk.bytes(22).is_some());
+    assert!(rt; disk.bytes(37).is_some() && disk.bytes(38).is_some());
     run(
         alloc,
         &mut disk,
@@ -52,7 +52,7 @@ fn two_runs_are_one_table(rt: HostRuntime) -> Result<(), Fail> {
             "COMMIT",
         ],
     )?;
-    assert!(rt; disk.bytes(21).is_none() && disk.bytes(22).is_none());
+    assert!(rt; disk.bytes(37).is_none() && disk.bytes(38).is_none());
     let text = run(
         alloc,
         &mut disk,
