@@ -18,6 +18,3 @@ pub use choice::{decode, encode, runs};
 pub use codec::Codec;
 pub use kinds::{takes, takes_all};
 pub use laws::{a_block_is_read_again, one_block, shortest_block};
-
-#[cfg(test)]
-mod tests;

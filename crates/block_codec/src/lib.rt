@@ -15,6 +15,3 @@ pub use codec::BlockCodec;
 pub use count::{BLOCK, are_one_block, read_count};
 pub use len::{value_len, values_len, vint_len};
 pub use runs::single_runs;
-
-#[cfg(test)]
-mod tests;

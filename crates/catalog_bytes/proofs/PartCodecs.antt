@@ -1,6 +1,6 @@
 -- The parts that are made of others, and the whole.
 use Rattle.std.proofs.Common.{ℕ, ◌^◌, ◌<◌, List, ◌++◌, length, refl}
-use Rattle.catalog_types.specs.declared.catalogue.Column.{Column}
+use Rattle.col_value.specs.declared.column.Column.{Column}
 use Rattle.catalog_types.specs.declared.catalogue.ProjColumn.{ProjColumn}
 use Rattle.catalog_types.specs.declared.catalogue.Container.{Container}
 use Rattle.catalog_types.specs.declared.catalogue.Projection.{Projection}

@@ -4,7 +4,7 @@ use Rattle.col_value.specs.declared.kinds.ColType.{ColType}
 use Rattle.col_value.specs.declared.kinds.ColType.TheVariants.{Integer, Varchar, Boolean}
 use Rattle.col_value.specs.declared.kinds.Encoding.{Encoding}
 use Rattle.col_value.specs.declared.kinds.Encoding.TheVariants.{Auto, Rle, DeltaVal, BlockDict, Plain}
-use Rattle.catalog_types.specs.declared.catalogue.Column.{Column}
+use Rattle.col_value.specs.declared.column.Column.{Column}
 use Rattle.catalog_types.specs.declared.catalogue.ProjColumn.{ProjColumn}
 use Rattle.catalog_types.specs.declared.catalogue.Container.{Container}
 use Rattle.catalog_types.specs.declared.catalogue.Projection.{Projection}

@@ -10,6 +10,3 @@ mod part;
 mod parts;
 
 pub use body::{from_bytes, one_spelling, to_bytes};
-
-#[cfg(test)]
-mod tests;

@@ -12,8 +12,9 @@ use crate::leaves::{
     put_marks, put_name, put_narrow, put_number,
 };
 use crate::part::{Part, put_list, read_list};
-use catalog_types::{Column, Container, ProjColumn, Projection, Table};
+use catalog_types::{Container, ProjColumn, Projection, Table};
 use col_bytes::{Stop, read_vint};
+use col_value::Column;
 use std::alloc::{AllocError, Global};
 
 impl Part for usize {

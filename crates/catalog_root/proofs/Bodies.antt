@@ -1,7 +1,7 @@
 -- What the bytes of a body spell, and what a disk opens to by them.
 use Rattle.std.proofs.Common.{◌≡◌, ℕ, ◌<◌, List, sym, ◌∙◌, subst, inr}
 use Rattle.std.specs.Prelude.{Option, Some, Result, Ok, Err, IfErr}
-use Rattle.col_base.specs.Maps.{Contents}
+use Rattle.common_laws.specs.Maps.{Contents}
 use Rattle.col_disk.specs.Calls.{ListsNames, AnswersNames}
 use Rattle.col_disk.specs.declared.disk.StoreFault.{StoreFault}
 use Rattle.col_disk.specs.declared.disk.StoreFault.TheVariants.{Damaged}

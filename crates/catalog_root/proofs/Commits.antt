@@ -5,7 +5,7 @@ use Rattle.std.specs.Option.{option_map}
 use Rattle.std.specs.FinMap.{get, insert}
 use Rattle.std.proofs.Math.Dec.{eqb}
 use Rattle.std.proofs.lemmas.Bool.Decides.{eqb_tells}
-use Rattle.col_base.specs.Maps.{Contents}
+use Rattle.common_laws.specs.Maps.{Contents}
 use Rattle.col_disk.specs.Moved.{Changed, NoName, Named}
 use Rattle.col_disk.proofs.Moving.{changed_kept, changed_elsewhere, insert_there, insert_elsewhere}
 use Rattle.catalog_types.specs.declared.catalogue.Catalogue.{Catalogue}
@@ -33,16 +33,19 @@ pub still : (version : ℕ) (c : Catalogue) (m : Contents) → NewOrOld version 
 still version c m = inr (record { root = λ v d old. old; fresh = λ old. old })
 
 -- the body was written, or is torn
-pub body_torn : (version : ℕ) (c : Catalogue) (m n : Contents) → IsAbove version m → Changed (Named (body_file version)) NoName m n → NewOrOld version c m n
-body_torn version c m n above changed = inr (same_opens version m n above
+pub body_same : (version : ℕ) (m n : Contents) → IsAbove version m → Changed (Named (body_file version)) NoName m n → OpensAsBefore m n
+body_same version m n above changed = same_opens version m n above
     (λ w is. gate w ∙ is) (λ w is. sym (gate w) ∙ is)
-    (λ w lt. kept (body_file w) (λ e. omega (arith, lt, e))) (λ k. kept (data_file k) (λ e. omega (arith, e))))
+    (λ w lt. kept (body_file w) (λ e. omega (arith, lt, e))) (λ k. kept (data_file k) (λ e. omega (arith, e)))
   where
     kept : (q : ℕ) → (q ≡ body_file version → ⊥) → get n q ≡ get m q
     kept q apart = changed_kept (Named (body_file version)) NoName m n q apart (λ is. is) changed
 
     gate : (w : ℕ) → get n (gate_file w) ≡ get m (gate_file w)
     gate w = kept (gate_file w) (λ e. omega (arith, e))
+
+pub body_torn : (version : ℕ) (c : Catalogue) (m n : Contents) → IsAbove version m → Changed (Named (body_file version)) NoName m n → NewOrOld version c m n
+body_torn version c m n above changed = inr (body_same version m n above changed)
 
 -- whether a gate is open
 is_gate : (held : Option (List ℕ)) → (held ≡ Some (86 ∷ [])) ⊎ (held ≡ Some (86 ∷ []) → ⊥)

@@ -4,3 +4,5 @@ mod Searches
 mod Bodies
 mod Listings
 pub mod Sweeps
+pub mod Crashing
+pub mod Quieting

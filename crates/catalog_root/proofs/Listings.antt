@@ -6,6 +6,7 @@ use Rattle.std.proofs.Common.{append_assoc, map-id}
 use Rattle.std.proofs.lemmas.List.Concat.{flat_map-cons, flat_map_single}
 use Rattle.std.proofs.lemmas.List.FromFn.{length-range_with_len, get_or-range_with_len}
 use Rattle.std.proofs.lemmas.List.Elements.{Contains-append_left, Contains-append_right, Contains-append_cases}
+use Rattle.common_laws.proofs.Lists.{any_left, any_right, any_cases}
 use Rattle.catalog_types.specs.declared.span.Span.{Span}
 use Rattle.catalog_types.specs.declared.catalogue.Catalogue.{Catalogue}
 use Rattle.catalog_types.specs.Numbers.{container_spans, projection_spans, table_spans}
@@ -49,19 +50,6 @@ in_span s n small = (to, back)
 
     back : IsIn n s → Contains (numbers_of s) n
     back is = (in_range s.first (min s.end (2 ^ 64 - 1) - s.first) n).1 (is.0, omega (arith, is.0, is.1, small))
-
-any_left : {X : Type 0} (P : X → Type 0) (xs ys : List X) → Any P xs → Any P (xs ++ ys)
-any_left P xs ys (k, x, lt, is, p) = let c = Contains-append_left xs ys x (k, lt, is) in (c.0, x, c.1, c.2, p)
-
-any_right : {X : Type 0} (P : X → Type 0) (xs ys : List X) → Any P ys → Any P (xs ++ ys)
-any_right P xs ys (k, x, lt, is, p) = let c = Contains-append_right xs ys x (k, lt, is) in (c.0, x, c.1, c.2, p)
-
-any_cases : {X : Type 0} (P : X → Type 0) (xs ys : List X) → Any P (xs ++ ys) → Any P xs ⊎ Any P ys
-any_cases {X} P xs ys (k, x, lt, is, p) = cases (Contains-append_cases xs ys x (k, lt, is))
-  where
-    cases : Contains xs x ⊎ Contains ys x → Any P xs ⊎ Any P ys
-    cases (inl c) = inl (c.0, x, c.1, c.2, p)
-    cases (inr c) = inr (c.0, x, c.1, c.2, p)
 
 -- the numbers of parts, where those of each part are the numbers of its spans
 of_parts : {X : Type 0} (n : ℕ) (numbers : X → List ℕ) (spans : X → List Span) → ((x : X) → Contains (numbers x) n ↔ Any (IsIn n) (spans x))

@@ -10,7 +10,7 @@ use Rattle.std.proofs.Math.Dec.{eqb}
 use Rattle.std.proofs.lemmas.Bool.Decides.{eqb_tells}
 use Rattle.std.proofs.lemmas.List.{get_or_default}
 use Rattle.std.proofs.lemmas.List.Sorted.{Contains-permutation, IsPermutation-sym}
-use Rattle.col_base.specs.Maps.{Contents}
+use Rattle.common_laws.specs.Maps.{Contents}
 use Rattle.col_disk.specs.Calls.{Stepped, RemoveLeaves, AnswersNames}
 use Rattle.col_disk.specs.declared.disk.DiskFault.{DiskFault}
 use Rattle.col_disk.specs.Moved.{Changed, NoName}
@@ -121,6 +121,10 @@ pub gone_all : (R : ℕ → Type 0) (names : List ℕ) (i : ℕ) (holds : Option
 gone_all R names i holds all before m told q (k, lt, is) r =
     let at : get_or names k 0 ≡ q = get_or_default names k 0 q lt ∙ is in
     subst (λ (x : ℕ). R x → get m x ≡ None) at (before m told k (omega (arith, all, lt))) r
+
+-- each name is that of a file
+pub names_fit : (names : List ℕ) → ((i : ℕ) → get_or names i 0 < 2 ^ 64) → All (λ q. q < 2 ^ 64) names
+names_fit names fits k d lt = subst (λ (q : ℕ). q < 2 ^ 64) (get_or_default names k 0 d lt) (fits k)
 
 -- by the sorted numbers, and by the catalogue
 pub swept_unlisted : (version : ℕ) (c : Catalogue) (numbers : List ℕ) → IsPermutation (listed_numbers c) numbers → (q : ℕ) → IsSwept version numbers q → IsUnlisted version c q

@@ -1,2 +1,4 @@
 pub mod Root
 pub mod Listed
+pub mod Crash
+pub mod Quiet

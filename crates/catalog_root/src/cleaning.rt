@@ -4,8 +4,8 @@ ghost use Rattle.std.specs.Prelude.{◌≡◌, ◌↔◌, ◌<◌, ◌^◌, ℕ,
 ghost use Rattle.std.specs.FinMap.{get};
 ghost use Rattle.std.specs.List.{All};
 ghost use Rattle.std.specs.List.Sorted.{IsNonDecreasing};
-ghost use Rattle.col_base.specs.Causes.{HasCause};
-ghost use Rattle.col_base.specs.Maps.{Contents};
+ghost use Rattle.common_laws.specs.Causes.{HasCause};
+ghost use Rattle.common_laws.specs.Maps.{Contents};
 ghost use Rattle.col_disk.specs.Moved.{Moved, NoName};
 ghost use Rattle.catalog_root.specs.Listed.{HasNoUse, IsSwept, IsUnlisted};
 
@@ -37,6 +37,7 @@ fn sweep_one<D: Disk>(
     ensures gone { OnOk result ((m : Contents) → D.holds disk.new ≡ Some m → IsSwept version numbers.now name → get m name ≡ None) }
     ensures moved { Moved ⟦<D as Disk>⟧ NoName (IsSwept version numbers.now) disk.old disk.new }
     ensures cause { HasCause DiskFault.Failed (D.faults disk.old) (D.faults disk.new) result }
+    ensures unfailed { OnOk result (D.faults disk.new ≡ D.faults disk.old) }
 {
     if has_no_use(name, version, numbers) {
         disk.remove(name)
@@ -56,6 +57,7 @@ fn sweep<D: Disk>(
     ensures gone { OnOk result ((m : Contents) → D.holds disk.new ≡ Some m → (q : ℕ) → Contains names.now q → IsSwept version numbers.now q → get m q ≡ None) }
     ensures moved { Moved ⟦<D as Disk>⟧ NoName (IsSwept version numbers.now) disk.old disk.new }
     ensures cause { HasCause DiskFault.Failed (D.faults disk.old) (D.faults disk.new) result }
+    ensures unfailed { OnOk result (D.faults disk.new ≡ D.faults disk.old) }
 {
     for name in names {
         sweep_one(disk, *name, version, numbers)?;
@@ -74,6 +76,7 @@ pub fn clean<D: Disk>(
     ensures gone { OnOk result ((m : Contents) → D.holds disk.new ≡ Some m → (q : ℕ) → IsUnlisted version c.now q → get m q ≡ None) }
     ensures moved { Moved ⟦<D as Disk>⟧ NoName (IsUnlisted version c.now) disk.old disk.new }
     ensures cause { HasCause DiskFault.Failed (D.faults disk.old) (D.faults disk.new) result }
+    ensures unfailed { OnOk result (D.faults disk.new ≡ D.faults disk.old) }
 {
     let numbers = match numbers_in(alloc, c) {
         Ok(numbers) => numbers,

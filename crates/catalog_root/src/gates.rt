@@ -2,9 +2,10 @@
 
 ghost use Rattle.std.specs.Prelude.{◌≡◌, ◌↔◌, ◌<◌, ◌^◌, ◌∷◌, [], ℕ, Some, IsTrue, IfOk, IfSome};
 ghost use Rattle.std.specs.FinMap.{get};
-ghost use Rattle.col_base.specs.Causes.{HasCause};
-ghost use Rattle.col_base.specs.Maps.{Contents};
-ghost use Rattle.col_disk.specs.Calls.{Keeps, ListsNames};
+ghost use Rattle.common_laws.specs.Causes.{HasCause};
+ghost use Rattle.common_laws.specs.Maps.{Contents};
+ghost use Rattle.col_disk.specs.Calls.{ListsNames};
+ghost use Rattle.col_disk.specs.Moved.{Looks};
 ghost use Rattle.catalog_root.specs.Root.{IsGreatestOf, NamesOpenGate};
 
 use crate::names::OPEN;
@@ -23,7 +24,7 @@ fn is_key(bytes: &[u8]) -> bool
 /// Whether the file is exactly the byte of an open gate, of which two bytes tell.
 fn is_key_at<D: Disk>(alloc: Global, disk: &mut D, name: u64) -> Result<bool, DiskFault>
     ensures told { IfOk result (λ b. (m : Contents) → D.holds disk.old ≡ Some m → (IsTrue b ↔ (get m name ≡ Some (86 ∷ [])))) }
-    ensures keeps { Keeps D.holds D.faults disk.old disk.new }
+    ensures keeps { Looks ⟦<D as Disk>⟧ disk.old disk.new }
     ensures cause { HasCause DiskFault.Failed (D.faults disk.old) (D.faults disk.new) result }
 {
     match disk.read(alloc, name, 0, 2) {
@@ -36,7 +37,7 @@ fn is_key_at<D: Disk>(alloc: Global, disk: &mut D, name: u64) -> Result<bool, Di
 /// Whether the file is an open gate.
 fn is_open<D: Disk>(alloc: Global, disk: &mut D, name: u64) -> Result<bool, DiskFault>
     ensures told { IfOk result (λ b. (m : Contents) → D.holds disk.old ≡ Some m → (IsTrue b ↔ NamesOpenGate m name)) }
-    ensures keeps { Keeps D.holds D.faults disk.old disk.new }
+    ensures keeps { Looks ⟦<D as Disk>⟧ disk.old disk.new }
     ensures cause { HasCause DiskFault.Failed (D.faults disk.old) (D.faults disk.new) result }
 {
     if name % 4 == 2 {
@@ -54,7 +55,7 @@ pub fn greatest_gate<D: Disk>(
 ) -> Result<Option<u64>, DiskFault>
     ensures found { IfOk result (λ r. (m : Contents) → D.holds disk.old ≡ Some m → ListsNames m names.now → IsGreatestOf m r) }
     ensures small { IfOk result (λ r. IfSome r (λ v. v < 2 ^ 62)) }
-    ensures keeps { Keeps D.holds D.faults disk.old disk.new }
+    ensures keeps { Looks ⟦<D as Disk>⟧ disk.old disk.new }
     ensures cause { HasCause DiskFault.Failed (D.faults disk.old) (D.faults disk.new) result }
 {
     let mut left = names.len();

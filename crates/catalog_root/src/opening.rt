@@ -1,12 +1,12 @@
 //! Opening: the greatest open gate, and the catalogue behind it.
 
-ghost use Rattle.std.specs.Prelude.{◌≡◌, ◌≢◌, ◌<◌, ◌^◌, ℕ, Some, None, Err, IfOk, IfErr, IfSome, IfNone};
+ghost use Rattle.std.specs.Prelude.{◌≡◌, ◌≢◌, ◌<◌, ◌^◌, ℕ, Some, None, Err, OnOk, IfOk, IfErr, IfSome, IfNone};
 ghost use Rattle.std.specs.FinMap.{get};
-ghost use Rattle.col_base.specs.Causes.{HasCause};
-ghost use Rattle.col_base.specs.Maps.{Contents};
+ghost use Rattle.common_laws.specs.Causes.{HasCause};
+ghost use Rattle.common_laws.specs.Maps.{Contents};
 ghost use Rattle.col_disk.specs.Calls.{ListsNames};
 ghost use Rattle.col_disk.specs.Faults.{store_fault};
-ghost use Rattle.col_disk.specs.Moved.{Moved, NoName};
+ghost use Rattle.col_disk.specs.Moved.{Moved, Looks, ImageOf, NoName};
 ghost use Rattle.catalog_bytes.specs.Spelling.{spelling};
 ghost use Rattle.catalog_root.specs.Root.{data_file, body_file, IsLeastData, IsBody, Opens, IsUsable, BlamesHeld, BlamesBody, BlamesRoot};
 
@@ -64,6 +64,7 @@ fn catalogue_at<D: Disk>(alloc: Global, disk: &mut D, version: u64) -> Result<Ca
     ensures found { IfOk result (λ c. (m : Contents) → D.holds disk.old ≡ Some m → get m (body_file version) ≡ Some (spelling c)) }
     ensures blamed { IfErr result (BlamesBody version (D.holds disk.old)) }
     ensures kept { D.holds disk.new ≡ D.holds disk.old }
+    ensures looks { Looks ⟦<D as Disk>⟧ disk.old disk.new }
     ensures moved { Moved ⟦<D as Disk>⟧ NoName NoName disk.old disk.new }
     ensures cause { HasCause StoreFault.Disk (D.faults disk.old) (D.faults disk.new) result }
 {
@@ -87,13 +88,29 @@ fn without_gate(names: &[u64]) -> Result<Found, StoreFault>
 
 /// What the disk opens to: the body of its greatest open gate, or `Fresh` where no gate is open and no data file is
 /// there. `Damaged` names that body where it spells no valid catalogue with `next` above the version, or else the
-/// least data file where no gate is open.
+/// least data file where no gate is open. First what an earlier process left is made to last, so that a crash from
+/// there on leaves what was opened.
 pub fn open<D: Disk>(alloc: Global, disk: &mut D) -> Result<Found, StoreFault>
     ensures found { IfOk result (λ f. (m : Contents) → D.holds disk.old ≡ Some m → Opens m f) }
     ensures valid { IfOk result IsUsable }
     ensures blamed { IfErr result (BlamesRoot (D.holds disk.old)) }
     ensures kept { D.holds disk.new ≡ D.holds disk.old }
+    ensures settled { OnOk result ((m : Contents) → D.holds disk.old ≡ Some m → (c : Contents) → ImageOf ⟦<D as Disk>⟧ disk.new c → c ≡ m) }
+    ensures looks { Looks ⟦<D as Disk>⟧ disk.old disk.new }
     ensures moved { Moved ⟦<D as Disk>⟧ NoName NoName disk.old disk.new }
+    ensures cause { HasCause StoreFault.Disk (D.faults disk.old) (D.faults disk.new) result }
+{
+    match disk.sync() {
+        Ok(()) => find_root(alloc, disk),
+        Err(fault) => Err(fault_of(fault)),
+    }
+}
+
+fn find_root<D: Disk>(alloc: Global, disk: &mut D) -> Result<Found, StoreFault>
+    ensures found { IfOk result (λ f. (m : Contents) → D.holds disk.old ≡ Some m → Opens m f) }
+    ensures valid { IfOk result IsUsable }
+    ensures blamed { IfErr result (BlamesRoot (D.holds disk.old)) }
+    ensures looks { Looks ⟦<D as Disk>⟧ disk.old disk.new }
     ensures cause { HasCause StoreFault.Disk (D.faults disk.old) (D.faults disk.new) result }
 {
     let names = match disk.names(alloc) {

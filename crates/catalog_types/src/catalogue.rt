@@ -1,13 +1,4 @@
-use col_value::{ColType, Encoding, List, Name};
-
-/// A column of a table.
-#[derive(Debug, Drop, PartialEq, Eq)]
-pub struct Column {
-    pub name: Name,
-    pub kind: ColType,
-    /// Whether NULL is refused.
-    pub not_null: bool,
-}
+use col_value::{Column, Encoding, List, Name};
 
 /// A column of a projection: which of the table's columns it is, and how its blocks are written.
 #[derive(Clone, Copy, Debug, PartialEq, Eq)]

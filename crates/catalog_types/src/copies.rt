@@ -2,27 +2,16 @@
 
 ghost use Rattle.std.specs.Prelude.{◌≡◌, IfOk};
 
-use crate::catalogue::{Catalogue, Column, Projection, Table};
-use col_value::List;
+use crate::catalogue::{Catalogue, Projection, Table};
+use col_value::{Column, List};
 use std::alloc::{AllocError, Global};
-
-fn copy_column(alloc: Global, k: &Column) -> Result<Column, AllocError>
-    ensures { IfOk result (λ x. x ≡ k.now) }
-{
-    let name = k.name.copy(alloc)?;
-    Ok(Column {
-        name,
-        kind: k.kind,
-        not_null: k.not_null,
-    })
-}
 
 fn copy_columns(alloc: Global, columns: &[Column]) -> Result<Vec<Column>, AllocError>
     ensures { IfOk result (λ v. v.items ≡ columns.now) }
 {
     let mut out = Vec::with_capacity(alloc, columns.len())?;
     for k in columns {
-        out.push(copy_column(alloc, k)?)?;
+        out.push(k.copy(alloc)?)?;
     }
     Ok(out)
 }

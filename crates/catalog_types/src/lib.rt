@@ -15,7 +15,4 @@ mod reached;
 mod span;
 mod valid;
 
-pub use catalogue::{Catalogue, Column, Container, ProjColumn, Projection, Table};
-
-#[cfg(test)]
-mod tests;
+pub use catalogue::{Catalogue, Container, ProjColumn, Projection, Table};

@@ -5,8 +5,8 @@ ghost use Rattle.std.specs.List.{All, list_all, flat_map};
 ghost use Rattle.catalog_types.specs.Lists.{Pairwise, Ahead};
 ghost use Rattle.catalog_types.specs.Names.{is_letter, is_digit, is_spelled, IsName, IsBelow, names_of, HasNamesOnce};
 
-use crate::catalogue::{Column, Projection, Table};
-use col_value::Name;
+use crate::catalogue::{Projection, Table};
+use col_value::{Column, Name};
 
 fn is_letter(b: u8) -> bool
     ensures { result ≡ is_letter b }

@@ -7,9 +7,9 @@ ghost use Rattle.catalog_types.specs.Names.{IsName, IsBelow};
 ghost use Rattle.catalog_types.specs.Numbers.{file_count};
 ghost use Rattle.catalog_types.specs.Parts.{IsKind, IsColumn, takes_kind, IsProjColumn, IsContainer, HasReached, IsEmptyIfStale, IsProjection, IsFreshSuper, IsTable};
 
-use crate::catalogue::{Catalogue, Column, Container, ProjColumn, Projection, Table};
+use crate::catalogue::{Catalogue, Container, ProjColumn, Projection, Table};
 use crate::names::{columns_differ, is_name, projections_ascend};
-use col_value::{ColType, Encoding};
+use col_value::{ColType, Column, Encoding};
 
 fn is_kind(kind: ColType) -> bool
     ensures { IsTrue result ↔ IsKind kind }

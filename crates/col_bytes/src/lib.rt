@@ -21,6 +21,3 @@ pub use laws::{one_form, read_again, shortest};
 pub use stop::Stop;
 pub use text::{put_text, take_text};
 pub use varint::{put_vint, take_vint};
-
-#[cfg(test)]
-mod tests;

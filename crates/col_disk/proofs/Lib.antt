@@ -1,2 +1,4 @@
 pub mod Moving
 mod Listing
+pub mod Keeping
+mod Crashed

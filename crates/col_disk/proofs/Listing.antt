@@ -12,7 +12,7 @@ use Rattle.std.specs.List.Sorted.{IsStrictlySortedBy}
 use Rattle.std.proofs.lemmas.Bool.Decides.{Decides-eqb}
 use Rattle.std.proofs.lemmas.Map.Keys.{IsStrictlyIncreasing-from_sorted}
 use Rattle.std.proofs.lemmas.Map.Made.{is_member-Decides}
-use Rattle.col_base.proofs.MapLaws.{get_lookup}
+use Rattle.common_laws.proofs.MapLaws.{get_lookup}
 use Rattle.col_disk.specs.Calls.{ListsNames}
 
 same_key : (a b : ℕ) → Decides (eq_by_cmp nat_cmp a b) (a ≡ b)

@@ -1,10 +1,11 @@
 -- What each call of a disk answers, and what it makes of the contents.
-use Rattle.std.specs.Prelude.{◌≡◌, ◌⊎◌, ◌↔◌, ◌≤◌, ℕ, List, length, take, drop, Option, Some, None, IsSome, Ok, Err, Result, Vec, Contains}
+use Rattle.std.specs.Prelude.{Bool, ◌≡◌, ◌⊎◌, ◌↔◌, ◌≤◌, ℕ, List, length, take, drop, Option, Some, None, IsSome, Ok, Err, Result, Vec, Contains}
 use Rattle.std.specs.List.Sorted.{IsStrictlyIncreasing}
 use Rattle.std.specs.Option.{option_map}
 use Rattle.std.specs.FinMap.{get, insert, remove}
 use Rattle.std.specs.declared.alloc.Global.{Global}
-use Rattle.col_base.specs.Maps.{Contents}
+use Rattle.common_laws.specs.Maps.{Contents}
+use Rattle.col_disk.specs.Crashes.{Image, Passes, NoneCame, StepLeaves, Remembers}
 use Rattle.col_disk.specs.declared.disk.DiskFault.{DiskFault}
 use Rattle.col_disk.specs.declared.disk.DiskFault.TheVariants.{Failed, Memory}
 
@@ -29,10 +30,13 @@ pub record ListsNames (m : Contents) (names : List ℕ) : Type 0 where
 abbrev pub AnswersNames : Option Contents → List ℕ → Type 0
 AnswersNames holds names = (m : Contents) → holds ≡ Some m → ListsNames m names
 
--- a call that only looks: what is told is told on, and the count of faults never falls
-pub record Keeps {D : Type 0} (holds : D → Option Contents) (faults : D → ℕ) (old new : D) : Type 0 where
+-- a call that only looks: what is told is told on, no image comes, and the count of faults never falls
+pub record Keeps {D : Type 0} (holds : D → Option Contents) (faults : D → ℕ) (since : D → ℕ → Contents → Type 0) (clock : D → ℕ) (changed : D → Bool) (old new : D) : Type 0 where
   pub contents : holds new ≡ holds old
   pub counted : faults old ≤ faults new
+  pub images : NoneCame (Image since clock old) (Image since clock new)
+  pub time : Passes since clock old new
+  pub remembered : changed new ≡ changed old
 
 -- a step of the contents where they are told; those that aren't stay untold
 abbrev pub Stepped : (Contents → Contents → Type 0) → Option Contents → Option Contents → Type 0
@@ -62,11 +66,19 @@ RemoveLeaves name old new (Err Failed) = Stepped (GoneOrKept name) old new
 RemoveLeaves name old new (Err Memory) = new ≡ old
 
 -- a call that writes
-pub record Writes {D : Type 0} (holds : D → Option Contents) (faults : D → ℕ) (name : ℕ) (bytes : List ℕ) (old new : D) (result : Result (Unit {0}) DiskFault) : Type 0 where
+pub record Writes {D : Type 0} (holds : D → Option Contents) (faults : D → ℕ) (since : D → ℕ → Contents → Type 0) (clock : D → ℕ) (changed : D → Bool)
+    (name : ℕ) (bytes : List ℕ) (old new : D) (result : Result (Unit {0}) DiskFault) : Type 0 where
   pub contents : WriteLeaves name bytes (holds old) (holds new) result
   pub counted : faults old ≤ faults new
+  pub images : StepLeaves (Elsewhere name) (Image since clock old) (Image since clock new) result
+  pub time : Passes since clock old new
+  pub remembered : Remembers (changed old) (changed new) result
 
 -- a call that removes
-pub record Removes {D : Type 0} (holds : D → Option Contents) (faults : D → ℕ) (name : ℕ) (old new : D) (result : Result (Unit {0}) DiskFault) : Type 0 where
+pub record Removes {D : Type 0} (holds : D → Option Contents) (faults : D → ℕ) (since : D → ℕ → Contents → Type 0) (clock : D → ℕ) (changed : D → Bool)
+    (name : ℕ) (old new : D) (result : Result (Unit {0}) DiskFault) : Type 0 where
   pub contents : RemoveLeaves name (holds old) (holds new) result
   pub counted : faults old ≤ faults new
+  pub images : StepLeaves (GoneOrKept name) (Image since clock old) (Image since clock new) result
+  pub time : Passes since clock old new
+  pub remembered : Remembers (changed old) (changed new) result

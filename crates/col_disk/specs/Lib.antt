@@ -1,5 +1,10 @@
+pub mod Crashes
 pub mod Calls
 pub mod Moved
 pub mod Memory
 pub mod Folder
 pub mod Faults
+pub mod Dids
+pub mod Done
+pub mod Written
+pub mod Crashing

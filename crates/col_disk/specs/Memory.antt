@@ -1,13 +1,16 @@
 -- A disk in memory, as it is seen.
-use Rattle.std.specs.Prelude.{◌==◌, ◌+◌, ◌-◌, ◌^◌, ◌||◌, min, ℕ, Bool, false, not, List, [], Option, Some, None, refl, if◌then◌else◌}
+use Rattle.std.specs.Prelude.{◌==◌, ◌+◌, ◌-◌, ◌^◌, ◌||◌, min, ℕ, Bool, false, not, List, [], Option, Some, None, if◌then◌else◌}
 use Rattle.std.specs.Bool.{nat_lt}
 use Rattle.std.specs.List.{list_any}
-use Rattle.std.specs.Coded.{Coded, code_by, coded×, coded_list, coded_option, coded_ℕ}
-use Rattle.std.specs.FinMap.{empty, code}
-use Rattle.col_base.specs.Maps.{Contents}
+use Rattle.common_laws.specs.Maps.{Contents}
+use Rattle.col_disk.specs.declared.did.Did.{Did}
+use Rattle.col_disk.specs.Dids.{contents_of}
 
 pub record Memory : Type 0 where
-  pub contents : Contents
+  -- what was done to it, the first first
+  pub done : List Did
+  -- whether something was ever written or removed
+  pub changed : Bool
   -- how many calls it has had; the next one has this number
   pub calls : ℕ
   -- the numbers of the calls that fail
@@ -16,15 +19,13 @@ pub record Memory : Type 0 where
   pub failing_from : Option ℕ
   pub faults : ℕ
 
-abbrev pub memory_code : Coded Memory
-memory_code =
-    code_by (Contents × (ℕ × (List ℕ × (Option ℕ × ℕ)))) (coded× (code coded_ℕ (coded_list coded_ℕ)) (coded× coded_ℕ (coded× (coded_list coded_ℕ) (coded× (coded_option coded_ℕ) coded_ℕ))))
-    (λ m. (m.contents, (m.calls, (m.failing, (m.failing_from, m.faults)))))
-    (λ p. record { contents = p.0; calls = p.1.0; failing = p.1.1.0; failing_from = p.1.1.1.0; faults = p.1.1.1.1 }) (λ _. refl)
+-- what it holds
+abbrev pub held_by : Memory → Contents
+held_by m = contents_of m.done
 
 -- no name, no call, no fault
 abbrev pub blank : Memory
-blank = record { contents = empty; calls = 0; failing = []; failing_from = None; faults = 0 }
+blank = record { done = []; changed = false; calls = 0; failing = []; failing_from = None; faults = 0 }
 
 -- one more, up to 2^64 - 1
 abbrev pub one_more : ℕ → ℕ

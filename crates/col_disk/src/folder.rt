@@ -6,6 +6,7 @@ use crate::DiskFault;
 use std::alloc::{AllocError, Global};
 use std::fs::{DirEntry, OpenFile};
 use std::io::{ErrorKind, Read, Seek, SeekFrom, Write};
+use std::path::Path;
 use std::rt::Files;
 use std::{fs, io};
 
@@ -15,6 +16,8 @@ pub(crate) struct Folder<R: Files + Clone + Drop> {
     rt: (R, Global),
     path: String,
     is_made: bool,
+    // how many folders of the path, from the last one up, were absent before they were made
+    absent: usize,
     // what an earlier process left has been synced
     is_settled: bool,
     // an entry may have come or gone since the last sync
@@ -29,6 +32,7 @@ impl<R: Files + Clone + Drop> Folder<R> {
             rt: (rt.clone()?, alloc),
             path: String::from_str(alloc, path)?,
             is_made: false,
+            absent: 0,
             is_settled: false,
             is_changed: false,
             is_broken: false,
@@ -107,10 +111,10 @@ impl<R: Files + Clone + Drop> Folder<R> {
     /// Makes what was written and removed outlast a crash: each file was synced as it was written, so it is left to
     /// sync the folder, whose entries came and went. It fails ever after a failure.
     pub(crate) fn sync(&mut self) -> Result<(), DiskFault> {
-        self.settle()?;
         if self.is_broken {
             return Err(DiskFault::Failed);
         }
+        self.settle()?;
         if self.is_changed {
             match self.sync_file(self.path.as_str()) {
                 Ok(()) => self.is_changed = false,
@@ -127,11 +131,31 @@ impl<R: Files + Clone + Drop> Folder<R> {
 
     // makes the folder, unless that has succeeded before
     fn make(&mut self) -> Result<(), DiskFault> {
-        if !self.is_made {
-            match fs::create_dir_all(&self.rt, self.path.as_str()) {
-                Ok(()) => self.is_made = true,
-                Err(error) => return Err(fault_of(&error)),
+        if self.is_made {
+            return Ok(());
+        }
+        match self.make_synced() {
+            Ok(()) => self.is_made = true,
+            Err(error) => return Err(fault_of(&error)),
+        }
+        Ok(())
+    }
+
+    // Each folder in which one was made is synced, so that a power cut doesn't take the whole folder.
+    fn make_synced(&mut self) -> io::Result<()> {
+        self.absent = absent_in(&self.rt, self.path.as_str())?.max(self.absent);
+        fs::create_dir_all(&self.rt, self.path.as_str())?;
+        self.sync_holders()
+    }
+
+    fn sync_holders(&self) -> io::Result<()> {
+        let mut left = self.absent;
+        for holder in Path::new(self.path.as_str()).ancestors().skip(1) {
+            if left == 0 {
+                return Ok(());
             }
+            self.sync_file(named(holder.as_str()))?;
+            left -= 1;
         }
         Ok(())
     }
@@ -218,6 +242,23 @@ impl<R: Files + Clone + Drop> Folder<R> {
         let folder = self.path.as_str();
         format!(in self.rt.1; "{folder}/{name}")
     }
+}
+
+// how many folders of the path, from the last one up, are absent
+fn absent_in(rt: &impl Files, path: &str) -> io::Result<usize> {
+    let mut absent = 0usize;
+    for folder in Path::new(path).ancestors() {
+        if fs::exists(rt, named(folder.as_str()))? {
+            return Ok(absent);
+        }
+        absent = absent.saturating_add(1);
+    }
+    Ok(absent)
+}
+
+// the empty path is the folder that the program runs in
+fn named(path: &str) -> &str {
+    if path.is_empty() { "." } else { path }
 }
 
 // the number that the text is the decimal spelling of: no sign, no leading zero, below 2^64

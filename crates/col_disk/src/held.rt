@@ -21,7 +21,7 @@ pub(crate) struct Held {
 impl Model for Held {
     ghost use Rattle.std.specs.Coded.{coded_list, coded_ℕ};
     ghost use Rattle.std.specs.FinMap.{from_entries, code};
-    ghost use Rattle.col_base.specs.Maps.{Contents};
+    ghost use Rattle.common_laws.specs.Maps.{Contents};
 
     ghost Value = { Contents };
 

@@ -7,6 +7,7 @@
 //! that it may have written, and those that it may have removed.
 #![tactic(auto)]
 
+mod did;
 mod dir;
 mod disk;
 mod folder;
@@ -16,8 +17,9 @@ mod memory;
 mod tests;
 mod whole;
 
-pub use col_base::Blob;
+pub use common_laws::Blob;
+pub use did::Did;
 pub use dir::DirDisk;
 pub use disk::{Disk, DiskFault, StoreFault};
-pub use memory::MemDisk;
+pub use memory::{Keep, MemDisk};
 pub use whole::read_whole;

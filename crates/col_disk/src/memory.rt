@@ -1,13 +1,21 @@
-ghost use Rattle.std.specs.Prelude.{◌≡◌, ◌==◌, ◌≤◌, ◌/◌, IsTrue, IfOk, OnOk, OnErr, IfErr, Some, length, take, drop};
+ghost use Rattle.std.specs.Prelude.{◌⊎◌, ◌++◌, ◌∷◌, [], true, false, ◌≡◌, ◌==◌, ◌≤◌, ◌/◌, IsTrue, IfOk, OnOk, OnErr, IfErr, Some, length, take, drop};
 ghost use Rattle.std.specs.Option.{option_map};
 ghost use Rattle.std.specs.List.{list_any};
-ghost use Rattle.std.specs.FinMap.{get, insert};
-ghost use Rattle.col_base.specs.Causes.{Rose};
-ghost use Rattle.col_disk.specs.Memory.{blank, began, fails_next, is_reached as reached};
+ghost use Rattle.std.specs.FinMap.{get, insert, remove};
+ghost use Rattle.common_laws.specs.Causes.{Rose};
+ghost use Rattle.common_laws.specs.Maps.{Contents};
+ghost use Rattle.col_disk.specs.declared.did.Did.TheVariants.{Placed, Wrote, Removed, Kept, Synced};
+ghost use Rattle.col_disk.specs.Dids.{ImagesOf, ImagesSince};
+ghost use Rattle.col_disk.specs.Done.{last_shown, earlier_reached};
+ghost use Rattle.col_disk.specs.Memory.{held_by, blank, began, fails_next, is_reached as reached};
 
+mod crash;
+
+use crate::did::Did;
 use crate::held::Held;
 use crate::{Blob, Disk, DiskFault};
-use col_base::rest_of;
+use common_laws::rest_of;
+pub use crash::Keep;
 use std::alloc::{AllocError, Global};
 use std::marker::Model;
 
@@ -18,6 +26,10 @@ use std::marker::Model;
 #[derive(Drop)]
 pub struct MemDisk {
     held: Held,
+    done: Vec<Did>,
+    // a sync has something to do
+    dirty: bool,
+    changed: bool,
     alloc: Global,
     calls: u64,
     failing: Vec<u64>,
@@ -26,13 +38,15 @@ pub struct MemDisk {
 }
 
 impl Model for MemDisk {
-    ghost use Rattle.col_disk.specs.Memory.{Memory, memory_code};
+    ghost use Rattle.col_disk.specs.Memory.{Memory};
+    ghost use Rattle.col_disk.specs.Dids.{IsKept};
+    ghost use Rattle.std.specs.Prelude.{vec_len, vec_capacity};
 
     ghost Value = { Memory };
 
-    ghost coded = { memory_code };
+    ghost view = { λ d. record { done = d.done.items; changed = d.changed; calls = d.calls; failing = d.failing.items; failing_from = d.failing_from; faults = d.faults } };
 
-    ghost view = { λ d. record { contents = d.held; calls = d.calls; failing = d.failing.items; failing_from = d.failing_from; faults = d.faults } };
+    ghost invariant = { λ d. IsKept d.held d.done.items d.dirty (vec_len d.done) (vec_capacity d.done) };
 }
 
 impl MemDisk {
@@ -42,6 +56,9 @@ impl MemDisk {
     {
         MemDisk {
             held: Held::new(alloc),
+            done: Vec::new(alloc),
+            dirty: false,
+            changed: false,
             alloc,
             calls: 0,
             failing: Vec::new(alloc),
@@ -52,10 +69,10 @@ impl MemDisk {
 
     /// The same disk with these bytes at the name. It counts as no call.
     pub fn with(self, name: u64, bytes: &[u8]) -> Result<MemDisk, AllocError>
-        ensures { IfOk result (λ d. d ≡ record self { contents = insert self.contents name bytes.now }) }
+        ensures { IfOk result (λ d. d ≡ record self { done = self.done ++ Placed name bytes.now ∷ [] }) }
     {
         let mut disk = self;
-        disk.put(name, bytes)?;
+        disk.place(name, bytes)?;
         Ok(disk)
     }
 
@@ -79,7 +96,7 @@ impl MemDisk {
 
     /// The bytes of the name, or None where it is absent. It counts as no call.
     pub fn bytes(&self, name: u64) -> Option<&[u8]>
-        ensures { option_map (λ b. b.now) result ≡ get self.now.contents name }
+        ensures { option_map (λ b. b.now) result ≡ get (held_by self.now) name }
     {
         self.held.bytes(name)
     }
@@ -102,9 +119,11 @@ impl MemDisk {
     fn begin(&mut self) -> bool
         ensures fails { result ≡ fails_next self.old }
         ensures counted { self.new ≡ began self.old }
-        ensures kept { self.new.contents ≡ self.old.contents }
+        ensures kept { self.new.done ≡ self.old.done }
+        ensures remembered { self.new.changed ≡ self.old.changed }
         ensures later { self.old.faults ≤ self.new.faults }
         ensures rose { IsTrue result → Rose self.old.faults self.new.faults }
+        ensures unfailed { result ≡ false → self.new.faults ≡ self.old.faults }
     {
         let call = self.calls;
         let fails = is_among(self.failing.as_slice(), call) || is_reached(self.failing_from, call);
@@ -115,12 +134,69 @@ impl MemDisk {
         fails
     }
 
-    fn put(&mut self, name: u64, bytes: &[u8]) -> Result<(), AllocError>
-        ensures ok { OnOk result (self.new ≡ record self.old { contents = insert self.old.contents name bytes.now }) }
+    // the bytes were there from the beginning
+    fn place(&mut self, name: u64, bytes: &[u8]) -> Result<(), AllocError>
+        ensures ok { OnOk result (self.new ≡ record self.old { done = self.old.done ++ Placed name bytes.now ∷ [] }) }
+        ensures held { OnOk result (held_by self.new ≡ insert (held_by self.old) name bytes.now) }
         ensures err { OnErr result (self.new ≡ self.old) }
     {
+        let kept = Blob::new(Vec::from_slice(self.alloc, bytes)?);
         let blob = Blob::new(Vec::from_slice(self.alloc, bytes)?);
-        self.held.put(name, blob)
+        self.done.reserve(2)?;
+        self.held.put(name, blob)?;
+        self.done.push_reserved(Did::Placed(name, kept));
+        self.dirty = true;
+        Ok(())
+    }
+
+    fn put(&mut self, name: u64, bytes: &[u8]) -> Result<(), AllocError>
+        ensures ok { OnOk result (self.new ≡ record self.old { done = self.old.done ++ Wrote name bytes.now ∷ []; changed = true }) }
+        ensures err { OnErr result (self.new ≡ self.old) }
+    {
+        let kept = Blob::new(Vec::from_slice(self.alloc, bytes)?);
+        let blob = Blob::new(Vec::from_slice(self.alloc, bytes)?);
+        self.done.reserve(2)?;
+        self.held.put(name, blob)?;
+        self.done.push_reserved(Did::Wrote(name, kept));
+        self.changed = true;
+        self.dirty = true;
+        Ok(())
+    }
+
+    fn take(&mut self, name: u64) -> Result<(), AllocError>
+        ensures ok { OnOk result (self.new ≡ record self.old { done = self.old.done ++ Removed name ∷ []; changed = true }) }
+        ensures held { OnOk result (held_by self.new ≡ remove (held_by self.old) name) }
+        ensures err { OnErr result (self.new ≡ self.old) }
+    {
+        self.done.reserve(2)?;
+        self.held.take(name);
+        self.done.push_reserved(Did::Removed(name));
+        self.changed = true;
+        self.dirty = true;
+        Ok(())
+    }
+
+    // a removal that fails
+    fn keep(&mut self, name: u64) -> Result<(), AllocError>
+        ensures ok { OnOk result (self.new ≡ record self.old { done = self.old.done ++ Kept name ∷ []; changed = true }) }
+        ensures err { OnErr result (self.new ≡ self.old) }
+    {
+        self.done.reserve(2)?;
+        self.done.push_reserved(Did::Kept(name));
+        self.changed = true;
+        self.dirty = true;
+        Ok(())
+    }
+
+    // a good sync: where it has something to do, it is noted, for which there is room
+    fn settle(&mut self)
+        ensures noted { (self.new ≡ self.old) ⊎ (self.new ≡ record self.old { done = self.old.done ++ Synced ∷ [] }) }
+        ensures settled { (c : Contents) → ImagesOf self.new.done c → c ≡ held_by self.new }
+    {
+        if self.dirty {
+            self.done.push_reserved(Did::Synced);
+            self.dirty = false;
+        }
     }
 }
 
@@ -161,9 +237,17 @@ fn first_half(bytes: &[u8]) -> &[u8]
 }
 
 impl Disk for MemDisk {
-    ghost holds = { λ d. Some d.contents };
+    ghost holds = { λ d. Some (held_by d) };
 
     ghost faults = { λ d. d.faults };
+
+    ghost clock = { λ d. length d.done };
+
+    ghost since = { λ d t c. ImagesSince d.done t c };
+
+    ghost changed = { λ d. d.changed };
+
+    ghost laws = { record { shows = λ d m told. last_shown d.done m told; reaches = λ d t u c le within is. earlier_reached d.done t u c le is } };
 
     fn size(&mut self, name: u64) -> Result<Option<u64>, DiskFault> {
         if self.begin() {
@@ -209,10 +293,15 @@ impl Disk for MemDisk {
 
     fn remove(&mut self, name: u64) -> Result<(), DiskFault> {
         if self.begin() {
-            return Err(DiskFault::Failed);
+            return match self.keep(name) {
+                Ok(()) => Err(DiskFault::Failed),
+                Err(AllocError) => Err(DiskFault::Memory),
+            };
         }
-        self.held.take(name);
-        Ok(())
+        match self.take(name) {
+            Ok(()) => Ok(()),
+            Err(AllocError) => Err(DiskFault::Memory),
+        }
     }
 
     fn names(&mut self, alloc: Global) -> Result<Vec<u64>, DiskFault> {
@@ -229,6 +318,7 @@ impl Disk for MemDisk {
         if self.begin() {
             return Err(DiskFault::Failed);
         }
+        self.settle();
         Ok(())
     }
 }

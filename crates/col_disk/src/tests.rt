@@ -1,4 +1,4 @@
-use crate::{DirDisk, Disk, DiskFault, MemDisk, StoreFault, read_whole};
+use crate::{Blob, DirDisk, Disk, DiskFault, Keep, MemDisk, StoreFault, read_whole};
 use std::alloc::Global;
 use std::fs;
 use std::process::Abort;
@@ -104,6 +104,100 @@ fn each_call_fails_in_turn(rt: HostRuntime) -> Result<(), Fail> {
         .count();
     assert_eq!(rt; failed, 2);
     assert_eq!(rt; disk.faults(), 2);
+    Ok(())
+}
+
+// so many calls of a script on names 1, 2 and 3
+fn first_calls(disk: &mut MemDisk, calls: usize) -> Result<(), Fail> {
+    for call in 0..calls {
+        match call {
+            0 => disk.write(3, b"new")?,
+            1 => disk.remove(2)?,
+            2 => disk.remove(1)?,
+            3 => disk.write(1, b"newer")?,
+            _ => disk.sync()?,
+        }
+    }
+    Ok(())
+}
+
+// what a crash leaves: a text for each of names 1, 2 and 3
+fn left_is(disk: &MemDisk, want: [Option<&str>; 3]) -> bool {
+    let mut name = 0u64;
+    want.iter().all(|text| {
+        name = name.saturating_add(1);
+        disk.bytes(name) == text.map(|t| t.as_bytes())
+    })
+}
+
+fn torn(alloc: Global) -> Result<Keep, Fail> {
+    Ok(Keep::Bytes(Blob::new(Vec::from_slice(alloc, b"torn")?)))
+}
+
+#[test]
+fn a_crash_at_each_call(rt: HostRuntime) -> Result<(), Fail> {
+    let alloc = rt.alloc();
+    for calls in 0..6usize {
+        let mut disk = MemDisk::new(alloc).with(1, b"one")?.with(2, b"two")?;
+        first_calls(&mut disk, calls)?;
+        let (gone, kept, count) = match calls {
+            0 => (
+                [Some("one"), Some("two"), None],
+                [Some("one"), Some("two"), None],
+                0,
+            ),
+            1 => (
+                [Some("one"), Some("two"), None],
+                [Some("one"), Some("two"), Some("torn")],
+                1,
+            ),
+            2 => (
+                [Some("one"), None, None],
+                [Some("one"), Some("two"), Some("torn")],
+                2,
+            ),
+            3 => (
+                [None, None, None],
+                [Some("one"), Some("two"), Some("torn")],
+                3,
+            ),
+            4 => (
+                [None, None, None],
+                [Some("torn"), Some("two"), Some("torn")],
+                3,
+            ),
+            _ => (
+                [Some("newer"), None, Some("new")],
+                [Some("newer"), None, Some("new")],
+                0,
+            ),
+        };
+        let mut all_gone = Vec::new(alloc);
+        let mut most = Vec::new(alloc);
+        for at in 0..count {
+            all_gone.push(Keep::Absent)?;
+            most.push(if at == count - 1 || (calls == 4 && at == 0) {
+                torn(alloc)?
+            } else {
+                Keep::Held
+            })?;
+        }
+        match disk.crash(all_gone.as_slice())? {
+            Some(left) => assert!(rt; left_is(&left, gone), "{calls}"),
+            None => assert!(rt; false, "{calls}"),
+        }
+        match disk.crash(most.as_slice())? {
+            Some(left) => assert!(rt; left_is(&left, kept), "{calls}"),
+            None => assert!(rt; false, "{calls}"),
+        }
+        all_gone.push(Keep::Absent)?;
+        assert!(rt; disk.crash(all_gone.as_slice())?.is_none());
+    }
+    let mut disk = MemDisk::new(alloc).with(2, b"two")?;
+    disk.write(1, b"one")?;
+    disk.remove(2)?;
+    assert!(rt; disk.crash(&[Keep::Held, Keep::Held])?.is_none());
+    assert!(rt; disk.crash(&[Keep::Absent, torn(alloc)?])?.is_none());
     Ok(())
 }
 

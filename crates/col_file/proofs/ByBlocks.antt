@@ -8,7 +8,7 @@ use Rattle.std.proofs.Math.ListN.{drop_of_length-le}
 use Rattle.std.proofs.lemmas.List.{length-append}
 use Rattle.std.proofs.lemmas.Bool.{eqb-true, ltb-true}
 use Rattle.std.proofs.lemmas.List.{append-nil}
-use Rattle.col_base.specs.Maps.{Contents}
+use Rattle.common_laws.specs.Maps.{Contents}
 use Rattle.col_bytes.proofs.Codecs.{some_is}
 use Rattle.col_disk.specs.declared.disk.StoreFault.{StoreFault}
 use Rattle.col_value.specs.Order.{IsValue}

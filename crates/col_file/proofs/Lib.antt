@@ -1,3 +1,4 @@
+pub mod Looking
 pub mod Written
 pub mod Found
 pub mod Blocks

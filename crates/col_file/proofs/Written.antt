@@ -2,7 +2,7 @@
 use Rattle.std.proofs.Common.{◌≡◌, ℕ, suc, ◌+◌, List, [], ◌∷◌, ◌++◌, length, Option, Some, None, sym, ap, ◌∙◌, arith}
 use Rattle.std.specs.Prelude.{Result, Ok, Err, OnOk, option_map}
 use Rattle.std.specs.FinMap.{get, insert}
-use Rattle.col_base.specs.Maps.{Contents}
+use Rattle.common_laws.specs.Maps.{Contents}
 use Rattle.col_bytes.proofs.Codecs.{some_is}
 use Rattle.col_disk.specs.Calls.{WriteLeaves}
 use Rattle.col_disk.specs.declared.disk.DiskFault.{DiskFault}

@@ -1,7 +1,7 @@
 -- The two files of a column.
 use Rattle.std.specs.Prelude.{◌≡◌, ℕ, zero, suc, List, [], ◌∷◌, ◌++◌, length, Option, Some}
 use Rattle.std.specs.FinMap.{get}
-use Rattle.col_base.specs.Maps.{Contents}
+use Rattle.common_laws.specs.Maps.{Contents}
 use Rattle.col_value.specs.declared.kinds.Encoding.{Encoding}
 use Rattle.col_value.specs.declared.value.Value.{Value}
 use Rattle.pos_index.specs.declared.index.PosIndex.{PosIndex}

@@ -2,7 +2,7 @@
 
 ghost use Rattle.std.specs.Prelude.{◌≡◌, ◌≢◌, ◌+◌, ◌<◌, ◌-◌, length, Err, IfOk, IfErr, IfSome, option_map};
 ghost use Rattle.std.specs.List.{slice_get};
-ghost use Rattle.col_base.specs.Causes.{HasCause};
+ghost use Rattle.common_laws.specs.Causes.{HasCause};
 ghost use Rattle.col_disk.specs.Calls.{AnswersPart};
 ghost use Rattle.col_disk.specs.Moved.{Moved, NoName};
 ghost use Rattle.block_codec.specs.Blocks.{flattened, HaveCounts};
@@ -12,9 +12,9 @@ ghost use Rattle.col_file.specs.Read.{Blames, SpellsBlock, IsBlock, AnswersPiece
 use crate::checks::{are_runs, are_values};
 use crate::read::fault_of;
 use block_choice::{decode, runs};
-use col_base::Steps;
 use col_disk::{Disk, StoreFault};
 use col_value::{Encoding, Run, Value};
+use common_laws::Steps;
 use pos_index::{Entry, PosIndex};
 use std::alloc::{AllocError, Global};
 use std::sync::ledger::Ledger;

@@ -2,8 +2,8 @@
 
 ghost use Rattle.std.specs.Prelude.{◌≡◌, ◌≢◌, ◌++◌, ◌∷◌, [], ◌*◌, ◌^◌, ◌<◌, length, OnOk, IfOk, Some};
 ghost use Rattle.std.specs.List.{All};
-ghost use Rattle.col_base.specs.Causes.{HasCause};
-ghost use Rattle.col_base.specs.Maps.{Contents};
+ghost use Rattle.common_laws.specs.Causes.{HasCause};
+ghost use Rattle.common_laws.specs.Maps.{Contents};
 ghost use Rattle.col_disk.specs.Moved.{Moved, NoName, Named, Either};
 ghost use Rattle.col_value.specs.Order.{IsValue};
 ghost use Rattle.value_bytes.specs.Spelling.{IsSpelled};
@@ -94,6 +94,7 @@ pub fn write_column<D: Disk>(
     ensures held { OnOk result ((m : Contents) → D.holds disk.new ≡ Some m → HoldsColumn encoding body index (length values.now) m values.now) }
     ensures moved { Moved ⟦<D as Disk>⟧ (Either (Named body) (Named index)) NoName disk.old disk.new }
     ensures cause { HasCause DiskFault.Failed (D.faults disk.old) (D.faults disk.new) result }
+    ensures unfailed { OnOk result (D.faults disk.new ≡ D.faults disk.old) }
 {
     have_spellings(values);
     let (body_bytes, index_bytes) = match column_bytes(alloc, values, encoding) {

@@ -2,7 +2,7 @@
 
 ghost use Rattle.std.specs.Prelude.{◌≡◌, ℕ, List, ◌<◌, ◌^◌, length, Some};
 ghost use Rattle.std.specs.List.{All};
-ghost use Rattle.col_base.specs.Maps.{Contents};
+ghost use Rattle.common_laws.specs.Maps.{Contents};
 ghost use Rattle.col_value.specs.declared.kinds.Encoding.{Encoding};
 ghost use Rattle.col_value.specs.declared.value.Value.{Value};
 ghost use Rattle.value_bytes.specs.Spelling.{IsSpelled};

@@ -20,6 +20,3 @@ pub use column::write_column;
 pub use laws::{a_written_column_is_held, one_column};
 pub use read::read_index;
 pub use whole::read_column;
-
-#[cfg(test)]
-mod tests;

@@ -1,7 +1,7 @@
 //! Reading the index of a column.
 
 ghost use Rattle.std.specs.Prelude.{◌≡◌, ◌≢◌, Err, IfOk, IfErr};
-ghost use Rattle.col_base.specs.Causes.{HasCause};
+ghost use Rattle.common_laws.specs.Causes.{HasCause};
 ghost use Rattle.col_disk.specs.Faults.{store_fault};
 ghost use Rattle.col_disk.specs.Moved.{Moved, NoName};
 ghost use Rattle.pos_index.specs.Index.{index_spelling, IsIndex, Fits};

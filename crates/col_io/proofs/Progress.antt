@@ -3,8 +3,8 @@ use Rattle.std.proofs.Common.{ℕ, ◌+◌, List, take, drop, sym, subst}
 use Rattle.std.specs.Prelude.{Option}
 use Rattle.std.proofs.lemmas.List.{take-append-drop}
 use Rattle.std.proofs.Math.Seq.{take-add}
-use Rattle.col_base.specs.Told.{Appends, AppendsFront}
-use Rattle.col_base.proofs.Telling.{appends_join, front_after}
+use Rattle.common_laws.specs.Told.{Appends, AppendsFront}
+use Rattle.common_laws.proofs.Telling.{appends_join, front_after}
 
 -- the first `at` bytes, and then `count` of those behind them
 pub more_taken : (old mid new : Option (List ℕ)) (piece : List ℕ) (at count : ℕ)

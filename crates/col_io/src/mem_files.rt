@@ -6,7 +6,7 @@ ghost use Rattle.std.specs.Str.{bytes_eq};
 ghost use Rattle.col_io.specs.Files.{bytes_at};
 
 use crate::reading::{Files, FilesFault, Got};
-use col_base::Blob;
+use common_laws::Blob;
 use std::alloc::{AllocError, Global};
 use std::collections::BTreeMap;
 

@@ -1,5 +1,5 @@
 ghost use Rattle.std.specs.Prelude.{◌≡◌, IfOk, IfSome};
-ghost use Rattle.col_base.specs.Causes.{HasCause};
+ghost use Rattle.common_laws.specs.Causes.{HasCause};
 ghost use Rattle.col_io.specs.Files.{Finds, IsWithin};
 
 use std::alloc::Global;

@@ -1,9 +1,9 @@
 ghost use Rattle.std.specs.Prelude.{IfOk, OnOk, OnErr};
-ghost use Rattle.col_base.specs.Causes.{HasCause};
-ghost use Rattle.col_base.specs.Told.{Appends, AppendsFront};
+ghost use Rattle.common_laws.specs.Causes.{HasCause};
+ghost use Rattle.common_laws.specs.Told.{Appends, AppendsFront};
 ghost use Rattle.col_io.specs.Sinks.{TakesFront};
 
-use col_base::rest_of;
+use common_laws::rest_of;
 
 /// Why a write was not done.
 #[derive(Debug, Clone, Copy, PartialEq, Eq)]

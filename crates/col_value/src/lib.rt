@@ -9,19 +9,19 @@
 #![tactic(auto)]
 
 mod boxed;
+mod column;
 mod kinds;
 mod laws;
 mod list;
 mod name;
 mod print;
 mod row;
-#[cfg(test)]
-mod tests;
 mod text;
 mod value;
 mod wide;
 
 pub use boxed::Boxed;
+pub use column::Column;
 pub use kinds::{ColType, Encoding};
 pub use laws::{one_listing, orders_are_exact, orders_are_total};
 pub use list::List;

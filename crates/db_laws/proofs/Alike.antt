@@ -2,8 +2,8 @@
 use Rattle.std.proofs.Common.{◌≡◌, ℕ, ◌+◌, ◌++◌, not, List, [], ◌∷◌, Bool, true, false, cond, refl, sym, ◌∙◌, arith}
 use Rattle.std.specs.Prelude.{nat_le, count_by}
 use Rattle.std.specs.List.{AllZip}
-use Rattle.col_base.specs.Bags.{SameBag}
-use Rattle.col_base.proofs.BagLaws.{bag_refl, bag_sym, bag_trans, count_cons, count_append}
+use Rattle.common_laws.specs.Bags.{SameBag}
+use Rattle.common_laws.proofs.BagLaws.{bag_refl, bag_sym, bag_trans, count_cons, count_append}
 use Rattle.col_value.specs.declared.row.Stamped.{Stamped}
 use Rattle.db_model.specs.Database.{Table, Database}
 use Rattle.db_model.specs.Growth.{early, late}

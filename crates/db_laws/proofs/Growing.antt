@@ -10,13 +10,14 @@ use Rattle.std.proofs.lemmas.Bool.Decides.{nat_tests}
 use Rattle.col_value.specs.declared.value.Value.{Value}
 use Rattle.col_value.specs.declared.row.Stamped.{Stamped}
 use Rattle.col_value.specs.declared.row.Asked.{Asked}
-use Rattle.sql_tree.specs.declared.statement.NewColumn.{NewColumn}
+use Rattle.col_value.specs.declared.column.Column.{Column}
 use Rattle.sql_tree.specs.declared.statement.Statement.{Statement}
 use Rattle.sql_tree.specs.declared.refusal.Refusal.{Refusal}
 use Rattle.sql_binder.specs.Inserts.{inserted_rows}
 use Rattle.sql_binder.specs.Names.{first_of}
-use Rattle.db_model.specs.Database.{Table, Database, table_named, is_taken, put_table, mark_all}
-use Rattle.db_model.specs.State.{State, Changes, opened_state, own_changes, with_changes, with_rows, joined, has_changes, inserted_at, commit_into, change_named, commit_changes, committed}
+use Rattle.row_history.specs.History.{inserted_at, mark_all}
+use Rattle.db_model.specs.Database.{Table, Database, table_named, is_taken, put_table}
+use Rattle.db_model.specs.State.{State, Changes, opened_state, own_changes, with_changes, with_rows, joined, has_changes, commit_into, change_named, commit_changes, committed}
 use Rattle.db_model.specs.Forms.{is_built}
 use Rattle.db_model.specs.Refusing.{served_refusal, create_refusal, create_limit, taken_name, if_taken}
 use Rattle.db_model.specs.Step.{Step, Decides, Effect, new_table, with_table, after}
@@ -74,7 +75,7 @@ commit_shapes epoch ds [] ts all = all
 commit_shapes epoch ds (c ∷ cs) ts all = commit_shapes epoch ds cs (change_named c.table (commit_into epoch c) ts) (change_all (HasShapes ds) c.table (commit_into epoch c) (λ t had. had) ts all)
 
 -- a new table, whose name no table had
-created : (d : Database) (state : State) (name : List ℕ) (columns : List NewColumn) → is_taken name state.database.tables ≡ false → HasGrown d state
+created : (d : Database) (state : State) (name : List ℕ) (columns : List Column) → is_taken name state.database.tables ≡ false → HasGrown d state
     → HasGrown d (record state { database = with_table (new_table name columns state.database.last) state.database })
 created d state name columns free grown =
     let t = new_table name columns state.database.last in
@@ -162,7 +163,7 @@ untaken true name is = cc
 untaken false name is = refl
 
 -- the name of a new table that isn't refused is taken by none
-created_free : (tables : List Table) (name : List ℕ) (columns : List NewColumn) → create_refusal tables name columns ≡ None → is_taken name tables ≡ false
+created_free : (tables : List Table) (name : List ℕ) (columns : List Column) → create_refusal tables name columns ≡ None → is_taken name tables ≡ false
 created_free tables name columns accepted =
     let free : taken_name tables name columns ≡ None =
     unmapped (taken_name tables name columns) (first_none (option_map Refusal.Exists (taken_name tables name columns)) (create_limit tables name columns) accepted) in

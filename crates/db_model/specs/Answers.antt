@@ -10,7 +10,8 @@ use Rattle.sql_tree.specs.declared.query.Query.{Query}
 use Rattle.sql_bound.specs.Outputs.{output}
 use Rattle.sql_bound.specs.Printed.{IsPrinted}
 use Rattle.sql_binder.specs.Queries.{bound_query, source_table}
-use Rattle.db_model.specs.Database.{Table, visible, table_named}
+use Rattle.row_history.specs.History.{visible}
+use Rattle.db_model.specs.Database.{Table, table_named}
 use Rattle.db_model.specs.State.{State, Changes, session_view, own_changes}
 use Rattle.db_model.specs.Forms.{table_place}
 

@@ -1,15 +1,11 @@
 -- The logical database: plain tables whose rows carry the epochs of the commits that inserted and deleted them.
-use Rattle.std.specs.Prelude.{ℕ, ◌==◌, ◌&&◌, ◌||◌, ◌++◌, not, nat_le, if◌then◌else◌, Bool, false, List, [], ◌∷◌, map, filter, find, Option, Some, is_none, bytes_eq, codes}
-use Rattle.std.specs.Ordering.{is_eq, is_lt, nat_cmp}
+use Rattle.std.specs.Prelude.{ℕ, ◌==◌, ◌&&◌, ◌||◌, ◌++◌, nat_lt, if◌then◌else◌, Bool, List, [], ◌∷◌, map, find, Option, bytes_eq, codes}
+use Rattle.std.specs.Ordering.{is_lt, nat_cmp}
 use Rattle.std.specs.Cmp.Lexicographic.{slice_cmp}
-use Rattle.std.specs.List.{list_any}
-use Rattle.std.specs.Option.{option_map_or}
-use Rattle.col_value.specs.declared.value.Value.{Value}
+use Rattle.std.specs.List.{list_all, list_any, enumerate_from}
 use Rattle.col_value.specs.declared.kinds.Encoding.{Encoding}
 use Rattle.col_value.specs.declared.row.Stamped.{Stamped}
-use Rattle.col_value.specs.declared.row.Asked.{Asked}
-use Rattle.col_value.specs.Order.{row_cmp}
-use Rattle.sql_tree.specs.declared.statement.NewColumn.{NewColumn}
+use Rattle.col_value.specs.declared.column.Column.{Column}
 
 -- A projection without its rows: the table's columns that it has, each with its encoding, and the places among these by which
 -- it is sorted. A fresh one is up to date, and has all its data on disk up to `lge`.
@@ -23,7 +19,7 @@ pub record Shape : Type 0 where
 -- a table: its rows are a bag
 pub record Table : Type 0 where
   pub name : List ℕ
-  pub columns : List NewColumn
+  pub columns : List Column
   pub rows : List Stamped
   pub shapes : List Shape
 
@@ -54,23 +50,18 @@ is_taken name tables = list_any (λ t. bytes_eq t.name name || list_any (λ s. b
 abbrev pub super_name : List ℕ → List ℕ
 super_name name = name ++ codes "_super"
 
--- a row is visible at an epoch where it was inserted at or before it and not deleted at or before it
-abbrev pub is_visible : ℕ → Stamped → Bool
-is_visible epoch s = nat_le s.ins epoch && not (option_map_or (λ e. nat_le e epoch) s.del false)
+-- the places of a table's columns
+abbrev pub ordinals : Table → List ℕ
+ordinals t = map (λ e. e.0) (enumerate_from 0 t.columns)
 
-abbrev pub visible : ℕ → List Stamped → List (List Value)
-visible epoch rows = map (λ s. s.row) (filter (is_visible epoch) rows)
+-- a projection has these columns of its table
+abbrev pub has_columns : Shape → List ℕ → Bool
+has_columns s used = list_all (λ i. list_any (λ c. c.0 == i) s.columns) used
 
--- an undeleted row with these values and this insert epoch
-abbrev pub is_asked : Asked → Stamped → Bool
-is_asked asked s = is_none s.del && ((s.ins == asked.ins) && is_eq (row_cmp s.row asked.row))
+-- a super projection has all columns of its table; this one is up to date, too
+abbrev pub is_super : Table → Shape → Bool
+is_super t s = s.fresh && has_columns s (ordinals t)
 
--- one such row is deleted at an epoch
-abbrev pub mark_one : ℕ → Asked → List Stamped → List Stamped
-mark_one epoch asked [] = []
-mark_one epoch asked (s ∷ rows) = if is_asked asked s then (record s { del = Some epoch }) ∷ rows else s ∷ mark_one epoch asked rows
-
--- for each of these one such row
-abbrev pub mark_all : ℕ → List Asked → List Stamped → List Stamped
-mark_all epoch [] rows = rows
-mark_all epoch (asked ∷ more) rows = mark_all epoch more (mark_one epoch asked rows)
+-- an up-to-date projection whose data isn't all on disk
+abbrev pub is_behind : ℕ → Shape → Bool
+is_behind last s = s.fresh && nat_lt s.lge last

@@ -1,7 +1,7 @@
 -- Which statements are served, and what a statement names.
 use Rattle.std.specs.Prelude.{ℕ, ◌==◌, Bool, true, false, List, Option, option_map, position, bytes_eq}
 use Rattle.sql_tree.specs.declared.statement.Function.{Function}
-use Rattle.sql_tree.specs.declared.statement.NewColumn.{NewColumn}
+use Rattle.col_value.specs.declared.column.Column.{Column}
 use Rattle.sql_tree.specs.declared.statement.Statement.{Statement}
 use Rattle.sql_binder.specs.Queries.{is_single}
 use Rattle.db_model.specs.Database.{Table, table_named}
@@ -27,5 +27,5 @@ abbrev pub table_place : List ℕ → List Table → Option ℕ
 table_place name tables = position (λ t. bytes_eq t.name name) tables
 
 -- the columns of the table of a name, where there is one
-abbrev pub columns_named : List ℕ → List Table → Option (List NewColumn)
+abbrev pub columns_named : List ℕ → List Table → Option (List Column)
 columns_named name tables = option_map (λ t. t.columns) (table_named name tables)

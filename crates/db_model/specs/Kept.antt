@@ -1,7 +1,7 @@
 -- What is kept of a database from one run to the next.
 use Rattle.std.specs.Prelude.{ℕ, ◌≡◌, if◌then◌else◌, map}
 use Rattle.std.specs.List.{AllZip}
-use Rattle.col_base.specs.Bags.{SameBag}
+use Rattle.common_laws.specs.Bags.{SameBag}
 use Rattle.db_model.specs.Database.{Shape, Table, Database}
 
 -- a projection that is up to date has all its rows on disk up to the epoch

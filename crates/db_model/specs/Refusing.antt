@@ -4,7 +4,7 @@ use Rattle.std.specs.List.{list_any, enumerate_from}
 use Rattle.std.specs.Option.{option_map_or}
 use Rattle.col_value.specs.declared.kinds.ColType.{ColType}
 use Rattle.sql_tree.specs.declared.statement.Insert.{Insert}
-use Rattle.sql_tree.specs.declared.statement.NewColumn.{NewColumn}
+use Rattle.col_value.specs.declared.column.Column.{Column}
 use Rattle.sql_tree.specs.declared.statement.Statement.{Statement}
 use Rattle.sql_tree.specs.declared.query.At.{At}
 use Rattle.sql_tree.specs.declared.query.Query.{Query}
@@ -22,12 +22,12 @@ abbrev pub if_taken : List Table → List ℕ → Option (List ℕ)
 if_taken tables name = if is_taken name tables then Some name else None
 
 -- the first column whose name stands before it
-abbrev pub repeated_behind : List (List ℕ) → List NewColumn → Option (List ℕ)
+abbrev pub repeated_behind : List (List ℕ) → List Column → Option (List ℕ)
 repeated_behind before [] = None
 repeated_behind before (c ∷ cs) = if list_any (λ n. bytes_eq n c.name) before then Some c.name else repeated_behind (before ++ c.name ∷ []) cs
 
 -- of a new table: its own name, its name with `_super`, which its projection is called by, and then its columns
-abbrev pub taken_name : List Table → List ℕ → List NewColumn → Option (List ℕ)
+abbrev pub taken_name : List Table → List ℕ → List Column → Option (List ℕ)
 taken_name tables name columns = first_of (if_taken tables name) (first_of (if_taken tables (super_name name)) (repeated_behind [] columns))
 
 -- at most 1,024 tables, 64 columns of a table, 120 bytes of a created name, and a VARCHAR of 1 to 65,000 octets
@@ -46,17 +46,17 @@ abbrev pub width_limit : ColType → Option Refusal
 width_limit kind = refused_where (is_wrong_width kind) (Refusal.Limit Which.Length 65000)
 
 -- the limits that a column of a new table passes, at its place from 0
-abbrev pub column_limit : ℕ × NewColumn → Option Refusal
+abbrev pub column_limit : ℕ × Column → Option Refusal
 column_limit c = first_of (refused_where (nat_le 64 c.0) (Refusal.Limit Which.Columns 64)) (first_of (name_limit c.1.name) (width_limit c.1.kind))
 
-abbrev pub columns_limit : List NewColumn → Option Refusal
+abbrev pub columns_limit : List Column → Option Refusal
 columns_limit columns = first_given column_limit (enumerate_from 0 columns)
 
 -- the first limit in the text that a new table passes
-abbrev pub create_limit : List Table → List ℕ → List NewColumn → Option Refusal
+abbrev pub create_limit : List Table → List ℕ → List Column → Option Refusal
 create_limit tables name columns = first_of (first_of (tables_limit tables) (name_limit name)) (columns_limit columns)
 
-abbrev pub create_refusal : List Table → List ℕ → List NewColumn → Option Refusal
+abbrev pub create_refusal : List Table → List ℕ → List Column → Option Refusal
 create_refusal tables name columns = first_of (option_map Refusal.Exists (taken_name tables name columns)) (create_limit tables name columns)
 
 -- a session has at most 16,777,216 pending rows on one table

@@ -1,12 +1,12 @@
 -- The state of the program: the database and its eight sessions.
-use Rattle.std.specs.Prelude.{ℕ, ◌-◌, ◌+◌, ◌||◌, ◌++◌, not, if◌then◌else◌, Bool, true, false, List, [], ◌∷◌, map, None, bytes_eq, slice_set}
+use Rattle.std.specs.Prelude.{ℕ, ◌-◌, ◌+◌, ◌||◌, ◌++◌, not, if◌then◌else◌, Bool, true, false, List, [], ◌∷◌, map, bytes_eq, slice_set}
 use Rattle.std.specs.Ordering.{is_eq}
 use Rattle.std.specs.List.{list_any, slice_index_or}
 use Rattle.col_value.specs.declared.value.Value.{Value}
-use Rattle.col_value.specs.declared.row.Stamped.{Stamped}
 use Rattle.col_value.specs.declared.row.Asked.{Asked}
 use Rattle.col_value.specs.Order.{row_cmp}
-use Rattle.db_model.specs.Database.{Table, Database, empty_database, visible, mark_all}
+use Rattle.row_history.specs.History.{visible, inserted_at, mark_all}
+use Rattle.db_model.specs.Database.{Table, Database, empty_database}
 
 -- what a session has changed in a table since its last COMMIT or ROLLBACK, and whether it holds the table against others
 pub record Changes : Type 0 where
@@ -26,17 +26,17 @@ pub record State : Type 0 where
   pub busy : ℕ
   pub parts : ℕ
 
--- a database over which nothing is pending
+-- eight sessions without changes
+abbrev pub idle_sessions : List (List Changes)
+idle_sessions = [] ∷ [] ∷ [] ∷ [] ∷ [] ∷ [] ∷ [] ∷ [] ∷ []
+
+-- a database over which nothing is pending, with the folder's next free number and the most containers of a projection
+abbrev pub opened_with : ℕ → ℕ → Database → State
+opened_with next parts d = record { database = d; sessions = idle_sessions; current = 1; asked = []; next = next; busy = 0; parts = parts }
+
+-- the same where no number was drawn
 abbrev pub opened_state : Database → State
-opened_state d = record {
-  database = d;
-  sessions = [] ∷ [] ∷ [] ∷ [] ∷ [] ∷ [] ∷ [] ∷ [] ∷ [];
-  current = 1;
-  asked = [];
-  next = 1;
-  busy = 0;
-  parts = 0;
-}
+opened_state d = opened_with 1 0 d
 
 -- no tables, nothing pending
 abbrev pub empty_state : State
@@ -89,10 +89,6 @@ without (gone ∷ more) rows = without more (without_one gone rows)
 -- what a session sees of a table: the rows visible at the newest epoch, less its pending deletes, plus its pending rows
 abbrev pub session_view : ℕ → List Changes → Table → List (List Value)
 session_view last changes t = without (map (λ a. a.row) (pending_deletes t.name changes)) (visible last t.rows) ++ pending_rows t.name changes
-
--- a row that a commit inserts
-abbrev pub inserted_at : ℕ → List Value → Stamped
-inserted_at epoch row = record { row = row; ins = epoch; del = None }
 
 -- a table after changes in it were committed at an epoch
 abbrev pub commit_into : ℕ → Changes → Table → Table

@@ -4,7 +4,7 @@ use Rattle.std.specs.List.{enumerate_from}
 use Rattle.col_value.specs.declared.wide.Wide.{Wide}
 use Rattle.col_value.specs.declared.kinds.Encoding.{Encoding}
 use Rattle.sql_words.specs.Symbols.{symbols_of}
-use Rattle.sql_tree.specs.declared.statement.NewColumn.{NewColumn}
+use Rattle.col_value.specs.declared.column.Column.{Column}
 use Rattle.sql_tree.specs.declared.statement.Statement.{Statement}
 use Rattle.sql_tree.specs.declared.refusal.Refusal.{Refusal}
 use Rattle.sql_tree.specs.Spells.{Spells}
@@ -22,7 +22,7 @@ Reads text (Some s) = Spells (symbols_of text) s
 Reads text None = (s : Statement) → Spells (symbols_of text) s → ⊥
 
 -- the projection that CREATE TABLE makes: all columns in order, sorted by all, the encoding of each block the shortest
-abbrev pub super_shape : List ℕ → List NewColumn → ℕ → Shape
+abbrev pub super_shape : List ℕ → List Column → ℕ → Shape
 super_shape name columns last = record {
   name = super_name name;
   columns = enumerate_from 0 (map (λ c. Encoding.Auto) columns);
@@ -32,7 +32,7 @@ super_shape name columns last = record {
 }
 
 -- a table without rows
-abbrev pub new_table : List ℕ → List NewColumn → ℕ → Table
+abbrev pub new_table : List ℕ → List Column → ℕ → Table
 new_table name columns last = record { name = name; columns = columns; rows = []; shapes = super_shape name columns last ∷ [] }
 
 -- a database with a table more, at its place

@@ -13,6 +13,3 @@ mod read;
 
 pub use base::are_numeric;
 pub use codec::{DeltaVal, block_len};
-
-#[cfg(test)]
-mod tests;

@@ -19,6 +19,3 @@ mod words;
 pub use below::encode_below;
 pub use codec::BlockDict;
 pub use laws::one_dictionary;
-
-#[cfg(test)]
-mod tests;

@@ -7,6 +7,3 @@
 mod plain;
 
 pub use plain::{Plain, block_len};
-
-#[cfg(test)]
-mod tests;

@@ -9,6 +9,3 @@ mod narrow;
 
 pub use kinds::{Places, is_condition, kind_of};
 pub use narrow::is_narrow;
-
-#[cfg(test)]
-mod tests;

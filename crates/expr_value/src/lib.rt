@@ -16,6 +16,3 @@ pub use rows::{are_true, is_true, items_at, items_of};
 pub use sight::Sight;
 pub use value::value_of;
 pub use worth::Worth;
-
-#[cfg(test)]
-mod tests;

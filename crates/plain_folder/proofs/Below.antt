@@ -5,9 +5,9 @@ use Rattle.std.specs.List.{All, AllZip}
 use Rattle.std.specs.FinMap.{get}
 use Rattle.std.proofs.lemmas.List.{append-nil}
 use Rattle.std.proofs.lemmas.List.Elements.{All-head, All-tail, All-push, All-weaker}
-use Rattle.col_base.specs.Bags.{SameBag}
-use Rattle.col_base.specs.Maps.{Contents}
-use Rattle.col_base.proofs.BagLaws.{bag_refl}
+use Rattle.common_laws.specs.Bags.{SameBag}
+use Rattle.common_laws.specs.Maps.{Contents}
+use Rattle.common_laws.proofs.BagLaws.{bag_refl}
 use Rattle.col_disk.specs.Calls.{Stepped}
 use Rattle.col_disk.specs.Moved.{Changed, Moved, NoName}
 use Rattle.col_disk.specs.declared.disk.Disk.{Ghosts}

@@ -4,9 +4,11 @@ use Rattle.std.specs.Prelude.{◌⊎◌, Option, Some, None, Result, Ok, Err, On
 use Rattle.std.specs.FinMap.{get}
 use Rattle.std.specs.List.{All, AllZip, Any, flat_map}
 use Rattle.std.proofs.lemmas.List.Concat.{flat_map-cons}
-use Rattle.std.proofs.lemmas.List.Elements.{All-nil, All-cons, Contains-append_left, Contains-append_right}
-use Rattle.col_base.specs.Bags.{SameBag}
-use Rattle.col_base.specs.Maps.{Contents}
+use Rattle.std.proofs.lemmas.List.Elements.{All-nil, All-cons}
+use Rattle.std.proofs.lemmas.List.Elements.{Contains-append_left, Contains-append_right}
+use Rattle.common_laws.proofs.Lists.{any_left, any_right}
+use Rattle.common_laws.specs.Bags.{SameBag}
+use Rattle.common_laws.specs.Maps.{Contents}
 use Rattle.col_disk.specs.Moved.{Changed, Moved, NoName, Named, Either}
 use Rattle.col_disk.specs.declared.disk.Disk.{Ghosts}
 use Rattle.col_disk.proofs.Moving.{changed_kept, moved_told, moved_join, moved_wider}
@@ -14,25 +16,25 @@ use Rattle.col_value.specs.declared.kinds.Encoding.{Encoding}
 use Rattle.col_value.specs.declared.row.Asked.{Asked}
 use Rattle.col_value.specs.declared.row.Stamped.{Stamped}
 use Rattle.catalog_types.specs.declared.span.Span.{Span}
-use Rattle.catalog_types.specs.declared.catalogue.Column.{Column}
+use Rattle.col_value.specs.declared.column.Column.{Column}
 use Rattle.catalog_types.specs.declared.catalogue.Container.{Container}
 use Rattle.catalog_types.specs.declared.catalogue.Projection.{Projection}
 use Rattle.catalog_types.specs.declared.catalogue.Table.{Table as Kept}
 use Rattle.catalog_types.specs.declared.catalogue.Catalogue.{Catalogue}
 use Rattle.catalog_types.specs.Numbers.{container_spans, projection_spans, table_spans, files}
-use Rattle.catalog_root.specs.Root.{IsRoot, IsOpenGate, body_file, gate_file}
+use Rattle.catalog_root.specs.Root.{IsRoot, IsOpenGate, IsAbove, body_file, gate_file}
+use Rattle.catalog_root.specs.Crash.{RootNames}
 use Rattle.catalog_root.specs.Listed.{IsIn, IsListed, IsStray, IsOfOther, IsUnlisted}
 use Rattle.catalog_root.proofs.Roots.{gate_before, root_kept}
 use Rattle.ros_container.specs.Encodings.{encodings_of}
 use Rattle.ros_container.proofs.Kept.{rows_kept}
-use Rattle.sql_tree.specs.declared.statement.NewColumn.{NewColumn}
 use Rattle.db_model.specs.Database.{Database, Table}
 use Rattle.db_model.specs.State.{State}
 use Rattle.db_model.specs.Kept.{moved_shape, moved_table, moved_out, AreAlikeTables, AreAlike}
 use Rattle.plain_folder.specs.Served.{is_served}
-use Rattle.plain_folder.specs.Reopens.{HoldsRows, IsTableOf, OpensTo, Reopens, column_of}
-use Rattle.plain_folder.specs.Closing.{DataFrom, IsSpent, IsUnchanged, EndsAs, Installs, LeavesAll, LeavesTables}
-use Rattle.plain_folder.specs.Saving.{whole_projection, kept_column, WasHeld, IsSaved, SavesTables}
+use Rattle.plain_folder.specs.Reopens.{HoldsRows, IsTableOf, OpensTo, Reopens}
+use Rattle.plain_folder.specs.Closing.{DataFrom, IsSpent, IsUnchanged, EndsAs, Enters, IsInstalled, IsServedRoot, Installs, LeavesAll, LeavesTables}
+use Rattle.plain_folder.specs.Saving.{whole_projection, WasHeld, IsSaved, SavesTables}
 use Rattle.plain_folder.proofs.Below.{moved_between}
 use Rattle.plain_folder.proofs.Whole.{whole_encodings, whole_long}
 use Rattle.plain_folder.proofs.Held.{was_held, told_moved, told_long}
@@ -41,12 +43,6 @@ use Rattle.plain_folder.proofs.Held.{was_held, told_moved, told_long}
 pub on_good : {T E P : Type 0} (r : Result T E) → P → OnOk r P
 on_good (Ok x) p = p
 on_good (Err e) p = tt
-
-any_left : {X : Type 0} (P : X → Type 0) (xs ys : List X) → Any P xs → Any P (xs ++ ys)
-any_left P xs ys (k, x, lt, is, p) = let c = Contains-append_left xs ys x (k, lt, is) in (c.0, x, c.1, c.2, p)
-
-any_right : {X : Type 0} (P : X → Type 0) (xs ys : List X) → Any P ys → Any P (xs ++ ys)
-any_right P xs ys (k, x, lt, is, p) = let c = Contains-append_right xs ys x (k, lt, is) in (c.0, x, c.1, c.2, p)
 
 -- of what the members of a list give, one holds where one of a member does
 any_flat : {X Y : Type 0} (P : Y → Type 0) (f : X → List Y) (xs : List X) (x : X) → Contains xs x → Any P (f x) → Any P (flat_map f xs)
@@ -68,7 +64,7 @@ listed_number c t name last es ks k j in_catalogue projections in_table small =
     any_flat (IsIn n) table_spans c.tables t in_catalogue (subst (λ (ps : List Projection). Any (IsIn n) (flat_map projection_spans ps)) (sym projections) in_projections)
 
 -- a listed data file stays where a version is installed and what it doesn't list is removed
-listed_stays : (version : ℕ) (c : Catalogue) (l n : Contents) → Changed (Either (Named (body_file version)) (Named (gate_file version))) (IsUnlisted version c) l n
+pub listed_stays : (version : ℕ) (c : Catalogue) (l n : Contents) → Changed (Either (Named (body_file version)) (Named (gate_file version))) (IsUnlisted version c) l n
     → (j : ℕ) → IsListed c j → get n (4 * j) ≡ get l (4 * j)
 listed_stays version c l n changed j listed = changed_kept _ _ l n (4 * j) written removed changed
   where
@@ -93,10 +89,6 @@ rows_stay l n es (k ∷ ks) rows (here, more, first, rest, is) same = (
   is,
 )
 
-columns_back : (cs : List NewColumn) → cs ≡ map column_of (map kept_column cs)
-columns_back [] = refl
-columns_back (c ∷ cs) = ap (λ (xs : List NewColumn). c ∷ xs) (columns_back cs)
-
 -- tables that are saved and listed are the tables that the folder opens to
 tables_open : (c : Catalogue) (l n : Contents) (version last : ℕ) → ((j : ℕ) → IsListed c j → get n (4 * j) ≡ get l (4 * j)) → (ts : List Kept) (us : List Table)
     → ((t : Kept) → Contains ts t → Contains c.tables t) → AllZip (IsSaved l version last) ts us
@@ -117,7 +109,7 @@ tables_open c l n version last same (t ∷ ts) (u ∷ us) within (here, rest) =
       (
         record {
           name = sym here.name;
-          columns = columns_back u.columns ∙ ap (λ (cs : List Column). map column_of cs) (sym here.columns);
+          columns = sym here.columns;
           shapes = sym here.shapes;
           rows = subst (All (λ x. HoldsRows n (encodings_of x) x.containers here.rows)) (sym here.projections)
               (All-cons (λ x. HoldsRows n (encodings_of x) x.containers here.rows) p [] rows (All-nil (λ x. HoldsRows n (encodings_of x) x.containers here.rows)));
@@ -135,6 +127,27 @@ gates_below m l kept next opens changed w is = by_root opens (gate_before (DataF
     by_root (inl (fresh, none)) is = absurd (fresh.closed w is)
     by_root (inr (v, root)) is = let le = root.gate.greatest w is in let lt = root.below in omega (arith, le, lt)
 
+-- a version that lists tables that were saved was installed: the folder opens to them
+pub ends_as : (c : Catalogue) (l n : Contents) (version last : ℕ) (ts : List Kept) (us : List Table) → c.last ≡ last → c.ahm ≡ 0 → c.tables ≡ ts
+    → AllZip (IsSaved l version last) ts us → IsInstalled version c l n → EndsAs n (record { tables = us; last = last; ahm = 0 })
+ends_as c l n version last ts us last_is ahm_is tables_are zipped installed =
+    let (es, tables, alike) = tables_open c l n version last (listed_stays version c l n installed.changed) ts us
+    (λ t at. subst (λ (xs : List Kept). Contains xs t) (sym tables_are) at) zipped in
+    record {
+      database = record { tables = es; last = last; ahm = 0 };
+      reopens = record {
+        kept = c;
+        opens = inr (version, installed.root.0);
+        served = installed.root.1;
+        database = record { last = sym last_is; ahm = sym ahm_is; tables = subst (λ (xs : List Kept). AllZip (IsTableOf n) xs es) (sym tables_are) tables };
+      };
+      like = record { last = refl; ahm = refl; tables = alike };
+    }
+
+-- a version that is drawn behind those of the catalogue is above every open gate, after the new data files too
+pub drawn_above : (m l : Contents) (kept : Catalogue) (version : ℕ) → kept.next ≤ version → OpensTo m kept → Changed (DataFrom kept.next) NoName m l → IsAbove version l
+drawn_above m l kept version from opens changed w is = let lt = gates_below m l kept kept.next opens changed w is in omega (arith, lt, from)
+
 -- the rows are saved, then the catalogue is installed: the folder opens to the tables
 pub leaves_all : {D : Type 0} (disk : Ghosts D) {old mid new : D} (kept c : Catalogue) (last version : ℕ) (ts : List Kept) (us : List Table)
     → kept.next ≤ version → c.last ≡ last → c.ahm ≡ 0 → c.tables ≡ ts
@@ -142,36 +155,16 @@ pub leaves_all : {D : Type 0} (disk : Ghosts D) {old mid new : D} (kept c : Cata
     → Installs version c (disk.holds mid) (disk.holds new) → LeavesAll kept last us (disk.holds old) (disk.holds new)
 leaves_all disk kept c last version ts us from last_is ahm_is tables_are moved saved installed m told opens was =
     let (l, told_l, zipped) = saved m told was in
-    let changed = moved_between disk m l told told_l moved in
-    let (n, told_n, root, served, swapped) = installed l told_l (λ w is. let lt = gates_below m l kept kept.next opens changed w is in omega (arith, lt, from)) in
-    let (es, tables, alike) = tables_open c l n version last (listed_stays version c l n swapped) ts us
-    (λ t at. subst (λ (xs : List Kept). Contains xs t) (sym tables_are) at) zipped in (
-      n,
-      told_n,
-      record {
-        database = record { tables = es; last = last; ahm = 0 };
-        reopens = record {
-          kept = c;
-          opens = inr (version, root);
-          served = served;
-          database = record { last = sym last_is; ahm = sym ahm_is; tables = subst (λ (xs : List Kept). AllZip (IsTableOf n) xs es) (sym tables_are) tables };
-        };
-        like = record { last = refl; ahm = refl; tables = alike };
-      },
-    )
+    let (n, told_n, is) = installed l told_l (drawn_above m l kept version from opens (moved_between disk m l told told_l moved)) in
+    (n, told_n, ends_as c l n version last ts us last_is ahm_is tables_are zipped is)
 
--- the version is written, and then what it doesn't list is removed
-pub installed : {D : Type 0} (disk : Ghosts D) {old mid new : D} (version : ℕ) (c : Catalogue)
-    → ((m : Contents) → disk.holds old ≡ Some m → ((w : ℕ) → IsOpenGate m w → w < version) → (n : Contents) × (disk.holds mid ≡ Some n) × IsRoot n version c)
-    → Moved disk (Either (Named (body_file version)) (Named (gate_file version))) NoName old mid → Moved disk NoName (IsUnlisted version c) mid new
-    → is_served c ≡ true → Installs version c (disk.holds old) (disk.holds new)
-installed {D} disk {old} {mid} {new} version c done written removed served m told gates =
-    let (l, told_l, root) = done m told gates in
-    let after = moved_told disk l told_l removed in
-    let n = after.0 in
-    let whole : Moved disk (Either (Named (body_file version)) (Named (gate_file version))) (IsUnlisted version c) old new =
-    moved_join disk (moved_wider disk (λ q is. is) (λ q is. absurd is) written) (moved_wider disk (λ q is. absurd is) (λ q is. is) removed) in
-    (n, after.1, root_kept NoName (IsUnlisted version c) l n version c after.2 (λ w is. is) (λ is. is) gate_stays body_stays root, served, moved_between disk m n told after.1 whole)
+-- the version that a folder opens to stays where what it doesn't list is removed
+pub tidied : (version : ℕ) (c : Catalogue) (m l n : Contents) → Changed (RootNames version) NoName m l → IsServedRoot version c l
+    → Changed (RootNames version) (IsUnlisted version c) m n → Changed NoName (IsUnlisted version c) l n → IsInstalled version c m n
+tidied version c m l n written root whole removed = record {
+  root = (root_kept NoName (IsUnlisted version c) l n version c removed (λ w is. is) (λ is. is) gate_stays body_stays root.0, root.1);
+  changed = whole;
+}
   where
     gate_stays : IsUnlisted version c (gate_file version) → ⊥
     gate_stays (inl (i, is, stray)) = omega (arith, is)
@@ -182,6 +175,16 @@ installed {D} disk {old} {mid} {new} version c done written removed served m tol
     body_stays (inl (i, is, stray)) = omega (arith, is)
     body_stays (inr (v, other, inl is)) = other (omega (arith, is))
     body_stays (inr (v, other, inr is)) = omega (arith, is)
+
+-- the version is written, and then what it doesn't list is removed
+pub installed : {D : Type 0} (disk : Ghosts D) {old mid new : D} (version : ℕ) (c : Catalogue) → Enters version c (disk.holds old) (disk.holds mid)
+    → Moved disk (RootNames version) NoName old mid → Moved disk NoName (IsUnlisted version c) mid new → Installs version c (disk.holds old) (disk.holds new)
+installed {D} disk {old} {mid} {new} version c entered written removed m told gates =
+    let (l, told_l, root) = entered m told gates in
+    let (n, told_n, changed) = moved_told disk l told_l removed in
+    let whole : Moved disk (RootNames version) (IsUnlisted version c) old new =
+    moved_join disk (moved_wider disk (λ q is. is) (λ q is. absurd is) written) (moved_wider disk (λ q is. absurd is) (λ q is. is) removed) in
+    (n, told_n, tidied version c m l n (moved_between disk m l told told_l written) root (moved_between disk m n told told_n whole) changed)
 
 -- nothing changed
 pub leaves_same : (kept : Catalogue) (state : State) (found left : Option Contents) → left ≡ found → IsUnchanged kept state → LeavesTables kept state found left

@@ -5,19 +5,20 @@ use Rattle.std.proofs.lemmas.List.{map-append, length-map, take_more}
 use Rattle.std.proofs.lemmas.Bool.{eqb-true}
 use Rattle.std.specs.List.{All, AllZip, enumerate_from}
 use Rattle.std.proofs.lemmas.List.Elements.{All-nil, All-cons, All-push}
-use Rattle.col_base.specs.Maps.{Contents}
+use Rattle.common_laws.specs.Maps.{Contents}
+use Rattle.common_laws.proofs.Truths.{and_left, and_right}
 use Rattle.col_value.specs.declared.kinds.Encoding.{Encoding}
 use Rattle.catalog_types.specs.declared.catalogue.ProjColumn.{ProjColumn}
 use Rattle.catalog_types.specs.declared.catalogue.Projection.{Projection}
 use Rattle.catalog_types.specs.declared.catalogue.Table as kept
 use Rattle.ros_container.specs.Encodings.{encodings_of}
-use Rattle.sql_tree.specs.declared.statement.NewColumn.{NewColumn}
+use Rattle.col_value.specs.declared.column.Column.{Column}
 use Rattle.db_model.specs.Database as model
 use Rattle.db_model.specs.Database.{super_name}
 use Rattle.plain_tables.specs.declared.table.Table.{Table}
 use Rattle.plain_tables.specs.Views.{table_of, projection_of}
 use Rattle.plain_folder.specs.Served.{are_places, is_whole, is_served_table, is_served_projection, is_served_projections}
-use Rattle.plain_folder.specs.Reopens.{HoldsRows, IsTableOf, column_of, shape_of}
+use Rattle.plain_folder.specs.Reopens.{HoldsRows, IsTableOf, shape_of}
 use Rattle.plain_folder.specs.Loading.{HoldsAll, ToldTable, ToldTables}
 
 -- a shape of its parts
@@ -26,15 +27,6 @@ shape_with name lge columns sort fresh = record { name = name; columns = columns
 
 eqb_is : (a b : ℕ) → (a == b) ≡ true → a ≡ b
 eqb_is a b is = eqb-true a b is
-
--- both parts of a test hold
-pub and_left : (a b : Bool) → (a && b) ≡ true → a ≡ true
-and_left true b e = refl
-and_left false b e = cc
-
-pub and_right : (a b : Bool) → (a && b) ≡ true → b ≡ true
-and_right true b e = e
-and_right false b e = cc
 
 -- columns at the places of a list, and such places
 parts_are : (n : ℕ) (ps : List ProjColumn) → are_places n (map (λ c. c.ordinal) ps) ≡ true
@@ -85,12 +77,12 @@ pub served_lge : (last : ℕ) (t : kept.Table) (p : Projection) → t.projection
 served_lge last t p one is = (served_facts last t p one is).lge
 
 -- a table that was read with the names, columns and encodings of the catalogue has the catalogue's projection
-served_shape : (last : ℕ) (t : kept.Table) (p : Projection) (u : Table) → IsServed last t p → u.projection ≡ p.name → u.born ≡ p.lge → u.columns ≡ map column_of t.columns
+served_shape : (last : ℕ) (t : kept.Table) (p : Projection) (u : Table) → IsServed last t p → u.projection ≡ p.name → u.born ≡ p.lge → u.columns ≡ t.columns
     → u.encodings ≡ encodings_of p → projection_of u ≡ shape_of p
 served_shape last t p u served named reached columns encodings =
     let parts : enumerate_from 0 u.encodings ≡ map {B = ℕ × Encoding} (λ c. (c.ordinal, c.encoding)) p.columns =
     ap (λ (es : List Encoding). enumerate_from 0 es) encodings ∙ sym (parts_are 0 p.columns served.parts) in
-    let long : length p.sort ≡ length u.columns = served.sort_long ∙ sym (length-map t.columns column_of) ∙ sym (ap (λ (cs : List NewColumn). length cs) columns) in
+    let long : length p.sort ≡ length u.columns = served.sort_long ∙ sym (ap (λ (cs : List Column). length cs) columns) in
     let sort : map {B = ℕ} (λ e. e.0) (enumerate_from 0 u.columns) ≡ p.sort = places_are 0 p.sort u.columns long served.sort in
     ap₂ (λ (name : List ℕ) (lge : ℕ). shape_with name lge (enumerate_from 0 u.encodings) (map {B = ℕ} (λ e. e.0) (enumerate_from 0 u.columns)) true) named reached
     ∙ ap₂ (λ (cs : List (ℕ × Encoding)) (is : List ℕ). shape_with p.name p.lge cs is true) parts sort
@@ -98,7 +90,7 @@ served_shape last t p u served named reached columns encodings =
 
 -- a table that was read with the rows of its projection is that of the catalogue
 pub found_table : (last : ℕ) (t : kept.Table) (p : Projection) (u : Table) (holds : Option Contents) → is_served_table last t ≡ true → t.projections ≡ p ∷ []
-    → u.name ≡ t.name → u.projection ≡ p.name → u.columns ≡ map column_of t.columns → u.encodings ≡ encodings_of p → u.born ≡ p.lge → HoldsAll p holds u.rows.items
+    → u.name ≡ t.name → u.projection ≡ p.name → u.columns ≡ t.columns → u.encodings ≡ encodings_of p → u.born ≡ p.lge → HoldsAll p holds u.rows.items
     → ToldTable t holds (table_of u)
 found_table last t p u holds is one named projection columns encodings born rows m told = record {
   name = named;

@@ -5,9 +5,9 @@ use Rattle.std.specs.List.{All, AllZip, list_all}
 use Rattle.std.proofs.lemmas.List.{length-map}
 use Rattle.std.proofs.lemmas.List.Elements.{All-head, All-tail, All-nil}
 use Rattle.std.proofs.lemmas.Slice.Zip.{AllZip-long}
-use Rattle.col_base.specs.Bags.{SameBag}
-use Rattle.col_base.specs.Maps.{Contents}
-use Rattle.col_base.proofs.BagLaws.{bag_refl}
+use Rattle.common_laws.specs.Bags.{SameBag}
+use Rattle.common_laws.specs.Maps.{Contents}
+use Rattle.common_laws.proofs.BagLaws.{bag_refl}
 use Rattle.col_value.specs.declared.kinds.Encoding.{Encoding}
 use Rattle.col_value.specs.declared.row.Stamped.{Stamped}
 use Rattle.catalog_types.specs.declared.catalogue.Container.{Container}
@@ -26,7 +26,8 @@ use Rattle.plain_folder.specs.Served.{is_served, is_served_table, is_served_proj
 use Rattle.plain_folder.specs.Reopens.{HoldsRows, IsTableOf, IsDatabaseOf, OpensTo, no_tables, shape_of}
 use Rattle.plain_folder.specs.Opening.{IsTold}
 use Rattle.plain_folder.specs.Saving.{containers_of, containers_named, first_encodings, AreBelow, AreHeld, WasHeld}
-use Rattle.plain_folder.proofs.Found.{and_left, and_right, served_lge}
+use Rattle.common_laws.proofs.Truths.{and_left, and_right}
+use Rattle.plain_folder.proofs.Found.{served_lge}
 use Rattle.plain_folder.proofs.Whole.{seconds_of}
 
 -- a table that is served has one projection
@@ -85,7 +86,7 @@ named_held m c last name shapes (t ∷ ts) (u ∷ us) (here, rest) valid is are 
     (and_left (is_served_table last t) (list_all (is_served_table last) ts) is) are
     (named_held m c last name shapes ts us rest (All-tail (IsTable c) t ts valid) (and_right (is_served_table last t) (list_all (is_served_table last) ts) is))
 
-valid_tables : (m : Contents) (c : Catalogue) → OpensTo m c → All (IsTable c) c.tables
+pub valid_tables : (m : Contents) (c : Catalogue) → OpensTo m c → All (IsTable c) c.tables
 valid_tables m c (inl (fresh, is)) = subst (λ (x : Catalogue). All (IsTable x) x.tables) (sym is) (All-nil (IsTable no_tables))
 valid_tables m c (inr (v, root)) = root.valid.tables
 

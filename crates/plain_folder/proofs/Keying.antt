@@ -1,7 +1,7 @@
 -- Rows with their numbers, brought into another order, and without them again.
 use Rattle.std.proofs.Common.{◌≡◌, List, [], ◌∷◌, map, refl, sym, ◌∙◌, ap, subst}
-use Rattle.col_base.specs.Bags.{SameBag}
-use Rattle.col_base.proofs.BagLaws.{bag_map}
+use Rattle.common_laws.specs.Bags.{SameBag}
+use Rattle.common_laws.proofs.BagLaws.{bag_map}
 use Rattle.col_value.specs.declared.row.Asked.{Asked}
 use Rattle.plain_folder.specs.declared.presort.Keyed.{Keyed}
 use Rattle.plain_folder.specs.Keys.{keyed}

@@ -12,3 +12,4 @@ pub mod Closed
 pub mod Keying
 pub mod OneFolder
 pub mod Rooted
+pub mod Ending

@@ -3,7 +3,7 @@ use Rattle.std.proofs.Common.{ℕ, ◌≡◌, ◌&&◌, ◌==◌, List, [], ◌�
 use Rattle.std.specs.Prelude.{◌⊎◌}
 use Rattle.std.specs.List.{All, AllZip, list_all}
 use Rattle.std.proofs.lemmas.List.Elements.{All-head}
-use Rattle.col_base.specs.Maps.{Contents}
+use Rattle.common_laws.specs.Maps.{Contents}
 use Rattle.col_value.specs.declared.kinds.Encoding.{Encoding}
 use Rattle.col_value.specs.declared.row.Asked.{Asked}
 use Rattle.col_value.specs.declared.row.Stamped.{Stamped}
@@ -15,10 +15,10 @@ use Rattle.catalog_root.proofs.Roots.{one_root, not_fresh}
 use Rattle.ros_container.specs.Encodings.{encodings_of}
 use Rattle.ros_container.specs.Held.{HoldsContainer}
 use Rattle.db_model.specs.Database.{Database, Table, Shape}
-use Rattle.sql_tree.specs.declared.statement.NewColumn.{NewColumn}
+use Rattle.col_value.specs.declared.column.Column.{Column}
 use Rattle.plain_folder.specs.Served.{is_served, is_served_table}
 use Rattle.plain_folder.specs.Reopens.{OpensTo, HoldsRows, IsTableOf, IsDatabaseOf, Reopens, undeleted}
-use Rattle.plain_folder.proofs.Found.{and_left, and_right}
+use Rattle.common_laws.proofs.Truths.{and_left, and_right}
 use Rattle.plain_folder.proofs.Held.{one_projection}
 
 -- a container holds one list of rows
@@ -43,7 +43,7 @@ one_table one m last t u v served first second =
     let columns : u.columns ≡ v.columns = first.columns ∙ sym second.columns in
     let shapes : u.shapes ≡ v.shapes = first.shapes ∙ sym second.shapes in
     let rows : u.rows ≡ v.rows = one_rows one m (encodings_of p) p.containers u.rows v.rows first_rows second_rows in
-    ap (λ (x : List ℕ). record u { name = x }) names ∙ ap (λ (x : List NewColumn). record u { name = v.name; columns = x }) columns
+    ap (λ (x : List ℕ). record u { name = x }) names ∙ ap (λ (x : List Column). record u { name = v.name; columns = x }) columns
     ∙ ap (λ (x : List Stamped). record u { name = v.name; columns = v.columns; rows = x }) rows ∙ ap (λ (x : List Shape). record v { shapes = x }) shapes
 
 one_tables : OneContainer → (m : Contents) (last : ℕ) (ts : List Kept) (us vs : List Table) → list_all (is_served_table last) ts ≡ true → AllZip (IsTableOf m) ts us → AllZip (IsTableOf m) ts vs → us ≡ vs

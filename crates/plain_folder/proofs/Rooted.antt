@@ -8,7 +8,7 @@ use Rattle.std.proofs.lemmas.Bool.{eqb-true}
 use Rattle.std.proofs.lemmas.Map.Text.{is_eq-slice_cmp}
 use Rattle.std.proofs.lemmas.Slice.Eq.{bytes_eq-Decides}
 use Rattle.std.proofs.lemmas.List.Elements.{All-nil, All-cons, All-head, All-tail, All-map, All-weaker}
-use Rattle.col_base.specs.Maps.{Contents}
+use Rattle.common_laws.specs.Maps.{Contents}
 use Rattle.catalog_types.specs.declared.catalogue.Table.{Table as Kept}
 use Rattle.catalog_types.specs.declared.catalogue.Catalogue.{Catalogue}
 use Rattle.catalog_types.specs.Lists.{Pairwise}
@@ -23,7 +23,7 @@ use Rattle.plain_tables.specs.Views.{table_of}
 use Rattle.plain_folder.specs.Served.{is_served, is_served_table}
 use Rattle.plain_folder.specs.Loading.{ToldTables}
 use Rattle.plain_folder.specs.Opening.{IsRead, IsReadBy}
-use Rattle.plain_folder.proofs.Found.{and_left, and_right}
+use Rattle.common_laws.proofs.Truths.{and_left, and_right}
 
 -- a lesser name is another one
 apart : (m n : List ℕ) → IsBelow m n → bytes_eq m n ≡ false

@@ -4,9 +4,9 @@ use Rattle.std.specs.Prelude.{Option, Some, None}
 use Rattle.std.specs.List.{All, AllZip, enumerate_from}
 use Rattle.std.proofs.lemmas.List.{map-append, length-append, get_or_append_left}
 use Rattle.std.proofs.lemmas.List.Elements.{All-contains, Contains-push}
-use Rattle.col_base.specs.Bags.{SameBag}
-use Rattle.col_base.specs.Maps.{Contents}
-use Rattle.col_base.proofs.BagLaws.{bag_refl, bag_sym, bag_trans, bag_append, bag_map}
+use Rattle.common_laws.specs.Bags.{SameBag}
+use Rattle.common_laws.specs.Maps.{Contents}
+use Rattle.common_laws.proofs.BagLaws.{bag_refl, bag_sym, bag_trans, bag_append, bag_map}
 use Rattle.col_disk.specs.Moved.{Changed, Moved, NoName}
 use Rattle.col_disk.specs.declared.disk.Disk.{Ghosts}
 use Rattle.col_value.specs.declared.kinds.Encoding.{Encoding}
@@ -16,7 +16,7 @@ use Rattle.catalog_types.specs.declared.catalogue.Container.{Container}
 use Rattle.catalog_types.specs.declared.catalogue.Projection.{Projection}
 use Rattle.catalog_types.specs.declared.catalogue.Table.{Table as Kept}
 use Rattle.catalog_types.specs.declared.catalogue.Catalogue.{Catalogue}
-use Rattle.sql_tree.specs.declared.statement.NewColumn.{NewColumn}
+use Rattle.col_value.specs.declared.column.Column.{Column}
 use Rattle.db_model.specs.Database as model
 use Rattle.db_model.specs.Growth.{early, late}
 use Rattle.plain_tables.specs.declared.table.Table.{Table}
@@ -24,7 +24,7 @@ use Rattle.plain_tables.specs.Views.{table_of}
 use Rattle.db_laws.proofs.Alike.{parted}
 use Rattle.plain_folder.specs.Reopens.{undeleted, shape_of}
 use Rattle.plain_folder.specs.Closing.{DataFrom}
-use Rattle.plain_folder.specs.Saving.{containers_named, whole_projection, kept_column, AreHeld, HoldsMore, WasHeld, IsSaved, SavesTable, SavesTables}
+use Rattle.plain_folder.specs.Saving.{containers_named, whole_projection, AreHeld, HoldsMore, WasHeld, IsSaved, SavesTable, SavesTables}
 use Rattle.plain_folder.proofs.Below.{held_below, below_data, moved_between}
 use Rattle.plain_folder.proofs.Found.{zip_push}
 use Rattle.plain_folder.proofs.Whole.{seconds_from, whole_shape}
@@ -39,7 +39,7 @@ all_last P xs y all = All-contains P (xs ++ y ∷ []) y all (Contains-push xs y)
 -- a table's early rows, which were held, and its late rows, which are held behind them, are its rows
 pub saved_one : (next after : ℕ) (kept : Catalogue) (last : ℕ) (t : Kept) (u : Table) (es : List Encoding) (ks js : List Container) (added : List Asked) (found left : Option Contents)
     → ks ≡ containers_named u.name kept.tables → es ≡ u.encodings → HoldsMore es next after ks js added found left → map undeleted added ≡ late kept.last u.rows.items → length u.encodings ≡ length u.columns
-    → t.name ≡ u.name → t.columns ≡ map kept_column u.columns → t.projections ≡ whole_projection u.projection last u.encodings js ∷ []
+    → t.name ≡ u.name → t.columns ≡ u.columns → t.projections ≡ whole_projection u.projection last u.encodings js ∷ []
     → SavesTable next after kept last t (table_of u) found left
 saved_one next after kept last t u es ks js added found left ks_are es_are holds_more late_are wide named columns projections m told was =
     let more : HoldsMore u.encodings next after ks js added found left = subst (λ (xs : List Encoding). HoldsMore xs next after ks js added found left) es_are holds_more in

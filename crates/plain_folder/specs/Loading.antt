@@ -1,7 +1,7 @@
 -- Reading the tables of a catalogue.
 use Rattle.std.specs.Prelude.{ℕ, ◌≡◌, ◌≤◌, ◌<◌, ◌+◌, ◌*◌, ◌^◌, length, List, Option, Some, Contains}
 use Rattle.std.specs.List.{All, AllZip}
-use Rattle.col_base.specs.Maps.{Contents}
+use Rattle.common_laws.specs.Maps.{Contents}
 use Rattle.col_disk.specs.declared.disk.StoreFault.{StoreFault}
 use Rattle.col_value.specs.declared.row.Stamped.{Stamped}
 use Rattle.catalog_types.specs.declared.catalogue.Container.{Container}

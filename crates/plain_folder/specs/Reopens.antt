@@ -1,10 +1,10 @@
 -- What a folder opens to: the database whose tables, epochs and rows its files spell.
 use Rattle.std.specs.Prelude.{ℕ, ◌≡◌, ◌⊎◌, ◌++◌, true, List, [], ◌∷◌, map, length, None}
 use Rattle.std.specs.List.{All, AllZip}
-use Rattle.col_base.specs.Maps.{Contents}
+use Rattle.common_laws.specs.Maps.{Contents}
 use Rattle.col_value.specs.declared.row.Stamped.{Stamped}
 use Rattle.col_value.specs.declared.row.Asked.{Asked}
-use Rattle.catalog_types.specs.declared.catalogue.Column.{Column}
+use Rattle.col_value.specs.declared.column.Column.{Column}
 use Rattle.catalog_types.specs.declared.catalogue.ProjColumn.{ProjColumn}
 use Rattle.catalog_types.specs.declared.catalogue.Container.{Container}
 use Rattle.catalog_types.specs.declared.catalogue.Projection.{Projection}
@@ -14,7 +14,6 @@ use Rattle.catalog_root.specs.Root.{IsRoot, IsFresh}
 use Rattle.col_value.specs.declared.kinds.Encoding.{Encoding}
 use Rattle.ros_container.specs.Encodings.{encodings_of}
 use Rattle.ros_container.specs.Held.{HoldsContainer}
-use Rattle.sql_tree.specs.declared.statement.NewColumn.{NewColumn}
 use Rattle.db_model.specs.Database.{Database, Table, Shape}
 use Rattle.plain_folder.specs.Served.{is_served}
 
@@ -36,9 +35,6 @@ HoldsRows m encodings [] rows = rows ≡ []
 HoldsRows m encodings (k ∷ ks) rows =
     (here : List Asked) × (more : List Stamped) × HoldsContainer m encodings k here × HoldsRows m encodings ks more × (rows ≡ map undeleted here ++ more)
 
-abbrev pub column_of : Column → NewColumn
-column_of c = record { name = c.name; kind = c.kind; not_null = c.not_null }
-
 -- a projection without its rows
 abbrev pub shape_of : Projection → Shape
 shape_of p = record { name = p.name; columns = map (λ c. (c.ordinal, c.encoding)) p.columns; sort = p.sort; fresh = p.fresh; lge = p.lge }
@@ -46,7 +42,7 @@ shape_of p = record { name = p.name; columns = map (λ c. (c.ordinal, c.encoding
 -- a table of the catalogue is this one, whose rows each of its projections holds
 pub record IsTableOf (m : Contents) (t : kept.Table) (u : Table) : Type 0 where
   pub name : u.name ≡ t.name
-  pub columns : u.columns ≡ map column_of t.columns
+  pub columns : u.columns ≡ t.columns
   pub shapes : u.shapes ≡ map shape_of t.projections
   pub rows : All (λ p. HoldsRows m (encodings_of p) p.containers u.rows) t.projections
 

@@ -2,13 +2,12 @@
 use Rattle.std.specs.Prelude.{ℕ, ◌≡◌, ◌≤◌, ◌<◌, ◌^◌, ◌*◌, ◌+◌, ◌++◌, true, List, [], ◌∷◌, map, length, bytes_eq, Option, Some}
 use Rattle.std.specs.List.{All, AllZip, enumerate_from, find}
 use Rattle.std.specs.Option.{option_map_or}
-use Rattle.col_base.specs.Bags.{SameBag}
-use Rattle.col_base.specs.Maps.{Contents}
+use Rattle.common_laws.specs.Bags.{SameBag}
+use Rattle.common_laws.specs.Maps.{Contents}
 use Rattle.col_value.specs.declared.kinds.Encoding.{Encoding}
 use Rattle.col_value.specs.declared.row.Asked.{Asked}
 use Rattle.col_value.specs.declared.row.Stamped.{Stamped}
-use Rattle.sql_tree.specs.declared.statement.NewColumn.{NewColumn}
-use Rattle.catalog_types.specs.declared.catalogue.Column.{Column}
+use Rattle.col_value.specs.declared.column.Column.{Column}
 use Rattle.catalog_types.specs.declared.catalogue.ProjColumn.{ProjColumn}
 use Rattle.catalog_types.specs.declared.catalogue.Container.{Container}
 use Rattle.catalog_types.specs.declared.catalogue.Projection.{Projection}
@@ -46,10 +45,6 @@ whole_projection name last encodings containers = record {
   containers = containers;
 }
 
--- a column as one of the catalogue
-abbrev pub kept_column : NewColumn → Column
-kept_column c = record { name = c.name; kind = c.kind; not_null = c.not_null }
-
 -- The encodings of the first of some projections.
 abbrev pub first_encodings : List Shape → List Encoding
 first_encodings [] = []
@@ -85,7 +80,7 @@ pub record IsSaved (m : Contents) (next last : ℕ) (t : kept.Table) (u : Table)
   pub projection : List ℕ
   pub encodings : List Encoding
   pub name : t.name ≡ u.name
-  pub columns : t.columns ≡ map kept_column u.columns
+  pub columns : t.columns ≡ u.columns
   pub projections : t.projections ≡ whole_projection projection last encodings containers ∷ []
   pub shapes : map shape_of t.projections ≡ map (moved_shape last) u.shapes
   pub held : AreHeld m encodings next containers rows

@@ -2,8 +2,8 @@
 
 ghost use Rattle.std.specs.Prelude.{◌≡◌, ◌≤◌, ◌<◌, ◌+◌, ◌^◌, ℕ, Some, map, length, filter, IsTrue, OnOk, IfOk, IfSome, List};
 ghost use Rattle.std.specs.List.{All};
-ghost use Rattle.col_base.specs.Bags.{SameBag};
-ghost use Rattle.col_base.specs.Causes.{HasCause};
+ghost use Rattle.common_laws.specs.Bags.{SameBag};
+ghost use Rattle.common_laws.specs.Causes.{HasCause};
 ghost use Rattle.col_disk.specs.Moved.{Moved, NoName};
 ghost use Rattle.db_model.specs.Growth.{late};
 ghost use Rattle.catalog_types.specs.Numbers.{file_count};

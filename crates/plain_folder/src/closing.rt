@@ -1,13 +1,16 @@
 //! The clean end.
 
 ghost use Rattle.std.specs.Prelude.{◌≡◌, ◌↔◌, map, true, IsTrue, OnOk, IfOk};
-ghost use Rattle.col_base.specs.Causes.{HasCause};
+ghost use Rattle.common_laws.specs.Causes.{HasCause};
 ghost use Rattle.col_disk.specs.Moved.{Moved, NoName};
 ghost use Rattle.catalog_types.specs.Valid.{IsValid};
+ghost use Rattle.catalog_root.specs.Crash.{RootNames};
 ghost use Rattle.catalog_root.specs.Listed.{IsUnlisted};
 ghost use Rattle.plain_tables.specs.Views.{table_of};
 ghost use Rattle.plain_folder.specs.Served as rule;
-ghost use Rattle.plain_folder.specs.Closing.{IsUnchanged, LeavesTables, LeavesAll, Installs};
+ghost use Rattle.plain_folder.specs.Reopens.{no_tables};
+ghost use Rattle.plain_folder.specs.Closing as rules;
+ghost use Rattle.plain_folder.specs.Closing.{IsUnchanged, LeavesTables, LeavesAll, Installs, KeepsTables, KeepsAll, KeepsRooted, Enters, EntersOrNot, InstallsOrNot};
 
 use crate::saving::save_tables;
 use crate::served::is_served;
@@ -25,7 +28,7 @@ const SPENT: u64 = 1 << 60;
 /// Writes the tables of a store to the folder that it was opened from: the rows that came since, then a new version of
 /// the catalogue; then it removes what that one doesn't list. Where no epoch was closed and no table made since, or
 /// where the numbers of files are used up, the disk isn't called. `kept` is the catalogue that the tables were read by.
-/// What waits for COMMIT is dropped.
+/// What waits for COMMIT is dropped. Whatever is answered, the folder opens to the tables of before or to these.
 pub fn close_tables<D: Disk>(
     alloc: Global,
     disk: &mut D,
@@ -33,6 +36,7 @@ pub fn close_tables<D: Disk>(
     kept: &Catalogue,
 ) -> Result<(), DiskFault>
     ensures leaves { OnOk result (LeavesTables kept.now store (D.holds disk.old) (D.holds disk.new)) }
+    ensures keeps { KeepsTables kept.now store (D.holds disk.old) (D.holds disk.new) }
     ensures still { IsUnchanged kept.now store → disk.new ≡ disk.old }
     ensures cause { HasCause DiskFault.Failed (D.faults disk.old) (D.faults disk.new) result }
 {
@@ -52,6 +56,27 @@ fn is_unchanged(store: &PlainStore, kept: &Catalogue) -> bool
     store.last() == kept.last && store.tables().len() == kept.tables.as_slice().len()
 }
 
+// Whether it is the catalogue of a folder in which nothing was ever written.
+fn is_blank(kept: &Catalogue) -> bool
+    ensures { IsTrue result ↔ (kept.now ≡ no_tables) }
+{
+    kept.last == 0 && kept.ahm == 0 && kept.next == 1 && kept.tables.as_slice().is_empty()
+}
+
+// No tables; version 1 is used up.
+fn first_catalogue(alloc: Global) -> Catalogue
+    ensures { result ≡ rules.first_catalogue }
+{
+    Catalogue {
+        last: 0,
+        ahm: 0,
+        next: 2,
+        tables: List::new(Vec::new(alloc)),
+    }
+}
+
+/// Writes the tables to a folder. Where no gate is open, an empty catalogue becomes the root before any data file is
+/// written: data files without an open gate would keep the folder from opening.
 fn write_tables<D: Disk>(
     alloc: Global,
     disk: &mut D,
@@ -60,6 +85,29 @@ fn write_tables<D: Disk>(
     kept: &Catalogue,
 ) -> Result<(), DiskFault>
     ensures leaves { OnOk result (LeavesAll kept.now last (map table_of tables.items) (D.holds disk.old) (D.holds disk.new)) }
+    ensures keeps { KeepsAll kept.now last (map table_of tables.items) (D.holds disk.old) (D.holds disk.new) }
+    ensures cause { HasCause DiskFault.Failed (D.faults disk.old) (D.faults disk.new) result }
+{
+    if !is_blank(kept) {
+        return replace_tables(alloc, disk, tables, last, kept);
+    }
+    let first = first_catalogue(alloc);
+    match enter(alloc, disk, 1, &first) {
+        Ok(()) => replace_tables(alloc, disk, tables, last, &first),
+        Err(fault) => Err(fault),
+    }
+}
+
+/// Writes the tables to a folder in which a gate is open.
+fn replace_tables<D: Disk>(
+    alloc: Global,
+    disk: &mut D,
+    tables: Vec<Table>,
+    last: u64,
+    kept: &Catalogue,
+) -> Result<(), DiskFault>
+    ensures leaves { OnOk result (LeavesAll kept.now last (map table_of tables.items) (D.holds disk.old) (D.holds disk.new)) }
+    ensures keeps { KeepsRooted kept.now last (map table_of tables.items) (D.holds disk.old) (D.holds disk.new) }
     ensures cause { HasCause DiskFault.Failed (D.faults disk.old) (D.faults disk.new) result }
 {
     match save_tables(alloc, disk, tables, last, kept) {
@@ -76,8 +124,7 @@ fn write_tables<D: Disk>(
     }
 }
 
-/// Makes the catalogue the one that the folder opens to, and removes what it doesn't list. A catalogue that couldn't be
-/// opened again is answered as want of memory: no store makes one.
+/// Makes the catalogue the one that the folder opens to, and removes what it doesn't list.
 fn install<D: Disk>(
     alloc: Global,
     disk: &mut D,
@@ -85,6 +132,26 @@ fn install<D: Disk>(
     catalogue: &Catalogue,
 ) -> Result<(), DiskFault>
     ensures installed { OnOk result (Installs version catalogue.now (D.holds disk.old) (D.holds disk.new)) }
+    ensures either { InstallsOrNot version catalogue.now (D.holds disk.old) (D.holds disk.new) }
+    ensures cause { HasCause DiskFault.Failed (D.faults disk.old) (D.faults disk.new) result }
+{
+    match enter(alloc, disk, version, catalogue) {
+        Ok(()) => tidy(alloc, disk, version, catalogue),
+        Err(fault) => Err(fault),
+    }
+}
+
+/// Makes the catalogue the one that the folder opens to. One that couldn't be opened again is answered as want of
+/// memory: no store makes one.
+fn enter<D: Disk>(
+    alloc: Global,
+    disk: &mut D,
+    version: u64,
+    catalogue: &Catalogue,
+) -> Result<(), DiskFault>
+    ensures entered { OnOk result (Enters version catalogue.now (D.holds disk.old) (D.holds disk.new)) }
+    ensures either { EntersOrNot version catalogue.now (D.holds disk.old) (D.holds disk.new) }
+    ensures moved { Moved ⟦<D as Disk>⟧ (RootNames version) NoName disk.old disk.new }
     ensures cause { HasCause DiskFault.Failed (D.faults disk.old) (D.faults disk.new) result }
 {
     match can_be_opened(alloc, catalogue) {
@@ -94,10 +161,7 @@ fn install<D: Disk>(
     if version >= catalogue.next {
         return Err(DiskFault::Memory);
     }
-    match commit(alloc, disk, version, catalogue) {
-        Ok(()) => tidy(alloc, disk, version, catalogue),
-        Err(fault) => Err(fault),
-    }
+    commit(alloc, disk, version, catalogue)
 }
 
 /// Whether this program would open the catalogue.

@@ -1,7 +1,7 @@
 //! Laws above the definitions.
 
 ghost use Rattle.std.specs.Prelude.{◌≡◌};
-ghost use Rattle.col_base.specs.Maps.{Contents};
+ghost use Rattle.common_laws.specs.Maps.{Contents};
 ghost use Rattle.db_model.specs.Database.{Database};
 ghost use Rattle.plain_folder.specs.Reopens.{Reopens};
 

@@ -18,6 +18,3 @@ mod served;
 pub use closing::close_tables;
 pub use laws::a_folder_opens_to_one_database;
 pub use opening::{Opened, open_tables};
-
-#[cfg(test)]
-mod tests;

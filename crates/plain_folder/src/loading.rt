@@ -2,19 +2,18 @@
 
 ghost use Rattle.std.specs.Prelude.{◌≡◌, ◌≤◌, ◌++◌, ℕ, [], ◌∷◌, Some, map, OnOk, IfOk, IfErr, true};
 ghost use Rattle.std.specs.List.{All};
-ghost use Rattle.col_base.specs.Causes.{HasCause};
+ghost use Rattle.common_laws.specs.Causes.{HasCause};
 ghost use Rattle.col_disk.specs.Moved.{Moved, NoName};
 ghost use Rattle.ros_container.specs.Encodings.{encodings_of};
 ghost use Rattle.plain_tables.specs.Views as view;
 ghost use Rattle.plain_folder.specs.Served.{is_served_table};
-ghost use Rattle.plain_folder.specs.Reopens.{undeleted, column_of};
+ghost use Rattle.plain_folder.specs.Reopens.{undeleted};
 ghost use Rattle.plain_folder.specs.Loading.{AreLoadable, HoldsAll, ToldTable, ToldTables, BlamesProjection, BlamesTable, BlamesTables};
 
-use catalog_types::{Column, ProjColumn, Projection, Table as Kept};
+use catalog_types::{ProjColumn, Projection, Table as Kept};
 use col_disk::{Disk, StoreFault};
-use col_value::{Asked, Encoding, List, Stamped};
+use col_value::{Asked, Column, Encoding, List, Stamped};
 use plain_tables::Table;
-use sql_tree::NewColumn;
 use std::alloc::{AllocError, Global};
 
 fn add_rows(alloc: Global, out: &mut Vec<Stamped>, rows: Vec<Asked>) -> Result<(), AllocError>
@@ -60,22 +59,12 @@ fn load_rows<D: Disk>(
     Ok(out)
 }
 
-fn copied_column(alloc: Global, column: &Column) -> Result<NewColumn, AllocError>
-    ensures { IfOk result (λ c. c ≡ column_of column.now) }
-{
-    Ok(NewColumn {
-        name: column.name.copy(alloc)?,
-        kind: column.kind,
-        not_null: column.not_null,
-    })
-}
-
-fn columns_of(alloc: Global, columns: &[Column]) -> Result<List<NewColumn>, AllocError>
-    ensures { IfOk result (λ v. v ≡ map column_of columns.now) }
+fn columns_of(alloc: Global, columns: &[Column]) -> Result<List<Column>, AllocError>
+    ensures { IfOk result (λ v. v ≡ columns.now) }
 {
     let mut copies = Vec::with_capacity(alloc, columns.len())?;
     for column in columns {
-        copies.push(copied_column(alloc, column)?)?;
+        copies.push(column.copy(alloc)?)?;
     }
     Ok(List::new(copies))
 }
@@ -95,7 +84,7 @@ fn table_with(
 ) -> Result<Table, AllocError>
     ensures name { IfOk result (λ u. u.name ≡ t.now.name) }
     ensures projection { IfOk result (λ u. u.projection ≡ p.now.name) }
-    ensures columns { IfOk result (λ u. u.columns ≡ map column_of t.now.columns) }
+    ensures columns { IfOk result (λ u. u.columns ≡ t.now.columns) }
     ensures encodings { IfOk result (λ u. u.encodings ≡ encodings_of p.now) }
     ensures rows { IfOk result (λ u. u.rows.items ≡ rows.items) }
     ensures born { IfOk result (λ u. u.born ≡ p.now.lge) }

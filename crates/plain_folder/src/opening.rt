@@ -1,7 +1,7 @@
 //! Opening a folder.
 
 ghost use Rattle.std.specs.Prelude.{◌≡◌, ◌<◌, [], IfOk, IfErr};
-ghost use Rattle.col_base.specs.Causes.{HasCause};
+ghost use Rattle.common_laws.specs.Causes.{HasCause};
 ghost use Rattle.col_disk.specs.Moved.{Moved, NoName};
 ghost use Rattle.catalog_types.specs.Valid.{IsValid};
 ghost use Rattle.db_model.specs.Database.{Database as Logical};

@@ -4,7 +4,7 @@
 //! row waits for no memory, and leaves little to do for the one that the order is promised of.
 
 ghost use Rattle.std.specs.Prelude.{◌≡◌, map, IfOk};
-ghost use Rattle.col_base.specs.Bags.{SameBag};
+ghost use Rattle.common_laws.specs.Bags.{SameBag};
 ghost use Rattle.plain_folder.specs.Keys.{key_of, keyed};
 
 use col_value::{Asked, Value};
@@ -43,7 +43,7 @@ fn without_keys(alloc: Global, rows: Vec<Keyed>) -> Result<Vec<Asked>, AllocErro
     rows.into_iter().map(|keyed| keyed.asked).collect(alloc)
 }
 
-#[tactic(auto, using(col_base::proofs::BagLaws::bag_of_permutation))]
+#[tactic(auto, using(common_laws::proofs::BagLaws::bag_of_permutation))]
 fn by_key(rows: Vec<Keyed>) -> Result<Vec<Keyed>, AllocError>
     ensures { IfOk result (λ v. SameBag rows.items v.items) }
 {

@@ -4,21 +4,20 @@ ghost use Rattle.std.specs.Prelude.{◌≡◌, ◌≤◌, ◌<◌, ◌+◌, ◌+
 ghost use Rattle.std.specs.List.{All, enumerate_from, find};
 ghost use Rattle.std.specs.Str.{bytes_eq};
 ghost use Rattle.std.specs.Option.{option_copied};
-ghost use Rattle.col_base.specs.Causes.{HasCause};
+ghost use Rattle.common_laws.specs.Causes.{HasCause};
 ghost use Rattle.col_disk.specs.Moved.{Moved, NoName};
 ghost use Rattle.db_model.specs.Growth.{late};
 ghost use Rattle.ros_container.specs.Encodings.{encodings_of};
 ghost use Rattle.plain_tables.specs.Views.{table_of};
 ghost use Rattle.plain_folder.specs.Reopens.{undeleted};
 ghost use Rattle.plain_folder.specs.Closing.{DataFrom};
-ghost use Rattle.plain_folder.specs.Saving.{containers_of, containers_named, part_of, whole_projection, kept_column, HoldsMore, SavesTable, SavesTables};
+ghost use Rattle.plain_folder.specs.Saving.{containers_of, containers_named, part_of, whole_projection, HoldsMore, SavesTable, SavesTables};
 
 use crate::adding::{late_rows, write_container};
-use catalog_types::{Catalogue, Column, Container, ProjColumn, Projection, Table as Kept};
+use catalog_types::{Catalogue, Container, ProjColumn, Projection, Table as Kept};
 use col_disk::{Disk, DiskFault};
-use col_value::{Asked, Encoding, List, Name, Stamped};
+use col_value::{Asked, Column, Encoding, List, Name, Stamped};
 use plain_tables::Table;
-use sql_tree::NewColumn;
 use std::alloc::{AllocError, Global};
 
 // Numbers are drawn below this one.
@@ -59,21 +58,6 @@ fn kept_containers<'a>(tables: &'a [Kept], name: &Name) -> &'a [Container]
         Some(table) => first_containers(table.projections.as_slice()),
         None => &[],
     }
-}
-
-fn columns_of(alloc: Global, columns: List<NewColumn>) -> Result<List<Column>, AllocError>
-    ensures { IfOk result (λ v. v ≡ map kept_column columns) }
-{
-    let kept: Vec<Column> = columns
-        .into_vec()
-        .into_iter()
-        .map(|column| Column {
-            name: column.name,
-            kind: column.kind,
-            not_null: column.not_null,
-        })
-        .collect(alloc)?;
-    Ok(List::new(kept))
 }
 
 fn parts_of(alloc: Global, encodings: &[Encoding]) -> Result<Vec<ProjColumn>, AllocError>
@@ -125,18 +109,18 @@ fn bare_projection(
 fn kept_table(
     alloc: Global,
     name: Name,
-    columns: List<NewColumn>,
+    columns: List<Column>,
     projection: Projection,
 ) -> Result<Kept, AllocError>
     ensures name { IfOk result (λ t. t.name ≡ name) }
-    ensures columns { IfOk result (λ t. t.columns ≡ map kept_column columns) }
+    ensures columns { IfOk result (λ t. t.columns ≡ columns) }
     ensures projections { IfOk result (λ t. t.projections ≡ projection ∷ []) }
 {
     let mut projections = Vec::with_capacity(alloc, 1)?;
     projections.push(projection)?;
     Ok(Kept {
         name,
-        columns: columns_of(alloc, columns)?,
+        columns,
         projections: List::new(projections),
     })
 }

@@ -7,7 +7,7 @@ use Rattle.std.proofs.lemmas.Option.{same_Some}
 use Rattle.sql_tree.specs.declared.query.At.{At}
 use Rattle.sql_tree.specs.declared.query.Query.{Query}
 use Rattle.sql_tree.specs.declared.refusal.Refusal.{Refusal}
-use Rattle.sql_tree.specs.declared.statement.NewColumn.{NewColumn}
+use Rattle.col_value.specs.declared.column.Column.{Column}
 use Rattle.sql_bound.specs.declared.query.BoundQuery.{BoundQuery}
 use Rattle.sql_bound.specs.Bounds.{is_narrow}
 use Rattle.sql_binder.specs.declared.fault.BindFault.{BindFault}
@@ -23,7 +23,7 @@ use Rattle.plain_store.proofs.Firsts.{both_none, last_none, unrefused, each_pass
 use Rattle.plain_store.proofs.Finding.{pair_of, columns_found}
 
 -- a query that isn't refused is narrow
-pub narrow_query : (place : ℕ) (columns : List NewColumn) (q : Query) → query_refusal (Some columns) q ≡ None → AreNarrow (bound_query place columns q)
+pub narrow_query : (place : ℕ) (columns : List Column) (q : Query) → query_refusal (Some columns) q ≡ None → AreNarrow (bound_query place columns q)
 narrow_query place columns q accepted =
     let told : refused_where (not (is_narrow_query (bound_query 0 columns q))) Refusal.TooWide ≡ None =
     last_none (option_map Refusal.UnknownTable (unknown_table q true)) (option_map Refusal.UnknownColumn (unknown_column columns q))
@@ -38,8 +38,8 @@ narrow_query place columns q accepted =
 
 bound_by : (tables : List Table) (q : Query) (b : BoundQuery) (i : Option ℕ) (t : Option Table)
     → table_place (source_table q) tables ≡ i → table_named (source_table q) tables ≡ t
-    → query_refusal (option_map (λ (f : ℕ × List NewColumn). f.1) (pair_of i t)) q ≡ None
-    → option_map (λ (f : ℕ × List NewColumn). bound_query f.0 f.1 q) (pair_of i t) ≡ Some b
+    → query_refusal (option_map (λ (f : ℕ × List Column). f.1) (pair_of i t)) q ≡ None
+    → option_map (λ (f : ℕ × List Column). bound_query f.0 f.1 q) (pair_of i t) ≡ Some b
     → IsBoundIn tables q b
 bound_by tables q b None t stands named accepted bound = cc
 bound_by tables q b (Some i) None stands named accepted bound = cc
@@ -56,23 +56,23 @@ bound_by tables q b (Some i) (Some t) stands named accepted bound =
 
 -- what was bound over the table that was found
 pub bound_in : (tables : List Table) (q : Query) (b : BoundQuery)
-    → query_refusal (option_map (λ (f : ℕ × List NewColumn). f.1) (found_in (source_table q) tables)) q ≡ None
-    → option_map (λ (f : ℕ × List NewColumn). bound_query f.0 f.1 q) (found_in (source_table q) tables) ≡ Some b
+    → query_refusal (option_map (λ (f : ℕ × List Column). f.1) (found_in (source_table q) tables)) q ≡ None
+    → option_map (λ (f : ℕ × List Column). bound_query f.0 f.1 q) (found_in (source_table q) tables) ≡ Some b
     → IsBoundIn tables q b
 bound_in tables q b accepted bound =
     bound_by tables q b (table_place (source_table q) tables) (table_named (source_table q) tables) refl refl accepted bound
 
 -- what was bound over the table of the name, where no epoch is refused
-pub planned_query : (tables : List Table) (mark last : ℕ) (at : At) (q : Query) (b : BoundQuery) (found : Option (ℕ × List NewColumn))
+pub planned_query : (tables : List Table) (mark last : ℕ) (at : At) (q : Query) (b : BoundQuery) (found : Option (ℕ × List Column))
     → found ≡ found_in (source_table q) tables → IsBoundQuery found q b → epoch_refusal mark last at ≡ None
     → IsBoundIn tables q b × (select_refusal_over tables mark last at q ≡ None)
 planned_query tables mark last at q b found is (accepted, bound) early =
-    let unrefused : query_refusal (option_map (λ (f : ℕ × List NewColumn). f.1) (found_in (source_table q) tables)) q ≡ None =
-    subst (λ (o : Option (ℕ × List NewColumn)). query_refusal (option_map (λ (f : ℕ × List NewColumn). f.1) o) q ≡ None) is accepted in
-    let tree : option_map (λ (f : ℕ × List NewColumn). bound_query f.0 f.1 q) (found_in (source_table q) tables) ≡ Some b =
-    subst (λ (o : Option (ℕ × List NewColumn)). option_map (λ (f : ℕ × List NewColumn). bound_query f.0 f.1 q) o ≡ Some b) is bound in
+    let unrefused : query_refusal (option_map (λ (f : ℕ × List Column). f.1) (found_in (source_table q) tables)) q ≡ None =
+    subst (λ (o : Option (ℕ × List Column)). query_refusal (option_map (λ (f : ℕ × List Column). f.1) o) q ≡ None) is accepted in
+    let tree : option_map (λ (f : ℕ × List Column). bound_query f.0 f.1 q) (found_in (source_table q) tables) ≡ Some b =
+    subst (λ (o : Option (ℕ × List Column)). option_map (λ (f : ℕ × List Column). bound_query f.0 f.1 q) o ≡ Some b) is bound in
     let named : query_refusal (columns_named (source_table q) tables) q ≡ None =
-    subst (λ (o : Option (List NewColumn)). query_refusal o q ≡ None) (columns_found (source_table q) tables) unrefused in
+    subst (λ (o : Option (List Column)). query_refusal o q ≡ None) (columns_found (source_table q) tables) unrefused in
     (bound_in tables q b unrefused tree, both_none (query_refusal (columns_named (source_table q) tables) q) (epoch_refusal mark last at) named early)
 
 -- what refuses by one reason refuses by the first of two

@@ -6,7 +6,7 @@ use Rattle.std.specs.Option.{option_map_or}
 use Rattle.std.proofs.lemmas.Option.{same_Some}
 use Rattle.sql_tree.specs.declared.refusal.Refusal.{Refusal}
 use Rattle.sql_tree.specs.declared.statement.Insert.{Insert}
-use Rattle.sql_tree.specs.declared.statement.NewColumn.{NewColumn}
+use Rattle.col_value.specs.declared.column.Column.{Column}
 use Rattle.sql_binder.specs.Names.{first_of}
 use Rattle.sql_binder.specs.Queries.{first_given, refused_where}
 use Rattle.sql_binder.specs.Inserts.{pairs, wrong_count, is_of_column, insert_refusal, is_out_of_range, is_too_long, is_refused_null, first_such, stored_refusal, whole_refusal}
@@ -18,7 +18,7 @@ not_late None true r is = subst (λ (told : Refusal). is_late told ≡ false) (s
 not_late None false r is = cc
 
 -- a refusal whatever the rows hold comes before the limit on rows
-early : (columns : Option (List NewColumn)) (i : Insert) (r : Refusal) → insert_refusal columns i ≡ Some r → is_late r ≡ false
+early : (columns : Option (List Column)) (i : Insert) (r : Refusal) → insert_refusal columns i ≡ Some r → is_late r ≡ false
 early None i r is = subst (λ (told : Refusal). is_late told ≡ false) (same_Some (Refusal.UnknownTable i.table) r is) refl
 early (Some columns) i r is = not_late (first_given (wrong_count columns) i.rows) (not (list_all is_of_column (pairs columns i.rows))) r is
 
@@ -30,7 +30,7 @@ still_late None None (Some x) r is = subst (λ (told : Refusal). is_late told �
 still_late None None None r is = cc
 
 -- a refusal of what the rows hold comes behind it
-late : (columns : Option (List NewColumn)) (i : Insert) (r : Refusal) → option_map_or (λ cs. stored_refusal cs i) columns None ≡ Some r → is_late r ≡ true
+late : (columns : Option (List Column)) (i : Insert) (r : Refusal) → option_map_or (λ cs. stored_refusal cs i) columns None ≡ Some r → is_late r ≡ true
 late None i r is = cc
 late (Some columns) i r is =
     still_late (first_such is_out_of_range (pairs columns i.rows)) (first_such is_too_long (pairs columns i.rows)) (first_such is_refused_null (pairs columns i.rows)) r is
@@ -56,7 +56,7 @@ joined_by None limit (Some x) r before behind is =
 joined_by None limit None r before behind is = cc
 
 -- the refusal of the whole, held against the limit
-pub refused_rows : (columns : Option (List NewColumn)) (limit : Option Refusal) (i : Insert) (r : Refusal)
+pub refused_rows : (columns : Option (List Column)) (limit : Option Refusal) (i : Insert) (r : Refusal)
     → whole_refusal columns i ≡ Some r → limited_refusal columns limit i ≡ Some (in_order r limit)
 refused_rows columns limit i r is =
     joined_by (insert_refusal columns i) limit (option_map_or (λ cs. stored_refusal cs i) columns None) r (early columns i) (late columns i) is
@@ -67,12 +67,12 @@ limited_by None (Some x) stored l none is = is
 limited_by None None stored l none is = cc
 
 -- the limit alone
-pub limited_rows : (columns : Option (List NewColumn)) (limit : Option Refusal) (i : Insert) (l : Refusal)
+pub limited_rows : (columns : Option (List Column)) (limit : Option Refusal) (i : Insert) (l : Refusal)
     → whole_refusal columns i ≡ None → limit ≡ Some l → limited_refusal columns limit i ≡ Some l
 limited_rows columns limit i l none is = limited_by (insert_refusal columns i) limit (option_map_or (λ cs. stored_refusal cs i) columns None) l none is
 
 -- neither
-pub accepted_rows : (columns : Option (List NewColumn)) (limit : Option Refusal) (i : Insert)
+pub accepted_rows : (columns : Option (List Column)) (limit : Option Refusal) (i : Insert)
     → whole_refusal columns i ≡ None → limit ≡ None → limited_refusal columns limit i ≡ None
 accepted_rows columns limit i none is =
     ap (λ (l : Option Refusal). limited_refusal columns l i) is ∙ none

@@ -5,7 +5,7 @@ use Rattle.sql_tree.specs.declared.query.At.{At}
 use Rattle.sql_tree.specs.declared.query.Query.{Query}
 use Rattle.sql_tree.specs.declared.refusal.Refusal.{Refusal}
 use Rattle.sql_tree.specs.declared.statement.Insert.{Insert}
-use Rattle.sql_tree.specs.declared.statement.NewColumn.{NewColumn}
+use Rattle.col_value.specs.declared.column.Column.{Column}
 use Rattle.sql_tree.specs.declared.statement.Statement.{Statement}
 use Rattle.sql_bound.specs.declared.query.BoundQuery.{BoundQuery}
 use Rattle.sql_binder.specs.Names.{first_of}
@@ -44,7 +44,7 @@ pub record IsPlanned (state : State) (s : Statement) (plan : Plan) : Type 0 wher
   pub of : IsPlanOf state s plan
 
 -- the place and the columns of the table of a name, where there is one
-abbrev pub found_in : List ℕ → List Table → Option (ℕ × List NewColumn)
+abbrev pub found_in : List ℕ → List Table → Option (ℕ × List Column)
 found_in name tables = option_and_then (λ i. option_map (λ t. (i, t.columns)) (table_named name tables)) (table_place name tables)
 
 -- a refusal of what the rows of an INSERT hold
@@ -59,7 +59,7 @@ abbrev pub in_order : Refusal → Option Refusal → Refusal
 in_order r limit = if is_late r then option_map_or (λ l. l) limit r else r
 
 -- why rows can't join those that wait, over the columns of their table and the limit on rows
-abbrev pub limited_refusal : Option (List NewColumn) → Option Refusal → Insert → Option Refusal
+abbrev pub limited_refusal : Option (List Column) → Option Refusal → Insert → Option Refusal
 limited_refusal columns limit i = first_of (insert_refusal columns i) (first_of limit (option_map_or (λ cs. stored_refusal cs i) columns None))
 
 -- the refusals of a state, over what they look at

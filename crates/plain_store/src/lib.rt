@@ -12,6 +12,3 @@ mod store;
 pub use answering::Answer;
 pub use plain_tables::Table;
 pub use store::PlainStore;
-
-#[cfg(test)]
-mod tests;

@@ -13,13 +13,13 @@ ghost use Rattle.plain_tables.specs.Views.{table_of, changes_of};
 ghost use Rattle.plain_store.specs.Plans.{IsPlanned, IsPlanOf, IsBoundIn, found_in, is_late, in_order, limited_refusal, insert_refusal_over, select_refusal_over, commit_refusal_over};
 
 use crate::store::PlainStore;
-use col_value::{List, Name, Row};
+use col_value::{Column, List, Name, Row};
 use plain_tables::{
     Pending, Table, create_refusal, find_table, has_rows, table_place, waiting_rows,
 };
 use sql_binder::{BindFault, Found, bind_insert, bind_query, is_single};
 use sql_bound::BoundQuery;
-use sql_tree::{At, Function, Insert, NewColumn, Query, Refusal, Statement, Which};
+use sql_tree::{At, Function, Insert, Query, Refusal, Statement, Which};
 use std::alloc::{AllocError, Global};
 
 /// What a statement does that isn't refused.
@@ -145,7 +145,7 @@ fn plan_create(
     alloc: Global,
     tables: &[Table],
     name: &Name,
-    columns: &[NewColumn],
+    columns: &[Column],
 ) -> Result<Plan, BindFault>
     ensures planned { IfOk result (λ p. (p ≡ Plan.Create) × (rule.create_refusal (map table_of tables.now) name.now columns.now ≡ None)) }
     ensures refused { IfErr result (RefusesBy (rule.create_refusal (map table_of tables.now) name.now columns.now)) }

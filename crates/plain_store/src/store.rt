@@ -8,14 +8,14 @@ ghost use Rattle.plain_tables.specs.Views.{table_of, changes_of};
 ghost use Rattle.plain_store.specs.Plans.{IsPlanned, IsBoundIn};
 
 use crate::planning::{Plan, source_table};
-use col_value::{List, Name};
+use col_value::{Column, List, Name};
 use plain_tables::{
     Pending, Table, add_rows, auto_encodings, commit_all, commit_text, copied_columns, epoch_text,
     find_table, has_rows, insert_text, listing, output_rows, projection_name, put,
 };
 use query_order::order_rows;
 use sql_bound::BoundQuery;
-use sql_tree::{At, NewColumn, Query, Statement};
+use sql_tree::{At, Query, Statement};
 use std::alloc::{AllocError, Global};
 use std::marker::Model;
 
@@ -166,7 +166,7 @@ impl PlainStore {
         &mut self,
         alloc: Global,
         name: &Name,
-        columns: &List<NewColumn>,
+        columns: &List<Column>,
     ) -> Result<(), AllocError>
         ensures { OnOk result (self.new ≡ after self.old (AStatement.CreateTable name.now columns.now)) }
     {

@@ -9,7 +9,7 @@ use Rattle.col_value.specs.declared.row.Stamped.{Stamped}
 use Rattle.sql_bound.specs.declared.query.BoundQuery.{BoundQuery}
 use Rattle.sql_bound.specs.Values.{of_row, value_of}
 use Rattle.sql_bound.specs.Outputs.{is_kept}
-use Rattle.db_model.specs.Database.{visible, is_visible}
+use Rattle.row_history.specs.History.{visible, is_visible}
 use Rattle.db_model.specs.State.{pending_rows, session_view}
 use Rattle.query_order.specs.Enough.{IsEnough, AreFew}
 use Rattle.query_order.proofs.Enough.{enough_itself, enough_more}

@@ -9,7 +9,7 @@ use Rattle.col_value.specs.declared.row.Asked.{Asked}
 use Rattle.sql_bound.specs.declared.query.BoundQuery.{BoundQuery}
 use Rattle.sql_bound.specs.Values.{of_row, value_of}
 use Rattle.sql_bound.specs.Outputs.{is_kept}
-use Rattle.db_model.specs.Database.{visible}
+use Rattle.row_history.specs.History.{visible}
 use Rattle.db_model.specs.Database as model
 use Rattle.db_model.specs.Forms.{table_place}
 use Rattle.db_model.specs.State.{pending_rows, pending_deletes, session_view, without}

@@ -4,7 +4,8 @@ use Rattle.std.specs.List.{enumerate_from}
 use Rattle.col_value.specs.declared.value.Value.{Value}
 use Rattle.db_model.specs.Database.{Shape}
 use Rattle.db_model.specs.Database as model
-use Rattle.db_model.specs.State.{State, Changes, inserted_at}
+use Rattle.row_history.specs.History.{inserted_at}
+use Rattle.db_model.specs.State.{State, Changes}
 use Rattle.plain_tables.specs.declared.table.Table.{Table}
 use Rattle.plain_tables.specs.declared.table.Pending.{Pending}
 

@@ -9,8 +9,8 @@ ghost use Rattle.plain_tables.specs.Views.{table_of};
 
 use crate::lists::is_name_taken;
 use crate::table::Table;
-use col_value::{ColType, Encoding, List, Name};
-use sql_tree::{NewColumn, Refusal, Which};
+use col_value::{ColType, Column, Encoding, List, Name};
+use sql_tree::{Refusal, Which};
 use std::alloc::{AllocError, Global};
 use std::collections::BTreeSet;
 
@@ -24,22 +24,18 @@ pub fn projection_name(alloc: Global, name: &Name) -> Result<Name, AllocError>
 }
 
 /// The same columns once more.
-pub fn copied_columns(alloc: Global, columns: &[NewColumn]) -> Result<List<NewColumn>, AllocError>
+pub fn copied_columns(alloc: Global, columns: &[Column]) -> Result<List<Column>, AllocError>
     ensures { IfOk result (λ v. v ≡ columns.now) }
 {
     let mut copies = Vec::with_capacity(alloc, columns.len())?;
     for column in columns {
-        copies.push(NewColumn {
-            name: column.name.copy(alloc)?,
-            kind: column.kind,
-            not_null: column.not_null,
-        })?;
+        copies.push(column.copy(alloc)?)?;
     }
     Ok(List::new(copies))
 }
 
 /// AUTO for each column.
-pub fn auto_encodings(alloc: Global, columns: &[NewColumn]) -> Result<List<Encoding>, AllocError>
+pub fn auto_encodings(alloc: Global, columns: &[Column]) -> Result<List<Encoding>, AllocError>
     ensures { IfOk result (λ v. v ≡ map (λ c. Coding.Auto) columns.now) }
 {
     let mut encodings = Vec::with_capacity(alloc, columns.len())?;
@@ -50,7 +46,7 @@ pub fn auto_encodings(alloc: Global, columns: &[NewColumn]) -> Result<List<Encod
 }
 
 /// The first column whose name stands before it.
-fn repeated<'a>(alloc: Global, columns: &'a [NewColumn]) -> Result<Option<&'a Name>, AllocError>
+fn repeated<'a>(alloc: Global, columns: &'a [Column]) -> Result<Option<&'a Name>, AllocError>
     ensures { IfOk result (λ o. option_copied o ≡ rule.repeated_behind [] columns.now) }
 {
     let mut seen: BTreeSet<Name> = BTreeSet::new(alloc);
@@ -68,7 +64,7 @@ fn taken_name(
     alloc: Global,
     tables: &[Table],
     name: &Name,
-    columns: &[NewColumn],
+    columns: &[Column],
 ) -> Result<Option<Name>, AllocError>
     ensures { IfOk result (λ o. o ≡ rule.taken_name (map table_of tables.now) name.now columns.now) }
 {
@@ -105,7 +101,7 @@ fn is_wrong_width(kind: ColType) -> bool
 }
 
 /// The first limit that a column of a new table passes, at its place from 0.
-fn column_limit(place: usize, column: &NewColumn) -> Option<Refusal>
+fn column_limit(place: usize, column: &Column) -> Option<Refusal>
     ensures { result ≡ rule.column_limit (place, column.now) }
 {
     if place >= 64 {
@@ -121,7 +117,7 @@ fn column_limit(place: usize, column: &NewColumn) -> Option<Refusal>
 }
 
 /// The first limit that the columns of a new table pass.
-fn columns_limit(columns: &[NewColumn]) -> Option<Refusal>
+fn columns_limit(columns: &[Column]) -> Option<Refusal>
     ensures { result ≡ rule.columns_limit columns.now }
 {
     for (place, column) in columns.iter().enumerate() {
@@ -134,7 +130,7 @@ fn columns_limit(columns: &[NewColumn]) -> Option<Refusal>
 }
 
 /// The first limit that a new table passes.
-fn create_limit(tables: &[Table], name: &Name, columns: &[NewColumn]) -> Option<Refusal>
+fn create_limit(tables: &[Table], name: &Name, columns: &[Column]) -> Option<Refusal>
     ensures { result ≡ rule.create_limit (map table_of tables.now) name.now columns.now }
 {
     if tables.len() >= 1024 {
@@ -152,7 +148,7 @@ pub fn create_refusal(
     alloc: Global,
     tables: &[Table],
     name: &Name,
-    columns: &[NewColumn],
+    columns: &[Column],
 ) -> Result<Option<Refusal>, AllocError>
     ensures { IfOk result (λ r. r ≡ rule.create_refusal (map table_of tables.now) name.now columns.now) }
 {

@@ -16,6 +16,3 @@ pub use lists::{add_rows, commit_all, find_table, has_rows, put, table_place};
 pub use printing::{commit_text, epoch_text, insert_text, listing, waiting_rows};
 pub use selecting::output_rows;
 pub use table::{Pending, Table};
-
-#[cfg(test)]
-mod tests;

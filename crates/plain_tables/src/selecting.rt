@@ -3,7 +3,7 @@
 ghost use Rattle.std.specs.Prelude.{◌≡◌, [], ◌∷◌, map, IfOk, OnOk, IsTrue};
 ghost use Rattle.std.specs.List.{All};
 ghost use Rattle.col_value.specs.Order.{IsRow};
-ghost use Rattle.db_model.specs.Database.{is_visible, visible};
+ghost use Rattle.row_history.specs.History.{is_visible, visible};
 ghost use Rattle.db_model.specs.State.{pending_rows, session_view};
 ghost use Rattle.db_model.specs.Answers.{rows_at};
 ghost use Rattle.plain_tables.specs.Outputs.{AreNarrow, outputs_of, IsCut, Collects};

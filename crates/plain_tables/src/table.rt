@@ -1,5 +1,4 @@
-use col_value::{Encoding, List, Name, Row, Stamped};
-use sql_tree::NewColumn;
+use col_value::{Column, Encoding, List, Name, Row, Stamped};
 
 /// A table as one list of rows, with the name of its one projection, the encodings of the projection's columns, and the epoch
 /// up to which that has its rows on disk: where it was never moved, the epoch at which the table was made.
@@ -7,7 +6,7 @@ use sql_tree::NewColumn;
 pub struct Table {
     pub name: Name,
     pub projection: Name,
-    pub columns: List<NewColumn>,
+    pub columns: List<Column>,
     pub encodings: List<Encoding>,
     pub rows: Vec<Stamped>,
     pub born: u64,

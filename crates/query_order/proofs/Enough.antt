@@ -9,7 +9,7 @@ use Rattle.std.specs.Cmp.{IsStrictWeakOrder, tied_itself}
 use Rattle.std.specs.Ordering.{is_lt, is_le, ordering_reverse}
 use Rattle.std.specs.declared.cmp.Ordering.{Ordering}
 use Rattle.std.specs.declared.cmp.Ordering.TheVariants.{Less, Equal, Greater}
-use Rattle.col_base.proofs.BagLaws.{bag_of_permutation, count_append}
+use Rattle.common_laws.proofs.BagLaws.{bag_of_permutation, count_append}
 use Rattle.col_value.specs.declared.wide.Wide.{Wide}
 use Rattle.sql_bound.specs.Printed.{printed_cmp, IsPrinted}
 use Rattle.query_order.proofs.OneList.{printed_total}

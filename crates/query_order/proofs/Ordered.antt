@@ -6,7 +6,7 @@ use Rattle.std.proofs.lemmas.List.Kept.{AllPairs-cons}
 use Rattle.std.proofs.lemmas.List.Sorted.{IsPermutation-refl, IsPermutation-sym, IsPermutation-trans, IsPermutation-cons, IsPermutation-middle, All-permutation}
 use Rattle.std.proofs.lemmas.List.Sums.{count_by-le-length}
 use Rattle.std.specs.Cmp.{IsStrictWeakOrder}
-use Rattle.col_base.proofs.BagLaws.{count_cons}
+use Rattle.common_laws.proofs.BagLaws.{count_cons}
 
 module _ {X : Type 0} (lt : X → X → Bool) where
   -- no later element is before an earlier one

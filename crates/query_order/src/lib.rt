@@ -14,6 +14,3 @@ mod printing;
 pub use cutting::cut_back;
 pub use laws::{enough_is_printed, one_printed_list};
 pub use printing::order_rows;
-
-#[cfg(test)]
-mod tests;

@@ -8,7 +8,7 @@ use Rattle.col_disk.specs.declared.disk.DiskFault.{DiskFault}
 use Rattle.col_value.specs.declared.value.Value.TheVariants as value
 use Rattle.std.proofs.lemmas.Bool.Decides.{nat_tests}
 use Rattle.catalog_types.specs.declared.catalogue.Container.{Container}
-use Rattle.col_base.specs.Maps.{Contents}
+use Rattle.common_laws.specs.Maps.{Contents}
 use Rattle.col_disk.proofs.Moving.{moved_join, moved_wider}
 use Rattle.col_disk.specs.declared.disk.Disk.{Ghosts}
 use Rattle.col_disk.specs.Moved.{Moved, NoName, Named, Either}

@@ -2,7 +2,7 @@
 
 ghost use Rattle.std.specs.Prelude.{◌≡◌, ℕ, List, length};
 ghost use Rattle.std.specs.FinMap.{get};
-ghost use Rattle.col_base.specs.Maps.{Contents};
+ghost use Rattle.common_laws.specs.Maps.{Contents};
 ghost use Rattle.col_value.specs.declared.kinds.Encoding.{Encoding};
 ghost use Rattle.col_value.specs.declared.row.Asked.{Asked};
 ghost use Rattle.catalog_types.specs.declared.catalogue.Container.{Container};

@@ -21,6 +21,3 @@ pub use laws::{container_kept, one_container};
 pub use order::sort_rows;
 pub use read::rows;
 pub use write::{write_one, write_rows};
-
-#[cfg(test)]
-mod tests;

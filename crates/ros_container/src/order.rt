@@ -2,7 +2,7 @@
 
 ghost use Rattle.std.specs.Prelude.{◌≡◌, slice_index_or, IfOk};
 ghost use Rattle.std.specs.List.Sorted.{IsSorted};
-ghost use Rattle.col_base.specs.Bags.{SameBag};
+ghost use Rattle.common_laws.specs.Bags.{SameBag};
 ghost use Rattle.col_value.specs.Order.{value_cmp, row_cmp, projected};
 ghost use Rattle.col_value.specs.declared.value.Value.TheVariants.{Null};
 ghost use Rattle.ros_container.specs.Order.{container_cmp};
@@ -49,7 +49,7 @@ fn order(shape: &Projection, a: &Asked, b: &Asked) -> Ordering
     }
 }
 
-#[tactic(auto, using(col_base::proofs::BagLaws::bag_of_permutation))]
+#[tactic(auto, using(common_laws::proofs::BagLaws::bag_of_permutation))]
 /// The same rows in the order of a container: by the sort columns, then by the other columns, then by epoch. A value
 /// that a row lacks is NULL there.
 pub fn sort_rows(shape: &Projection, rows: Vec<Asked>) -> Result<Vec<Asked>, AllocError>

@@ -2,8 +2,8 @@
 
 ghost use Rattle.std.specs.Prelude.{◌≡◌, ◌≤◌, ◌<◌, ◌+◌, ◌*◌, ◌^◌, length, Some, IfOk, IfErr};
 ghost use Rattle.std.specs.List.{All};
-ghost use Rattle.col_base.specs.Causes.{HasCause};
-ghost use Rattle.col_base.specs.Maps.{Contents};
+ghost use Rattle.common_laws.specs.Causes.{HasCause};
+ghost use Rattle.common_laws.specs.Maps.{Contents};
 ghost use Rattle.col_disk.specs.Moved.{Moved, NoName};
 ghost use Rattle.col_file.specs.Held.{HoldsColumn};
 ghost use Rattle.col_value.specs.Order.{IsValue};

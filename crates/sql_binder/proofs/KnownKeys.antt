@@ -4,7 +4,7 @@ use Rattle.std.specs.List.{All}
 use Rattle.std.proofs.lemmas.List.Elements.{All-cons}
 use Rattle.sql_tree.specs.declared.query.Query.{Query}
 use Rattle.sql_tree.specs.declared.query.SortKey.{SortKey}
-use Rattle.sql_tree.specs.declared.statement.NewColumn.{NewColumn}
+use Rattle.col_value.specs.declared.column.Column.{Column}
 use Rattle.sql_binder.specs.Names.{first_of, item_refs, condition_refs}
 use Rattle.sql_binder.specs.Queries.{first_given, unknown_ref, unknown_key, unknown_column, output_names}
 
@@ -18,7 +18,7 @@ given_nowhere f (x ∷ xs) e =
     let both = neither (f x) (first_given f xs) e in
     All-cons (λ y. f y ≡ None) x xs both.0 (given_nowhere f xs both.1)
 
-pub known_keys : (columns : List NewColumn) (q : Query) → unknown_column columns q ≡ None → All (λ k. unknown_key (output_names columns q.items) k.key ≡ None) q.order
+pub known_keys : (columns : List Column) (q : Query) → unknown_column columns q ≡ None → All (λ k. unknown_key (output_names columns q.items) k.key ≡ None) q.order
 known_keys columns q e =
     let f = λ (k : SortKey). unknown_key (output_names columns q.items) k.key in
     given_nowhere f q.order (neither (first_given (unknown_ref columns) (item_refs q.items ++ condition_refs q.keep)) (first_given f q.order) e).1

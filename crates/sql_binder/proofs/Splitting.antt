@@ -2,7 +2,7 @@
 use Rattle.std.proofs.Common.{◌≡◌, refl, sym, ap, ap₂, ◌∙◌, subst, List, [], ◌∷◌, ◌++◌, map, Bool}
 use Rattle.std.specs.List.{flat_map}
 use Rattle.col_value.specs.declared.wide.Wide.{Wide}
-use Rattle.sql_tree.specs.declared.statement.NewColumn.{NewColumn}
+use Rattle.col_value.specs.declared.column.Column.{Column}
 use Rattle.sql_tree.specs.declared.tree.Term.{Term}
 use Rattle.sql_tree.specs.declared.tree.Tree.{Tree}
 use Rattle.sql_tree.specs.declared.tree.Tree
@@ -93,7 +93,7 @@ alone_from x e is one =
     subst Alone is
     (ap (λ (m : Expr × List Expr). m.1) f ∙ (one ∙ (ap (λ (m : Expr × List Expr). m.0 ∷ []) (sym f) ∙ ap (λ (u : Expr). u ∷ []) (kept (roll-Expr x)))))
 
-bound_alone : (columns : List NewColumn) (y : Tree-F Tree Term) → ((ts : List Tree) → roll-Tree y ≡ Tree.And ts → ⊥) → Alone (bound_tree columns (roll-Tree y))
+bound_alone : (columns : List Column) (y : Tree-F Tree Term) → ((ts : List Tree) → roll-Tree y ≡ Tree.And ts → ⊥) → Alone (bound_tree columns (roll-Tree y))
 bound_alone columns y other = subst Alone (sym (fold-roll-Tree Expr BoundTerm (bind_step columns) bind_term y)) (by y other)
   where
     by : (y : Tree-F Tree Term) → ((ts : List Tree) → roll-Tree y ≡ Tree.And ts → ⊥) → Alone (bind_step columns (map-Tree _ _ _ _ (bound_tree columns) (bound_term columns) y))
@@ -109,15 +109,15 @@ bound_alone columns y other = subst Alone (sym (fold-roll-Tree Expr BoundTerm (b
     by (Tree-F.Or ts) other = alone_from (Expr-F.Or (map (bound_tree columns) ts)) _ (rolls-Or (map (bound_tree columns) ts)) refl
     by (Tree-F.Agg k a) other = alone_from (Expr-F.Lit Wide.Null) _ (rolls-Lit Wide.Null) refl
 
-pub members_alone : (columns : List NewColumn) (tree : Tree) → ((ts : List Tree) → tree ≡ Tree.And ts → ⊥) → members columns tree ≡ bound_tree columns tree ∷ []
+pub members_alone : (columns : List Column) (tree : Tree) → ((ts : List Tree) → tree ≡ Tree.And ts → ⊥) → members columns tree ≡ bound_tree columns tree ∷ []
 members_alone columns tree other =
     subst (λ (t : Tree). Alone (bound_tree columns t)) (roll-out-Tree tree) (bound_alone columns (out-Tree tree) (λ ts e. other ts (sym (roll-out-Tree tree) ∙ e)))
 
-members_each : (columns : List NewColumn) (ts : List Tree) → flat_map (λ (m : Expr × List Expr). m.1) (map split (map (bound_tree columns) ts)) ≡ flat_map (members columns) ts
+members_each : (columns : List Column) (ts : List Tree) → flat_map (λ (m : Expr × List Expr). m.1) (map split (map (bound_tree columns) ts)) ≡ flat_map (members columns) ts
 members_each columns [] = refl
 members_each columns (t ∷ ts) = ap (λ (rest : List Expr). members columns t ++ rest) (members_each columns ts)
 
-pub members_of_and : (columns : List NewColumn) (ts : List Tree) → members columns (Tree.And ts) ≡ flat_map (members columns) ts
+pub members_of_and : (columns : List Column) (ts : List Tree) → members columns (Tree.And ts) ≡ flat_map (members columns) ts
 members_of_and columns ts =
     let es = map (bound_tree columns) ts in
     ap (members columns) (sym (tree_and ts))

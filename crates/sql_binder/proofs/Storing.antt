@@ -14,7 +14,7 @@ use Rattle.col_value.specs.declared.wide.Wide.{Wide}
 use Rattle.col_value.specs.declared.wide.Wide.TheVariants as wide
 use Rattle.sql_tree.specs.declared.refusal.Refusal.{Refusal}
 use Rattle.sql_tree.specs.declared.statement.Insert.{Insert}
-use Rattle.sql_tree.specs.declared.statement.NewColumn.{NewColumn}
+use Rattle.col_value.specs.declared.column.Column.{Column}
 use Rattle.sql_bound.specs.declared.expr.Kind.{Kind}
 use Rattle.sql_bound.specs.Kinds.{serves, kind_of_column}
 use Rattle.sql_binder.specs.Names.{first_of}
@@ -23,7 +23,7 @@ use Rattle.sql_binder.specs.Inserts.{pairs, wrong_count, is_of_column, is_out_of
 use Rattle.sql_binder.specs.Flaws.{AreStored}
 
 -- literals beside their columns, none of another kind, out of range or too long
-pub record Fits (ps : List (NewColumn × Wide)) : Type 0 where
+pub record Fits (ps : List (Column × Wide)) : Type 0 where
   pub kinds : list_all is_of_column ps ≡ true
   pub ranges : find is_out_of_range ps ≡ None
   pub lengths : find is_too_long ps ≡ None
@@ -37,7 +37,7 @@ stored_text ColType.Integer t e h = cc
 stored_text ColType.Boolean t e h = cc
 stored_text (ColType.Varchar n) t e h = omega (arith, ltb-false (min n 65000) (length t) h)
 
-stored_literal : (c : NewColumn) (w : Wide) → is_of_column (c, w) ≡ true → is_out_of_range (c, w) ≡ false → is_too_long (c, w) ≡ false → IsValue (narrowed w)
+stored_literal : (c : Column) (w : Wide) → is_of_column (c, w) ≡ true → is_out_of_range (c, w) ≡ false → is_too_long (c, w) ≡ false → IsValue (narrowed w)
 stored_literal c wide.Null k r l = tt
 stored_literal c (wide.Bool b) k r l = tt
 stored_literal c (wide.Int n) k r l = stored_number n r
@@ -52,7 +52,7 @@ both_true : (a b : Bool) → (a && b) ≡ true → (a ≡ true) × (b ≡ true)
 both_true true b e = (refl, e)
 both_true false b e = cc
 
-fits_first : (c : NewColumn) (w : Wide) (ps : List (NewColumn × Wide)) → Fits ((c, w) ∷ ps) → IsValue (narrowed w) × Fits ps
+fits_first : (c : Column) (w : Wide) (ps : List (Column × Wide)) → Fits ((c, w) ∷ ps) → IsValue (narrowed w) × Fits ps
 fits_first c w ps f =
     let k = both_true (is_of_column (c, w)) (list_all is_of_column ps) f.kinds in
     let r = found_nowhere (is_out_of_range (c, w)) (c, w) (find is_out_of_range ps) f.ranges in
@@ -60,7 +60,7 @@ fits_first c w ps f =
     (stored_literal c w k.0 r.0 l.0, record { kinds = k.1; ranges = r.1; lengths = l.1 })
 
 -- a row of as many literals as there are columns
-fits_row : (columns : List NewColumn) (row : List Wide) → length row ≡ length columns → Fits (zip columns row) → AreStored row
+fits_row : (columns : List Column) (row : List Wide) → length row ≡ length columns → Fits (zip columns row) → AreStored row
 fits_row columns [] e f = λ k d h. absurd (omega (arith, h))
 fits_row [] (w ∷ row) e f = absurd (omega (arith, e))
 fits_row (c ∷ columns) (w ∷ row) e f =
@@ -72,7 +72,7 @@ or_none : {X : Type 0} (a b : Option X) → option_or a b ≡ None → (a ≡ No
 or_none None b e = (refl, e)
 or_none (Some x) b e = cc
 
-fits_parts : (xs ys : List (NewColumn × Wide)) → Fits (xs ++ ys) → Fits xs × Fits ys
+fits_parts : (xs ys : List (Column × Wide)) → Fits (xs ++ ys) → Fits xs × Fits ys
 fits_parts xs ys f =
     let k = both_true (list_all is_of_column xs) (list_all is_of_column ys) (sym (list_all-append is_of_column xs ys) ∙ f.kinds) in
     let r = or_none (find is_out_of_range xs) (find is_out_of_range ys) (sym (find-append is_out_of_range xs ys) ∙ f.ranges) in
@@ -83,7 +83,7 @@ right_count : (b : Bool) (n m : ℕ) (o : Option (ℕ × ℕ)) → first_of (con
 right_count true n m o e = (refl, e)
 right_count false n m o e = cc
 
-fits_rows : (columns : List NewColumn) (rows : List (List Wide)) → first_given (wrong_count columns) rows ≡ None → Fits (pairs columns rows) → All AreStored rows
+fits_rows : (columns : List Column) (rows : List (List Wide)) → first_given (wrong_count columns) rows ≡ None → Fits (pairs columns rows) → All AreStored rows
 fits_rows columns [] e f = λ k d h. absurd (omega (arith, h))
 fits_rows columns (row ∷ rows) e f =
     let n = right_count (length row == length columns) (length row) (length columns) (first_given (wrong_count columns) rows) e in
@@ -103,7 +103,7 @@ not_refused true r e = refl
 not_refused false r e = cc
 
 -- the literals of an INSERT that isn't refused
-pub stored_rows : (columns : List NewColumn) (i : Insert) → whole_refusal (Some columns) i ≡ None → All AreStored i.rows
+pub stored_rows : (columns : List Column) (i : Insert) → whole_refusal (Some columns) i ≡ None → All AreStored i.rows
 stored_rows columns i e =
     let ps = pairs columns i.rows in
     let counted = option_map (λ (c : ℕ × ℕ). Refusal.Arity c.0 c.1) (first_given (wrong_count columns) i.rows) in
@@ -118,8 +118,8 @@ stored_rows columns i e =
     fits_rows columns i.rows (none_mapped (λ (c : ℕ × ℕ). Refusal.Arity c.0 c.1) (first_given (wrong_count columns) i.rows) front.0)
     (record {
       kinds = not_refused (list_all is_of_column ps) Refusal.TypeMismatch front.1;
-      ranges = none_mapped (λ (x : NewColumn × Wide). x.0.name) (find is_out_of_range ps) (none_mapped Refusal.IntegerOutOfRange (first_such is_out_of_range ps) back.0);
-      lengths = none_mapped (λ (x : NewColumn × Wide). x.0.name) (find is_too_long ps) (none_mapped Refusal.TextTooLong (first_such is_too_long ps) last.0);
+      ranges = none_mapped (λ (x : Column × Wide). x.0.name) (find is_out_of_range ps) (none_mapped Refusal.IntegerOutOfRange (first_such is_out_of_range ps) back.0);
+      lengths = none_mapped (λ (x : Column × Wide). x.0.name) (find is_too_long ps) (none_mapped Refusal.TextTooLong (first_such is_too_long ps) last.0);
     })
 
 -- literals that are stored make rows of a table

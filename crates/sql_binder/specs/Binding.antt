@@ -7,7 +7,7 @@ use Rattle.sql_tree.specs.declared.tree.Tree.{Tree}
 use Rattle.sql_tree.specs.declared.tree.Tree.TheOpen.{Tree-F, Term-F}
 use Rattle.sql_tree.specs.declared.tree.Tree.TheFolds.{fold-Tree, fold-Term}
 use Rattle.sql_tree.specs.declared.tree.Term.{Term}
-use Rattle.sql_tree.specs.declared.statement.NewColumn.{NewColumn}
+use Rattle.col_value.specs.declared.column.Column.{Column}
 use Rattle.sql_bound.specs.declared.expr.Expr.{Expr}
 use Rattle.sql_bound.specs.declared.expr.Expr as expr
 use Rattle.sql_bound.specs.declared.expr.BoundTerm.{BoundTerm}
@@ -15,14 +15,14 @@ use Rattle.sql_bound.specs.declared.expr.Expr.TheOpen.{Expr-F, BoundTerm-F}
 use Rattle.sql_bound.specs.declared.expr.Expr.TheFolds.{fold-Expr}
 
 -- the place of a column of this name, none where the table has none
-abbrev pub column_at : List NewColumn → List ℕ → Option ℕ
+abbrev pub column_at : List Column → List ℕ → Option ℕ
 column_at columns name = position (λ c. bytes_eq c.name name) columns
 
-abbrev pub place_of : List NewColumn → List ℕ → ℕ
+abbrev pub place_of : List Column → List ℕ → ℕ
 place_of columns name = option_map_or (λ i. i) (column_at columns name) 0
 
 -- a column by its place; aggregates are not bound here
-abbrev pub bind_step : List NewColumn → Tree-F Expr BoundTerm → Expr
+abbrev pub bind_step : List Column → Tree-F Expr BoundTerm → Expr
 bind_step columns (Tree-F.Lit w) = expr.Lit w
 bind_step columns (Tree-F.Col r) = expr.Col (place_of columns r.name)
 bind_step columns (Tree-F.Neg a) = expr.Neg a
@@ -38,10 +38,10 @@ bind_step columns (Tree-F.Agg k a) = expr.Lit wide.Null
 abbrev pub bind_term : Term-F Expr BoundTerm → BoundTerm
 bind_term t = record { minus = t.minus; part = t.part }
 
-abbrev pub bound_tree : List NewColumn → Tree → Expr
+abbrev pub bound_tree : List Column → Tree → Expr
 bound_tree columns = fold-Tree Expr BoundTerm (bind_step columns) bind_term
 
-abbrev pub bound_term : List NewColumn → Term → BoundTerm
+abbrev pub bound_term : List Column → Term → BoundTerm
 bound_term columns = fold-Term Expr BoundTerm (bind_step columns) bind_term
 
 -- an expression with the members of its conjunction
@@ -73,5 +73,5 @@ abbrev pub conjuncts : Expr → List Expr
 conjuncts e = (fold-Expr (Expr × List Expr) (BoundTerm × List Expr) split_step split_term e).1
 
 -- the members of a condition
-abbrev pub members : List NewColumn → Tree → List Expr
+abbrev pub members : List Column → Tree → List Expr
 members columns tree = conjuncts (bound_tree columns tree)

@@ -4,12 +4,12 @@ use Rattle.std.specs.List.{All}
 use Rattle.col_value.specs.Order.{IsValue}
 use Rattle.col_value.specs.declared.wide.Wide.{Wide}
 use Rattle.sql_tree.specs.declared.refusal.Refusal.{Refusal}
-use Rattle.sql_tree.specs.declared.statement.NewColumn.{NewColumn}
+use Rattle.col_value.specs.declared.column.Column.{Column}
 use Rattle.sql_binder.specs.declared.flaw.Flaw.{Flaw}
 use Rattle.sql_binder.specs.declared.naming.Naming.{Naming}
 use Rattle.sql_binder.specs.Inserts.{is_out_of_range, is_too_long, is_refused_null, first_such, narrowed}
 
-abbrev pub has_flaw : Flaw → NewColumn × Wide → Bool
+abbrev pub has_flaw : Flaw → Column × Wide → Bool
 has_flaw Flaw.Range = is_out_of_range
 has_flaw Flaw.Length = is_too_long
 has_flaw Flaw.Null = is_refused_null
@@ -28,7 +28,7 @@ refusal_named Naming.TextTooLong = Refusal.TextTooLong
 refusal_named Naming.NullRefused = Refusal.NullRefused
 
 -- how some literals are refused that have a flaw
-abbrev pub flaw_refusal : Flaw → List (NewColumn × Wide) → Option Refusal
+abbrev pub flaw_refusal : Flaw → List (Column × Wide) → Option Refusal
 flaw_refusal f ps = option_map (refusal_named (naming_of f)) (first_such (has_flaw f) ps)
 
 -- the values of some literals are values of a table

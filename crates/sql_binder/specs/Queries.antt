@@ -13,7 +13,7 @@ use Rattle.sql_tree.specs.declared.query.KeyRef.{KeyRef}
 use Rattle.sql_tree.specs.declared.query.Source.{Source}
 use Rattle.sql_tree.specs.declared.query.Query.{Query}
 use Rattle.sql_tree.specs.declared.refusal.Refusal.{Refusal}
-use Rattle.sql_tree.specs.declared.statement.NewColumn.{NewColumn}
+use Rattle.col_value.specs.declared.column.Column.{Column}
 use Rattle.sql_bound.specs.declared.expr.Expr.{Expr}
 use Rattle.sql_bound.specs.declared.expr.Expr as expr
 use Rattle.sql_bound.specs.declared.query.BoundQuery.{BoundQuery}
@@ -40,7 +40,7 @@ unknown_table q is_there =
     (first_of (if is_there then None else Some (source_table q)) (stray_qualifier (source_name q) (condition_refs q.keep)))
 
 -- the names of the output columns, where they have one
-abbrev pub output_names : List NewColumn → Items → List (Option (List ℕ))
+abbrev pub output_names : List Column → Items → List (Option (List ℕ))
 output_names columns Items.Star = map (λ c. Some c.name) columns
 output_names columns (Items.Listed items) = map output_name items
 
@@ -71,25 +71,25 @@ abbrev pub first_given : {X Y : Type 0} → (X → Option Y) → List X → Opti
 first_given f [] = None
 first_given f (x ∷ xs) = first_of (f x) (first_given f xs)
 
-abbrev pub unknown_ref : List NewColumn → ColRef → Option (List ℕ)
+abbrev pub unknown_ref : List Column → ColRef → Option (List ℕ)
 unknown_ref columns r = option_map_or (λ i. None) (column_at columns r.name) (Some r.name)
 
 -- a column that names nothing, the first in the text
-abbrev pub unknown_column : List NewColumn → Query → Option (List ℕ)
+abbrev pub unknown_column : List Column → Query → Option (List ℕ)
 unknown_column columns q =
     first_of (first_given (unknown_ref columns) (item_refs q.items ++ condition_refs q.keep))
     (first_given (λ k. unknown_key (output_names columns q.items) k.key) q.order)
 
-abbrev pub ambiguous_name : List NewColumn → Query → Option (List ℕ)
+abbrev pub ambiguous_name : List Column → Query → Option (List ℕ)
 ambiguous_name columns q = first_given (λ k. twice_named (output_names columns q.items) k.key) q.order
 
 -- the items: `*` stands for all columns in order
-abbrev pub bound_items : List NewColumn → Items → List Expr
+abbrev pub bound_items : List Column → Items → List Expr
 bound_items columns Items.Star = map (λ e. expr.Col e.0) (enumerate_from 0 columns)
 bound_items columns (Items.Listed items) = map (λ i. bound_tree columns i.tree) items
 
 -- the condition, split at its ANDs
-abbrev pub bound_keep : List NewColumn → Option Tree → List Expr
+abbrev pub bound_keep : List Column → Option Tree → List Expr
 bound_keep columns keep = option_map_or (λ t. conjuncts (bound_tree columns t)) keep []
 
 -- the place of the output column that a key names
@@ -98,11 +98,11 @@ key_place outputs (KeyRef.Number (pos n)) = n - 1
 key_place outputs (KeyRef.Number n) = 0
 key_place outputs (KeyRef.Name name) = option_map_or (λ i. i) (position (is_named name) outputs) 0
 
-abbrev pub bound_order : List NewColumn → Query → List (ℕ × Bool)
+abbrev pub bound_order : List Column → Query → List (ℕ × Bool)
 bound_order columns q = map (λ k. (key_place (output_names columns q.items) k.key, k.descending)) q.order
 
 -- the query over the columns of its table, which is the one at this place
-abbrev pub bound_query : ℕ → List NewColumn → Query → BoundQuery
+abbrev pub bound_query : ℕ → List Column → Query → BoundQuery
 bound_query table columns q = record {
   sources = record { table = table; first = 0; columns = length columns } ∷ [];
   keep = bound_keep columns q.keep;
@@ -116,7 +116,7 @@ bound_query table columns q = record {
 }
 
 -- the kinds of the table's columns
-abbrev pub kinds_over : List NewColumn → Kinds
+abbrev pub kinds_over : List Column → Kinds
 kinds_over columns = record { columns = map (λ c. kind_of_column c.kind) columns; keys = []; aggs = [] }
 
 -- each item is typed, and each condition a truth value
@@ -131,19 +131,19 @@ abbrev pub refused_where : Bool → Refusal → Option Refusal
 refused_where wrong r = if wrong then Some r else None
 
 -- a name that isn't there, or that stands twice
-abbrev pub name_refusal : List NewColumn → Query → Option Refusal
+abbrev pub name_refusal : List Column → Query → Option Refusal
 name_refusal columns q = first_of (option_map Refusal.UnknownColumn (unknown_column columns q)) (option_map Refusal.Ambiguous (ambiguous_name columns q))
 
 -- an expression that isn't typed, or too wide
-abbrev pub tree_refusal : List NewColumn → BoundQuery → Option Refusal
+abbrev pub tree_refusal : List Column → BoundQuery → Option Refusal
 tree_refusal columns b = first_of (refused_where (not (is_typed (kinds_over columns) b)) Refusal.TypeMismatch) (refused_where (not (is_narrow_query b)) Refusal.TooWide)
 
 -- why a query over this table is refused: each is looked for in the whole statement before the next
-abbrev pub refusal_over : List NewColumn → Query → Option Refusal
+abbrev pub refusal_over : List Column → Query → Option Refusal
 refusal_over columns q = first_of (name_refusal columns q) (tree_refusal columns (bound_query 0 columns q))
 
 -- Why a query is refused, whose table has these columns; None where there is no such table.
-abbrev pub query_refusal : Option (List NewColumn) → Query → Option Refusal
+abbrev pub query_refusal : Option (List Column) → Query → Option Refusal
 query_refusal None q = option_map Refusal.UnknownTable (unknown_table q false)
 query_refusal (Some columns) q = first_of (option_map Refusal.UnknownTable (unknown_table q true)) (refusal_over columns q)
 

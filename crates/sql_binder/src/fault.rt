@@ -1,14 +1,15 @@
 ghost use Rattle.std.specs.Prelude.{◌≡◌, Some};
 ghost use Rattle.sql_binder.specs.declared.fault.BindFault.TheVariants.{Memory};
 
-use sql_tree::{NewColumn, Refusal};
+use col_value::Column;
+use sql_tree::Refusal;
 use std::alloc::{AllocError, AllocFailed};
 
 /// A table that a statement names: its place among all tables, and its columns.
 #[derive(Clone, Copy)]
 pub struct Found<'a> {
     pub table: usize,
-    pub columns: &'a [NewColumn],
+    pub columns: &'a [Column],
 }
 
 /// Why a statement was not bound.

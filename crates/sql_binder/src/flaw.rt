@@ -3,8 +3,7 @@ ghost use Rattle.sql_binder.specs.Flaws.{has_flaw, naming_of};
 ghost use Rattle.sql_binder.specs.Inserts.{is_of_column, is_stored_number, width_of};
 
 use crate::naming::Naming;
-use col_value::{ColType, Wide};
-use sql_tree::NewColumn;
+use col_value::{ColType, Column, Wide};
 
 /// Why a literal of the right kind can't be stored in a column.
 #[derive(Clone, Copy)]
@@ -16,7 +15,7 @@ pub(crate) enum Flaw {
 
 impl Flaw {
     /// Whether the literal has the flaw in this column.
-    pub(crate) fn is_in(self, column: &NewColumn, literal: &Wide) -> bool
+    pub(crate) fn is_in(self, column: &Column, literal: &Wide) -> bool
         ensures { result ≡ has_flaw self (column.now, literal.now) }
     {
         match (self, literal) {
@@ -58,7 +57,7 @@ fn width_of(kind: ColType) -> usize
 }
 
 /// Whether the literal is of the column's kind.
-pub(crate) fn is_of_column(column: &NewColumn, literal: &Wide) -> bool
+pub(crate) fn is_of_column(column: &Column, literal: &Wide) -> bool
     ensures { result ≡ is_of_column (column.now, literal.now) }
 {
     match (literal, column.kind) {

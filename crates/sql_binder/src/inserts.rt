@@ -10,8 +10,8 @@ use crate::literals::{are_of_columns, first_flaw, wrong_count};
 use crate::naming::Naming;
 use crate::narrow::narrow_rows;
 use crate::{BindFault, Found};
-use col_value::{Row, WideRow};
-use sql_tree::{Insert, NewColumn, Refusal};
+use col_value::{Column, Row, WideRow};
+use sql_tree::{Insert, Refusal};
 use std::alloc::Global;
 
 /// The rows of an INSERT, whose table was found, or was not. What its rows hold is looked at last: a number out of range, a text too
@@ -33,7 +33,7 @@ pub fn bind_insert(
 }
 
 /// Refuses what can't be stored in a table with these columns.
-fn check_insert(alloc: Global, columns: &[NewColumn], insert: &Insert) -> Result<(), BindFault>
+fn check_insert(alloc: Global, columns: &[Column], insert: &Insert) -> Result<(), BindFault>
     ensures ok { OnOk result (whole_refusal (Some columns.now) insert.now ≡ None) }
     ensures refused { IfErr result (RefusesBy (whole_refusal (Some columns.now) insert.now)) }
 {
@@ -42,7 +42,7 @@ fn check_insert(alloc: Global, columns: &[NewColumn], insert: &Insert) -> Result
 }
 
 /// Refuses literals that don't fit the columns, by number or by kind.
-fn check_literals(columns: &[NewColumn], insert: &Insert) -> Result<(), BindFault>
+fn check_literals(columns: &[Column], insert: &Insert) -> Result<(), BindFault>
     ensures ok { OnOk result (literal_refusal columns.now insert.now ≡ None) }
     ensures refused { IfErr result (RefusesBy (literal_refusal columns.now insert.now)) }
 {
@@ -52,7 +52,7 @@ fn check_literals(columns: &[NewColumn], insert: &Insert) -> Result<(), BindFaul
 }
 
 /// Refuses literals with a flaw.
-fn check_stored(alloc: Global, columns: &[NewColumn], insert: &Insert) -> Result<(), BindFault>
+fn check_stored(alloc: Global, columns: &[Column], insert: &Insert) -> Result<(), BindFault>
     ensures ok { OnOk result (stored_refusal columns.now insert.now ≡ None) }
     ensures refused { IfErr result (RefusesBy (stored_refusal columns.now insert.now)) }
 {
@@ -63,7 +63,7 @@ fn check_stored(alloc: Global, columns: &[NewColumn], insert: &Insert) -> Result
 }
 
 /// Refuses a row of another number of values than there are columns.
-fn check_counts(columns: &[NewColumn], rows: &[WideRow]) -> Result<(), BindFault>
+fn check_counts(columns: &[Column], rows: &[WideRow]) -> Result<(), BindFault>
     ensures ok { OnOk result (first_given (wrong_count columns.now) rows.now ≡ None) }
     ensures refused { IfErr result (RefusesBy (option_map (λ c. Refusal.Arity c.0 c.1) (first_given (wrong_count columns.now) rows.now))) }
 {
@@ -74,7 +74,7 @@ fn check_counts(columns: &[NewColumn], rows: &[WideRow]) -> Result<(), BindFault
 }
 
 /// Refuses a literal of another kind than its column.
-fn check_kinds(columns: &[NewColumn], rows: &[WideRow]) -> Result<(), BindFault>
+fn check_kinds(columns: &[Column], rows: &[WideRow]) -> Result<(), BindFault>
     ensures ok { OnOk result (list_all is_of_column (pairs columns.now rows.now) ≡ true) }
     ensures refused { IfErr result (RefusesBy (refused_where (not (list_all is_of_column (pairs columns.now rows.now))) Refusal.TypeMismatch)) }
 {
@@ -89,7 +89,7 @@ fn check_kinds(columns: &[NewColumn], rows: &[WideRow]) -> Result<(), BindFault>
 fn check_flaw(
     alloc: Global,
     flaw: Flaw,
-    columns: &[NewColumn],
+    columns: &[Column],
     rows: &[WideRow],
 ) -> Result<(), BindFault>
     ensures ok { OnOk result (flaw_refusal flaw (pairs columns.now rows.now) ≡ None) }

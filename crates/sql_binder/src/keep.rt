@@ -4,15 +4,15 @@ ghost use Rattle.sql_binder.specs.Binding.{bound_tree, members};
 ghost use Rattle.sql_binder.specs.Queries.{bound_keep};
 
 use crate::trees::bind_tree;
-use col_value::List;
+use col_value::{Column, List};
 use sql_bound::Expr;
-use sql_tree::{NewColumn, Tree};
+use sql_tree::Tree;
 use std::alloc::{AllocError, Global};
 
 /// The bound trees of a condition, split at its ANDs.
 pub(crate) fn bind_keep(
     alloc: Global,
-    columns: &[NewColumn],
+    columns: &[Column],
     keep: &Option<Tree>,
 ) -> Result<List<Expr>, AllocError>
     ensures { IfOk result (λ l. l ≡ bound_keep columns.now keep.now) }
@@ -28,7 +28,7 @@ pub(crate) fn bind_keep(
 #[cycle(members)]
 fn push_members(
     alloc: Global,
-    columns: &[NewColumn],
+    columns: &[Column],
     tree: &Tree,
     out: &mut Vec<Expr>,
 ) -> Result<(), AllocError>
@@ -43,7 +43,7 @@ fn push_members(
 #[cycle(members)]
 fn push_each(
     alloc: Global,
-    columns: &[NewColumn],
+    columns: &[Column],
     trees: &[Tree],
     out: &mut Vec<Expr>,
 ) -> Result<(), AllocError>
@@ -57,7 +57,7 @@ fn push_each(
 
 fn push_one(
     alloc: Global,
-    columns: &[NewColumn],
+    columns: &[Column],
     tree: &Tree,
     out: &mut Vec<Expr>,
 ) -> Result<(), AllocError>

@@ -5,11 +5,10 @@ ghost use Rattle.sql_binder.specs.Inserts.{pairs, wrong_count, is_of_column, fir
 ghost use Rattle.sql_binder.specs.Queries.{first_given};
 
 use crate::flaw::{Flaw, is_of_column};
-use col_value::{Name, Wide, WideRow};
-use sql_tree::NewColumn;
+use col_value::{Column, Name, Wide, WideRow};
 
 /// How many values the first row has that has another number of them than there are columns.
-pub(crate) fn wrong_count(columns: &[NewColumn], rows: &[WideRow]) -> Option<usize>
+pub(crate) fn wrong_count(columns: &[Column], rows: &[WideRow]) -> Option<usize>
     ensures { option_map (λ n. (n, length columns.now)) result ≡ first_given (wrong_count columns.now) rows.now }
 {
     for row in rows {
@@ -22,7 +21,7 @@ pub(crate) fn wrong_count(columns: &[NewColumn], rows: &[WideRow]) -> Option<usi
 }
 
 /// Whether each literal is of its column's kind.
-pub(crate) fn are_of_columns(columns: &[NewColumn], rows: &[WideRow]) -> bool
+pub(crate) fn are_of_columns(columns: &[Column], rows: &[WideRow]) -> bool
     ensures { result ≡ list_all is_of_column (pairs columns.now rows.now) }
 {
     for row in rows {
@@ -33,7 +32,7 @@ pub(crate) fn are_of_columns(columns: &[NewColumn], rows: &[WideRow]) -> bool
     true
 }
 
-fn is_of_columns(columns: &[NewColumn], row: &[Wide]) -> bool
+fn is_of_columns(columns: &[Column], row: &[Wide]) -> bool
     ensures { result ≡ list_all is_of_column (zip columns.now row.now) }
 {
     for (i, column) in columns.iter().enumerate() {
@@ -50,7 +49,7 @@ fn is_of_columns(columns: &[NewColumn], row: &[Wide]) -> bool
 /// The name of the column of the first literal that has the flaw.
 pub(crate) fn first_flaw<'a>(
     flaw: Flaw,
-    columns: &'a [NewColumn],
+    columns: &'a [Column],
     rows: &[WideRow],
 ) -> Option<&'a Name>
     ensures { option_map (λ n. n.now) result ≡ first_such (has_flaw flaw) (pairs columns.entry.now rows.now) }
@@ -63,7 +62,7 @@ pub(crate) fn first_flaw<'a>(
     None
 }
 
-fn flaw_in<'a>(flaw: Flaw, columns: &'a [NewColumn], row: &[Wide]) -> Option<&'a Name>
+fn flaw_in<'a>(flaw: Flaw, columns: &'a [Column], row: &[Wide]) -> Option<&'a Name>
     ensures { option_map (λ n. n.now) result ≡ first_such (has_flaw flaw) (zip columns.entry.now row.now) }
 {
     for (i, column) in columns.iter().enumerate() {

@@ -8,14 +8,14 @@ use crate::BindFault;
 use crate::keys::{first_twice, first_unknown};
 use crate::naming::Naming;
 use crate::scope::lacking;
-use col_value::Name;
-use sql_tree::{NewColumn, Query};
+use col_value::{Column, Name};
+use sql_tree::Query;
 use std::alloc::Global;
 
 /// Refuses a query in which a name isn't there, or stands for two output columns; `outputs` are the names of these.
 pub(crate) fn check_names(
     alloc: Global,
-    columns: &[NewColumn],
+    columns: &[Column],
     outputs: &[Option<Name>],
     query: &Query,
 ) -> Result<(), BindFault>
@@ -32,7 +32,7 @@ pub(crate) fn check_names(
 /// Refuses a column that names nothing.
 fn check_columns(
     alloc: Global,
-    columns: &[NewColumn],
+    columns: &[Column],
     outputs: &[Option<Name>],
     query: &Query,
 ) -> Result<(), BindFault>
@@ -52,7 +52,7 @@ fn check_columns(
 /// Refuses a key of ORDER BY that names two output columns.
 fn check_twice(
     alloc: Global,
-    columns: &[NewColumn],
+    columns: &[Column],
     outputs: &[Option<Name>],
     query: &Query,
 ) -> Result<(), BindFault>

@@ -3,14 +3,14 @@ ghost use Rattle.std.specs.List.{list_any};
 ghost use Rattle.sql_binder.specs.Names.{output_name, plain_name};
 ghost use Rattle.sql_binder.specs.Queries.{output_names, is_named, count_named};
 
-use col_value::Name;
-use sql_tree::{Item, Items, NewColumn, Tree};
+use col_value::{Column, Name};
+use sql_tree::{Item, Items, Tree};
 use std::alloc::{AllocError, Global};
 
 /// The names of the output columns, where they have one.
 pub(crate) fn output_names(
     alloc: Global,
-    columns: &[NewColumn],
+    columns: &[Column],
     items: &Items,
 ) -> Result<Vec<Option<Name>>, AllocError>
     ensures { IfOk result (λ v. v.items ≡ output_names columns.now items.now) }
@@ -21,7 +21,7 @@ pub(crate) fn output_names(
     }
 }
 
-fn column_names(alloc: Global, columns: &[NewColumn]) -> Result<Vec<Option<Name>>, AllocError>
+fn column_names(alloc: Global, columns: &[Column]) -> Result<Vec<Option<Name>>, AllocError>
     ensures { IfOk result (λ v. v.items ≡ map (λ c. Some c.name) columns.now) }
 {
     let mut out = Vec::with_capacity(alloc, columns.len())?;

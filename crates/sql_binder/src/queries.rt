@@ -14,9 +14,9 @@ use crate::scope::{stray, without_table};
 use crate::trees::bind_tree;
 use crate::types::check_trees;
 use crate::{BindFault, Found};
-use col_value::{List, Name};
+use col_value::{Column, List, Name};
 use sql_bound::{BoundQuery, Expr, FromItem};
-use sql_tree::{Item, Items, NewColumn, Query};
+use sql_tree::{Item, Items, Query};
 use std::alloc::{AllocError, Global};
 
 /// The bound tree of a query over one FROM item without groups, whose table was found, or was not.
@@ -88,7 +88,7 @@ fn bind_source(alloc: Global, found: Found<'_>) -> Result<List<FromItem>, AllocE
     Ok(List::new(out))
 }
 
-fn bind_items(alloc: Global, columns: &[NewColumn], items: &Items) -> Result<List<Expr>, AllocError>
+fn bind_items(alloc: Global, columns: &[Column], items: &Items) -> Result<List<Expr>, AllocError>
     ensures { IfOk result (λ l. l ≡ bound_items columns.now items.now) }
 {
     match items {
@@ -97,7 +97,7 @@ fn bind_items(alloc: Global, columns: &[NewColumn], items: &Items) -> Result<Lis
     }
 }
 
-fn all_columns(alloc: Global, columns: &[NewColumn]) -> Result<List<Expr>, AllocError>
+fn all_columns(alloc: Global, columns: &[Column]) -> Result<List<Expr>, AllocError>
     ensures { IfOk result (λ l. l ≡ map (λ e. expr.Col e.0) (enumerate_from 0 columns.now)) }
 {
     let mut out = Vec::with_capacity(alloc, columns.len())?;
@@ -107,11 +107,7 @@ fn all_columns(alloc: Global, columns: &[NewColumn]) -> Result<List<Expr>, Alloc
     Ok(List::new(out))
 }
 
-fn bind_listed(
-    alloc: Global,
-    columns: &[NewColumn],
-    items: &[Item],
-) -> Result<List<Expr>, AllocError>
+fn bind_listed(alloc: Global, columns: &[Column], items: &[Item]) -> Result<List<Expr>, AllocError>
     ensures { IfOk result (λ l. l ≡ map (λ i. bound_tree columns.now i.tree) items.now) }
 {
     let mut out = Vec::with_capacity(alloc, items.len())?;

@@ -4,7 +4,8 @@ ghost use Rattle.sql_binder.specs.Binding.{column_at};
 ghost use Rattle.sql_binder.specs.Names.{refs, is_stray, item_refs, condition_refs};
 ghost use Rattle.sql_binder.specs.Seeking.{is_sought, refs_of_term};
 
-use sql_tree::{ColRef, Item, Items, NewColumn, Term, Tree};
+use col_value::Column;
+use sql_tree::{ColRef, Item, Items, Term, Tree};
 
 /// What is looked for among the columns that a statement names.
 #[derive(Clone, Copy)]
@@ -12,11 +13,11 @@ pub(crate) enum Sought<'a> {
     /// A qualifier other than this name.
     Stray(&'a [u8]),
     /// A name that none of the columns has.
-    Unknown(&'a [NewColumn]),
+    Unknown(&'a [Column]),
 }
 
 /// The place of the column of this name.
-pub(crate) fn column_at(columns: &[NewColumn], name: &[u8]) -> Option<usize>
+pub(crate) fn column_at(columns: &[Column], name: &[u8]) -> Option<usize>
     ensures { result ≡ column_at columns.now name.now }
 {
     columns.iter().position(|c| c.name.as_slice() == name)

@@ -5,8 +5,8 @@ ghost use Rattle.sql_binder.specs.Queries.{first_given, unknown_ref, source_name
 ghost use Rattle.sql_binder.specs.Seeking.{is_sought};
 
 use crate::refs::{Sought, first_in_condition, first_in_items};
-use col_value::Name;
-use sql_tree::{ColRef, NewColumn, Query, Source};
+use col_value::{Column, Name};
+use sql_tree::{ColRef, Query, Source};
 
 /// What a query names whose table isn't there, first in its text.
 pub(crate) fn without_table(query: &Query) -> &[u8]
@@ -83,7 +83,7 @@ fn item_name(source: &Source) -> &[u8]
 }
 
 /// The first column in the items and the condition that the table lacks.
-pub(crate) fn lacking<'a>(columns: &[NewColumn], query: &'a Query) -> Option<&'a Name>
+pub(crate) fn lacking<'a>(columns: &[Column], query: &'a Query) -> Option<&'a Name>
     ensures { option_map (λ n. n.now) result ≡ first_given (unknown_ref columns.now) (item_refs query.now.items ++ condition_refs query.now.keep) }
 {
     match first_in_query(Sought::Unknown(columns), query) {

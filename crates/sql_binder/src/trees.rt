@@ -2,18 +2,14 @@ ghost use Rattle.std.specs.Prelude.{◌≡◌, map, IfOk};
 ghost use Rattle.sql_binder.specs.Binding.{bound_tree, bound_term, place_of};
 
 use crate::refs::column_at;
-use col_value::{Boxed, List, Wide};
+use col_value::{Boxed, Column, List, Wide};
 use sql_bound::{BoundTerm, Expr};
-use sql_tree::{NewColumn, Term, Tree};
+use sql_tree::{Term, Tree};
 use std::alloc::{AllocError, Global};
 
 /// The bound tree of an expression; a literal is copied once.
 #[cycle(bind)]
-pub(crate) fn bind_tree(
-    alloc: Global,
-    columns: &[NewColumn],
-    tree: &Tree,
-) -> Result<Expr, AllocError>
+pub(crate) fn bind_tree(alloc: Global, columns: &[Column], tree: &Tree) -> Result<Expr, AllocError>
     ensures { IfOk result (λ e. e ≡ bound_tree columns.now tree.now) }
 {
     match tree {
@@ -36,18 +32,14 @@ pub(crate) fn bind_tree(
 }
 
 #[cycle(bind)]
-fn bind_boxed(alloc: Global, columns: &[NewColumn], tree: &Tree) -> Result<Boxed<Expr>, AllocError>
+fn bind_boxed(alloc: Global, columns: &[Column], tree: &Tree) -> Result<Boxed<Expr>, AllocError>
     ensures { IfOk result (λ e. e ≡ bound_tree columns.now tree.now) }
 {
     Boxed::new(alloc, bind_tree(alloc, columns, tree)?)
 }
 
 #[cycle(bind)]
-fn bind_trees(
-    alloc: Global,
-    columns: &[NewColumn],
-    trees: &[Tree],
-) -> Result<List<Expr>, AllocError>
+fn bind_trees(alloc: Global, columns: &[Column], trees: &[Tree]) -> Result<List<Expr>, AllocError>
     ensures { IfOk result (λ l. l ≡ map (bound_tree columns.now) trees.now) }
 {
     let mut out = Vec::with_capacity(alloc, trees.len())?;
@@ -60,7 +52,7 @@ fn bind_trees(
 #[cycle(bind)]
 fn bind_terms(
     alloc: Global,
-    columns: &[NewColumn],
+    columns: &[Column],
     terms: &[Term],
 ) -> Result<List<BoundTerm>, AllocError>
     ensures { IfOk result (λ l. l ≡ map (bound_term columns.now) terms.now) }
@@ -73,7 +65,7 @@ fn bind_terms(
 }
 
 #[cycle(bind)]
-fn bind_term(alloc: Global, columns: &[NewColumn], term: &Term) -> Result<BoundTerm, AllocError>
+fn bind_term(alloc: Global, columns: &[Column], term: &Term) -> Result<BoundTerm, AllocError>
     ensures { IfOk result (λ t. t ≡ bound_term columns.now term.now) }
 {
     Ok(BoundTerm {
@@ -83,7 +75,7 @@ fn bind_term(alloc: Global, columns: &[NewColumn], term: &Term) -> Result<BoundT
 }
 
 /// The place of a column, 0 where it is not there.
-fn place_of(columns: &[NewColumn], name: &[u8]) -> usize
+fn place_of(columns: &[Column], name: &[u8]) -> usize
     ensures { result ≡ place_of columns.now name.now }
 {
     column_at(columns, name).unwrap_or(0)

@@ -7,16 +7,16 @@ ghost use Rattle.sql_binder.specs.Bound.{RefusesBy};
 ghost use Rattle.sql_binder.specs.Queries.{kinds_over, is_typed, is_narrow_query, refused_where, tree_refusal};
 
 use crate::BindFault;
-use col_value::ColType;
+use col_value::{ColType, Column};
 use expr_check::{Places, is_condition, is_narrow, kind_of};
 use sql_bound::{BoundQuery, Expr, Kind};
-use sql_tree::{NewColumn, Refusal};
+use sql_tree::Refusal;
 use std::alloc::{AllocError, Global};
 
 /// Refuses a query of which an expression isn't typed, or too wide.
 pub(crate) fn check_trees(
     alloc: Global,
-    columns: &[NewColumn],
+    columns: &[Column],
     query: &BoundQuery,
 ) -> Result<(), BindFault>
     ensures ok { OnOk result (tree_refusal columns.now query.now ≡ None) }
@@ -26,7 +26,7 @@ pub(crate) fn check_trees(
     check_bounds(query)
 }
 
-fn check_types(alloc: Global, columns: &[NewColumn], query: &BoundQuery) -> Result<(), BindFault>
+fn check_types(alloc: Global, columns: &[Column], query: &BoundQuery) -> Result<(), BindFault>
     ensures ok { OnOk result (is_typed (kinds_over columns.now) query.now ≡ true) }
     ensures refused { IfErr result (RefusesBy (refused_where (not (is_typed (kinds_over columns.now) query.now)) Refusal.TypeMismatch)) }
 {
@@ -50,7 +50,7 @@ fn check_bounds(query: &BoundQuery) -> Result<(), BindFault>
 }
 
 /// The kinds of the columns.
-fn kinds_of(alloc: Global, columns: &[NewColumn]) -> Result<Vec<Kind>, AllocError>
+fn kinds_of(alloc: Global, columns: &[Column]) -> Result<Vec<Kind>, AllocError>
     ensures { IfOk result (λ v. v.items ≡ map (λ c. kind_of_column c.kind) columns.now) }
 {
     let mut out = Vec::with_capacity(alloc, columns.len())?;

@@ -12,8 +12,6 @@ mod level;
 mod predicates;
 mod primaries;
 mod sums;
-#[cfg(test)]
-mod tests;
 
 pub use expressions::{expr, grouped_expr};
 pub use leaves::{literal, reference};

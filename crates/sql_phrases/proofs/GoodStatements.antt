@@ -9,7 +9,7 @@ use Rattle.sql_words.specs.declared.token.Sign.{Sign}
 use Rattle.sql_words.specs.Symbols.{Symbol}
 use Rattle.sql_tree.specs.declared.query.At.{At}
 use Rattle.sql_tree.specs.declared.statement.Function.{Function}
-use Rattle.sql_tree.specs.declared.statement.NewColumn.{NewColumn}
+use Rattle.col_value.specs.declared.column.Column.{Column}
 use Rattle.sql_tree.specs.declared.statement.NewPart.{NewPart}
 use Rattle.sql_tree.specs.declared.statement.Setting.{Setting}
 use Rattle.sql_tree.specs.declared.statement.Statement.{Statement}
@@ -36,7 +36,7 @@ good_not_null = good_at_key Key.Not refl (good_key Key.Not (good_key Key.Null (g
 pub good_new_column : Good NewColumns new_column name_classes false (of_keys (Key.Not ∷ []))
 unfolding new_column
 good_new_column = good_then refl good_name (λ n. good_then refl good_kind (λ k.
-    let with_rule : Bool → NewColumn = λ b. record { name = n; kind = k; not_null = b } in
+    let with_rule : Bool → Column = λ b. record { name = n; kind = k; not_null = b } in
     good_made with_rule good_not_null))
 
 pub good_creates_table : Good CreatesTable creates_table (of_keys (Key.Table ∷ [])) false []

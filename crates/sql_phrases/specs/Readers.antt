@@ -17,7 +17,7 @@ use Rattle.sql_tree.specs.declared.query.Query.{Query}
 use Rattle.sql_tree.specs.declared.query.SortKey.{SortKey}
 use Rattle.sql_tree.specs.declared.query.Source.{Source}
 use Rattle.sql_tree.specs.declared.statement.Function.{Function}
-use Rattle.sql_tree.specs.declared.statement.NewColumn.{NewColumn}
+use Rattle.col_value.specs.declared.column.Column.{Column}
 use Rattle.sql_tree.specs.declared.statement.NewPart.{NewPart}
 use Rattle.sql_tree.specs.declared.statement.Setting.{Setting}
 use Rattle.sql_tree.specs.declared.statement.Statement.{Statement}
@@ -214,7 +214,7 @@ kind = choose (is_key Key.Integer) (word Key.Integer (nothing ColType.Integer)) 
 unfoldable pub not_null : Reads Bool
 not_null = choose (is_key Key.Not) (word Key.Not (word Key.Null (nothing true))) (nothing false)
 
-unfoldable pub new_column : Reads NewColumn
+unfoldable pub new_column : Reads Column
 new_column = both (one name_of) (λ n. both kind (λ k. both not_null (λ b. nothing (record { name = n; kind = k; not_null = b }))))
 
 unfoldable pub creates_table : Reads Statement

@@ -5,9 +5,9 @@ ghost use Rattle.sql_tree.specs.Symbols.{width_of};
 ghost use Rattle.sql_phrases.specs.Readings.{one, both, nothing};
 ghost use Rattle.sql_phrases.specs.Readers.{word, inside, kind, not_null, new_column, creates_table, encoding_name, encoded, new_part, sorted_by, creates_projection, creates, drops};
 
-use col_value::{ColType, Encoding, List, Name};
+use col_value::{ColType, Column, Encoding, List, Name};
 use sql_phrases::{Spelled, Stop, Tokens, listed};
-use sql_tree::{NewColumn, NewPart, NewProjection, Statement};
+use sql_tree::{NewPart, NewProjection, Statement};
 use sql_words::{Key, Sign};
 use std::alloc::Global;
 
@@ -61,25 +61,25 @@ fn not_null(tokens: &mut Tokens<'_>) -> Result<bool, Stop>
 }
 
 /// `name type [NOT NULL]`
-struct Column;
+struct ColumnForm;
 
-impl Spelled for Column {
+impl Spelled for ColumnForm {
     ghost use Rattle.sql_phrases.specs.Readers.{new_column};
     ghost use Rattle.sql_phrases.proofs.Goods.{good_shortens};
     ghost use Rattle.sql_phrases.proofs.GoodStatements.{good_new_column};
 
-    type Value = NewColumn;
+    type Value = Column;
 
     ghost reads = { new_column };
 
     ghost shortens = { good_shortens good_new_column };
 
     #[tactic(auto, unfolding(sql_phrases::specs::Readings::both, sql_phrases::specs::Readings::nothing, sql_phrases::specs::Readers::new_column))]
-    fn read(alloc: Global, tokens: &mut Tokens<'_>) -> Result<NewColumn, Stop> {
+    fn read(alloc: Global, tokens: &mut Tokens<'_>) -> Result<Column, Stop> {
         let name = tokens.name(alloc)?;
         let kind = kind(tokens)?;
         let not_null = not_null(tokens)?;
-        Ok(NewColumn {
+        Ok(Column {
             name,
             kind,
             not_null,
@@ -95,7 +95,7 @@ fn creates_table(alloc: Global, tokens: &mut Tokens<'_>) -> Result<Statement, St
     tokens.key(Key::Table)?;
     let table = tokens.name(alloc)?;
     tokens.sign(Sign::Open)?;
-    let columns = listed::<Column>(alloc, tokens)?;
+    let columns = listed::<ColumnForm>(alloc, tokens)?;
     tokens.sign(Sign::Close)?;
     Ok(Statement::CreateTable(table, columns))
 }

@@ -13,7 +13,5 @@ mod queries;
 mod reader;
 mod sources;
 mod statements;
-#[cfg(test)]
-mod tests;
 
 pub use reader::{ReadFault, one_reading, read};

@@ -8,7 +8,7 @@ use Rattle.sql_words.specs.declared.token.Key.{Key}
 use Rattle.sql_words.specs.declared.token.Sign.{Sign}
 use Rattle.sql_tree.specs.declared.query.At.{At}
 use Rattle.sql_tree.specs.declared.statement.Function.{Function}
-use Rattle.sql_tree.specs.declared.statement.NewColumn.{NewColumn}
+use Rattle.col_value.specs.declared.column.Column.{Column}
 use Rattle.sql_tree.specs.declared.statement.NewPart.{NewPart}
 use Rattle.sql_tree.specs.declared.statement.Setting.{Setting}
 use Rattle.sql_tree.specs.declared.statement.Statement.{Statement}
@@ -26,7 +26,7 @@ abbrev pub NotNull : Spelling Bool
 NotNull = Either (Word Key.Not (Word Key.Null (Nothing true))) (Nothing false)
 
 -- column = name type [NOT NULL]
-abbrev pub NewColumns : Spelling NewColumn
+abbrev pub NewColumns : Spelling Column
 NewColumns = Then (One name_of) (λ n. Then Kind (λ k. Then NotNull (λ b. Nothing (record { name = n; kind = k; not_null = b }))))
 
 -- TABLE name ( column {, column} )

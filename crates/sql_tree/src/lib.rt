@@ -15,7 +15,5 @@ mod tree;
 pub use part::{Addend, Part};
 pub use query::{At, Item, Items, KeyRef, Query, SortKey, Source};
 pub use refusal::{Refusal, Which};
-pub use statement::{
-    Delete, Function, Insert, NewColumn, NewPart, NewProjection, Setting, Statement, Update,
-};
+pub use statement::{Delete, Function, Insert, NewPart, NewProjection, Setting, Statement, Update};
 pub use tree::{AggKind, Cmp, ColRef, Term, Tree};

@@ -1,5 +1,5 @@
 use crate::{At, Query, Tree};
-use col_value::{ColType, Encoding, List, Name, Text, WideRow};
+use col_value::{Column, Encoding, List, Name, Text, WideRow};
 
 /// `INSERT INTO table VALUES rows`. The rows have the literals as they stand.
 #[derive(Debug, Drop)]
@@ -28,14 +28,6 @@ pub struct Update {
     pub table: Name,
     pub settings: List<Setting>,
     pub keep: Option<Tree>,
-}
-
-/// A column of a new table.
-#[derive(Debug, Drop)]
-pub struct NewColumn {
-    pub name: Name,
-    pub kind: ColType,
-    pub not_null: bool,
 }
 
 /// A column of a new projection.
@@ -83,7 +75,7 @@ pub enum Function {
 /// A statement. A `Session` has a number from 1 to 8.
 #[derive(Debug, Drop)]
 pub enum Statement {
-    CreateTable(Name, List<NewColumn>),
+    CreateTable(Name, List<Column>),
     CreateProjection(NewProjection),
     DropTable(Name),
     DropProjection(Name),

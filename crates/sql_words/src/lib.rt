@@ -24,6 +24,3 @@ pub use reserved::RESERVED;
 pub use script::split;
 pub use spelled::{name_bytes, number_at, text_bytes};
 pub use token::{Back, Key, Sign, Token, TokenKind};
-
-#[cfg(test)]
-mod tests;

@@ -1,8 +1,8 @@
 -- How a run of statement texts over the tables of a folder ends.
 use Rattle.std.proofs.Common.{ℕ, ◌≡◌, ◌∙◌, Bool, true, false, List, [], ◌∷◌, length, map, get_or, drop, sym, ap, subst, refl, inl, inr, arith}
 use Rattle.std.specs.Prelude.{Option, Some, None, IfSome}
-use Rattle.col_base.specs.Causes.{Rose}
-use Rattle.col_base.specs.Maps.{Contents}
+use Rattle.common_laws.specs.Causes.{Rose}
+use Rattle.common_laws.specs.Maps.{Contents}
 use Rattle.col_disk.specs.Calls.{Stepped}
 use Rattle.col_disk.specs.Moved.{Changed, NoName}
 use Rattle.col_disk.specs.declared.disk.DiskFault.{DiskFault}
@@ -15,15 +15,15 @@ use Rattle.db_model.specs.Growth.{HasGrown}
 use Rattle.db_laws.proofs.Growing.{grown_none, grown_texts}
 use Rattle.plain_folder.specs.Opening.{IsRead}
 use Rattle.plain_folder.specs.Faults.{BlamesFolder}
-use Rattle.plain_folder.specs.Closing.{IsUnchanged, LeavesTables}
+use Rattle.plain_folder.specs.Closing.{IsUnchanged, LeavesTables, KeepsTables}
 use Rattle.vert_cli.specs.declared.faults.RunFault.{RunFault}
 use Rattle.vert_cli.specs.declared.faults.Status.{Status}
 use Rattle.vert_cli.specs.Words.{script_name}
 use Rattle.vert_cli.specs.Sessions.{Sitting}
 use Rattle.vert_cli.specs.Statements.{Stopped}
 use Rattle.vert_cli.specs.Runs.{RanWhole, RanPart, FirstStopped}
-use Rattle.vert_cli.specs.Folders.{OpenedAs, KeepsAll}
-use Rattle.vert_cli.specs.Ends.{RanText, RanScript, FailedAtEnd, TextsEnd, HeldEnds, IsServed, IsServable, IsOverLimits, BlamesAt, Counts, IsAnswered, status_of, status_of_open, status_of_end, status_of_run}
+use Rattle.vert_cli.specs.Folders.{OpenedAs, KeepsAll, LeftAtEither}
+use Rattle.vert_cli.specs.Ends.{RanText, RanScript, FailedAtEnd, TextsEnd, HeldEnds, IsServed, IsServable, IsOverLimits, BlamesAt, KeptAt, Counts, IsAnswered, status_of, status_of_open, status_of_end, status_of_run}
 
 -- the folder opens to what was read of it
 pub opened_as : (kept : Catalogue) (d : Database) (found : Option Contents) → IsRead found kept d → OpenedAs found d
@@ -78,14 +78,46 @@ ended texts refused old new before after found now left (d, is, read) by same wh
     (subst (λ (state : State). RanWhole state texts refused new.state before after) is whole) leaves still
 
 -- the texts ran in it, and the clean end failed
-pub failed : (texts : List (List ℕ)) (refused : Bool) (old new : Sitting) (before after : Option (List ℕ)) (found : Option Contents)
-    → IsOver found old → RanWhole old.state texts refused new.state before after → FailedAtEnd texts before after found
-failed texts refused old new before after found (d, is, read) whole = (
-  refused,
-  d,
-  new.state,
-  ran_over texts refused old.kept d new.state before after found read (subst (λ (state : State). RanWhole state texts refused new.state before after) is whole),
-)
+over_end : (texts : List (List ℕ)) (kept : Catalogue) (refused : Bool) (d : Database) (new : State) (before after : Option (List ℕ)) (found now left : Option Contents)
+    → IsRead found kept d → now ≡ found → RanWhole (opened_state d) texts refused new before after → KeepsTables kept new now left → LeftAtEither found left d new.database
+over_end texts kept refused d new before after found now left read same whole keeps m told =
+    keeps d m (same ∙ told) read.sound (read.told m told) (grown_texts d texts (opened_state d) whole.printed refused new whole.ran (grown_none d read.sound))
+
+pub failed : (texts : List (List ℕ)) (refused : Bool) (old new : Sitting) (before after : Option (List ℕ)) (found now left : Option Contents)
+    → IsOver found old → new.kept ≡ old.kept → now ≡ found → RanWhole old.state texts refused new.state before after → KeepsTables new.kept new.state now left
+    → FailedAtEnd texts before after found left
+failed texts refused old new before after found now left (d, is, read) by same whole keeps =
+    let ran : RanWhole (opened_state d) texts refused new.state before after = subst (λ (state : State). RanWhole state texts refused new.state before after) is whole in (
+      refused,
+      d,
+      new.state,
+      ran_over texts refused old.kept d new.state before after found read ran,
+      over_end texts old.kept refused d new.state before after found now left read same ran (subst (λ (c : Catalogue). KeepsTables c new.state now left) by keeps),
+    )
+
+-- so the folder stays open
+pub end_kept : (fault : DiskFault) (texts : List (List ℕ)) (before after : Option (List ℕ)) (found left : Option Contents)
+    → FailedAtEnd texts before after found left → KeptAt (status_of_end fault) found left
+end_kept DiskFault.Failed texts before after found left (refused, d, new, ran, at) = inr (d, new.database, ran.starts, at)
+end_kept DiskFault.Memory texts before after found left (refused, d, new, ran, at) = inr (d, new.database, ran.starts, at)
+
+-- and where nothing was written
+pub same_kept : (status : Status) (found left : Option Contents) → left ≡ found → KeptAt status found left
+same_kept Status.Done found left same = tt
+same_kept Status.Refused found left same = tt
+same_kept Status.Usage found left same = same
+same_kept Status.NoScript found left same = same
+same_kept Status.SinkFault found left same = same
+same_kept Status.DiskFault found left same = inl same
+same_kept (Status.Damaged name) found left same = same
+same_kept Status.Memory found left same = inl same
+same_kept Status.ReadFault found left same = same
+same_kept Status.TooLarge found left same = same
+
+-- at a run's own end anything goes that its other clauses say
+pub run_kept : (refused : Bool) (found left : Option Contents) → KeptAt (status_of_run refused) found left
+run_kept true found left = tt
+run_kept false found left = tt
 
 -- statuses of a run that came to its end
 pub run_ends : (refused : Bool) (texts : List (List ℕ)) (before after : Option (List ℕ)) (found left : Option Contents)
@@ -95,7 +127,7 @@ run_ends false texts before after found left ran = ran
 
 -- whose clean end failed
 pub end_ends : (fault : DiskFault) (texts : List (List ℕ)) (before after : Option (List ℕ)) (found left : Option Contents)
-    → FailedAtEnd texts before after found → TextsEnd (status_of_end fault) texts before after found left
+    → FailedAtEnd texts before after found left → TextsEnd (status_of_end fault) texts before after found left
 end_ends DiskFault.Failed texts before after found left failed = inr failed
 end_ends DiskFault.Memory texts before after found left failed = inr (inr failed)
 

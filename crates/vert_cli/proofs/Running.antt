@@ -3,7 +3,7 @@ use Rattle.std.proofs.Common.{ℕ, ◌+◌, ◌<◌, ◌≡◌, ◌∙◌, ◌||
 use Rattle.std.specs.Prelude.{Option, is_some}
 use Rattle.std.proofs.Math.Bool.{or_assoc}
 use Rattle.std.proofs.lemmas.List.{append-nil, take_more, drop_more, get_or-map, length-map}
-use Rattle.col_base.proofs.Telling.{appends_join}
+use Rattle.common_laws.proofs.Telling.{appends_join}
 use Rattle.sql_tree.specs.declared.refusal.Refusal.{Refusal}
 use Rattle.db_model.specs.State.{State}
 use Rattle.db_model.specs.Step.{Step}

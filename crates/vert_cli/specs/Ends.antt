@@ -1,8 +1,8 @@
 -- How a run ends, by its status.
 use Rattle.std.specs.Prelude.{ℕ, ◌≡◌, ◌⊎◌, ◌≤◌, ◌<◌, ⊤, List, length, Bool, true, false, Option, Some, None}
-use Rattle.col_base.specs.Causes.{Rose}
-use Rattle.col_base.specs.Told.{Appends}
-use Rattle.col_base.specs.Maps.{Contents}
+use Rattle.common_laws.specs.Causes.{Rose}
+use Rattle.common_laws.specs.Told.{Appends}
+use Rattle.common_laws.specs.Maps.{Contents}
 use Rattle.col_disk.specs.declared.disk.DiskFault.{DiskFault}
 use Rattle.col_disk.specs.declared.disk.StoreFault.{StoreFault}
 use Rattle.sql_words.specs.Texts.{statement_texts}
@@ -14,7 +14,7 @@ use Rattle.plain_folder.specs.Faults.{IsDamaged}
 use Rattle.vert_cli.specs.declared.faults.RunFault.{RunFault}
 use Rattle.vert_cli.specs.declared.faults.Status.{Status}
 use Rattle.vert_cli.specs.Runs.{RanPart}
-use Rattle.vert_cli.specs.Folders.{OpenedAs, IsLeft, KeepsAll}
+use Rattle.vert_cli.specs.Folders.{OpenedAs, IsLeft, KeepsAll, LeftAtEither, StaysOpen}
 
 -- the code of each status
 abbrev pub code_of : Status → ℕ
@@ -77,17 +77,18 @@ pub record RanScript (texts : List (List ℕ)) (refused : Bool) (before after : 
   pub ends : IsLeft found left new.database
   pub still : new.database ≡ opened → KeepsAll found left
 
--- all ran and what they print was taken; then the clean end failed
-abbrev pub FailedAtEnd : List (List ℕ) → Option (List ℕ) → Option (List ℕ) → Option Contents → Type 0
-FailedAtEnd texts before after found = (refused : Bool) × (opened : Database) × (new : State) × RanText texts refused before after found opened new
+-- all ran and what they print was taken; then the clean end failed: the folder opens to the tables that it held or to those of the run
+abbrev pub FailedAtEnd : List (List ℕ) → Option (List ℕ) → Option (List ℕ) → Option Contents → Option Contents → Type 0
+FailedAtEnd texts before after found left =
+    (refused : Bool) × (opened : Database) × (new : State) × RanText texts refused before after found opened new × LeftAtEither found left opened new.database
 
 -- the first of them ran and what they print was taken; of the next one's text a front was taken, or nothing
 abbrev pub StoppedIn : RunFault → List (List ℕ) → Option (List ℕ) → Option (List ℕ) → Option Contents → Type 0
 StoppedIn fault texts before after found = (opened : Database) × OpenedAs found opened × RanPart fault (opened_state opened) texts before after
 
 -- after these faults nothing was taken, or the whole text
-abbrev pub EndsAtFault : List (List ℕ) → Option (List ℕ) → Option (List ℕ) → Option Contents → Type 0
-EndsAtFault texts before after found = (after ≡ before) ⊎ FailedAtEnd texts before after found
+abbrev pub EndsAtFault : List (List ℕ) → Option (List ℕ) → Option (List ℕ) → Option Contents → Option Contents → Type 0
+EndsAtFault texts before after found left = (after ≡ before) ⊎ FailedAtEnd texts before after found left
 
 -- how a run of statement texts ends
 abbrev pub TextsEnd : Status → List (List ℕ) → Option (List ℕ) → Option (List ℕ) → Option Contents → Option Contents → Type 0
@@ -96,9 +97,9 @@ TextsEnd Status.Refused texts before after found left = RanScript texts true bef
 TextsEnd Status.Usage texts before after found left = ⊥
 TextsEnd Status.NoScript texts before after found left = ⊥
 TextsEnd Status.SinkFault texts before after found left = StoppedIn RunFault.Sink texts before after found
-TextsEnd Status.DiskFault texts before after found left = EndsAtFault texts before after found
+TextsEnd Status.DiskFault texts before after found left = EndsAtFault texts before after found left
 TextsEnd (Status.Damaged name) texts before after found left = after ≡ before
-TextsEnd Status.Memory texts before after found left = (after ≡ before) ⊎ (StoppedIn RunFault.Memory texts before after found ⊎ FailedAtEnd texts before after found)
+TextsEnd Status.Memory texts before after found left = (after ≡ before) ⊎ (StoppedIn RunFault.Memory texts before after found ⊎ FailedAtEnd texts before after found left)
 TextsEnd Status.ReadFault texts before after found left = ⊥
 TextsEnd Status.TooLarge texts before after found left = ⊥
 
@@ -130,10 +131,10 @@ HeldEnds Status.Refused held before after found left = (script : List ℕ) × Is
 HeldEnds Status.Usage held before after found left = ⊥
 HeldEnds Status.NoScript held before after found left = held ≡ None
 HeldEnds Status.SinkFault held before after found left = (script : List ℕ) × IsServed held script × StoppedIn RunFault.Sink (statement_texts script) before after found
-HeldEnds Status.DiskFault held before after found left = (script : List ℕ) × IsServed held script × EndsAtFault (statement_texts script) before after found
+HeldEnds Status.DiskFault held before after found left = (script : List ℕ) × IsServed held script × EndsAtFault (statement_texts script) before after found left
 HeldEnds (Status.Damaged name) held before after found left = (script : List ℕ) × IsServed held script × (after ≡ before)
 HeldEnds Status.Memory held before after found left =
-    (after ≡ before) ⊎ ((script : List ℕ) × IsServed held script × (StoppedIn RunFault.Memory (statement_texts script) before after found ⊎ FailedAtEnd (statement_texts script) before after found))
+    (after ≡ before) ⊎ ((script : List ℕ) × IsServed held script × (StoppedIn RunFault.Memory (statement_texts script) before after found ⊎ FailedAtEnd (statement_texts script) before after found left))
 HeldEnds Status.ReadFault held before after found left = after ≡ before
 HeldEnds Status.TooLarge held before after found left = (script : List ℕ) × (held ≡ Some script) × IsOverLimits script
 
@@ -168,16 +169,16 @@ NotCalledAt Status.Memory old new = ⊤
 NotCalledAt Status.ReadFault old new = new ≡ old
 NotCalledAt Status.TooLarge old new = new ≡ old
 
--- at these statuses the disk holds what it held
+-- At these statuses the disk holds what it held; after a fault of the disk and after want of memory it does, or the folder opens still.
 abbrev pub KeptAt : Status → Option Contents → Option Contents → Type 0
 KeptAt Status.Done found left = ⊤
 KeptAt Status.Refused found left = ⊤
 KeptAt Status.Usage found left = left ≡ found
 KeptAt Status.NoScript found left = left ≡ found
 KeptAt Status.SinkFault found left = left ≡ found
-KeptAt Status.DiskFault found left = ⊤
+KeptAt Status.DiskFault found left = StaysOpen found left
 KeptAt (Status.Damaged name) found left = left ≡ found
-KeptAt Status.Memory found left = ⊤
+KeptAt Status.Memory found left = StaysOpen found left
 KeptAt Status.ReadFault found left = left ≡ found
 KeptAt Status.TooLarge found left = left ≡ found
 

@@ -1,6 +1,6 @@
 -- Statement texts that are run one after the other, and what the sink took of their text.
 use Rattle.std.specs.Prelude.{ℕ, List, [], ◌∷◌, take, drop, Bool, Option}
-use Rattle.col_base.specs.Told.{Appends}
+use Rattle.common_laws.specs.Told.{Appends}
 use Rattle.db_model.specs.State.{State}
 use Rattle.db_model.specs.Run.{RunTexts}
 use Rattle.vert_cli.specs.declared.faults.RunFault.{RunFault}

@@ -1,6 +1,6 @@
 -- One statement that is run and whose text is written.
 use Rattle.std.specs.Prelude.{ℕ, ◌≡◌, ◌⊎◌, List, Option, Some, None}
-use Rattle.col_base.specs.Told.{Appends, AppendsFront}
+use Rattle.common_laws.specs.Told.{Appends, AppendsFront}
 use Rattle.sql_tree.specs.declared.refusal.Refusal.{Refusal}
 use Rattle.db_model.specs.State.{State}
 use Rattle.db_model.specs.Step.{Step}

@@ -2,7 +2,7 @@
 #![tactic(auto)]
 
 ghost use Rattle.std.specs.Prelude.{◌≡◌, ◌≢◌, ◌≤◌, ◌↔◌, length, map, IfSome, string_bytes};
-ghost use Rattle.col_base.specs.Causes.{Rose};
+ghost use Rattle.common_laws.specs.Causes.{Rose};
 ghost use Rattle.vert_cli.specs.declared.faults.Status.TheVariants.{Usage as usage_refused, NoScript as no_script, SinkFault as sink_fault, ReadFault as read_fault, DiskFault as disk_fault, TooLarge as too_large};
 ghost use Rattle.vert_cli.specs.Words.{script_name};
 ghost use Rattle.vert_cli.specs.Ends.{RunEnds, HeldEnds, UntouchedAt, NotCalledAt, KeptAt, BlamesAt, ExactlyWhere, IsAbsent, IsTooLarge, IsAnswered, IsServable};

@@ -2,7 +2,7 @@
 #![tactic(auto)]
 
 ghost use Rattle.std.specs.Prelude.{◌≡◌, ◌≤◌, length, map, All, IfOk, IfErr, IsErrOf};
-ghost use Rattle.col_base.specs.Causes.{Rose};
+ghost use Rattle.common_laws.specs.Causes.{Rose};
 ghost use Rattle.sql_words.specs.Texts.{cut, LiesWithin};
 ghost use Rattle.vert_cli.specs.declared.faults.RunFault.TheVariants.{Sink as sink_failed};
 ghost use Rattle.vert_cli.specs.declared.faults.Status.TheVariants.{SinkFault as sink_fault, DiskFault as disk_fault};

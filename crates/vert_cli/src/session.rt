@@ -2,7 +2,7 @@
 #![tactic(auto)]
 
 ghost use Rattle.std.specs.Prelude.{◌≡◌, ◌≤◌, Some, IfOk, IfErr, OnOk, IsErrOf};
-ghost use Rattle.col_base.specs.Causes.{Rose, HasCause};
+ghost use Rattle.common_laws.specs.Causes.{Rose, HasCause};
 ghost use Rattle.col_disk.specs.Moved.{Moved, NoName};
 ghost use Rattle.col_disk.specs.declared.disk.DiskFault.TheVariants.{Failed};
 ghost use Rattle.col_disk.specs.declared.disk.StoreFault.TheVariants.{Disk as disk_failed};
@@ -10,7 +10,7 @@ ghost use Rattle.db_model.specs.State.{opened_state};
 ghost use Rattle.db_model.specs.Database.{Database as Logical};
 ghost use Rattle.plain_folder.specs.Opening.{IsRead};
 ghost use Rattle.plain_folder.specs.Faults.{BlamesFolder};
-ghost use Rattle.plain_folder.specs.Closing.{IsUnchanged, LeavesTables};
+ghost use Rattle.plain_folder.specs.Closing.{IsUnchanged, LeavesTables, KeepsTables};
 ghost use Rattle.vert_cli.specs.declared.faults.RunFault.TheVariants.{Sink as sink_failed};
 ghost use Rattle.vert_cli.specs.Statements.{Answered, Stopped, refusal_in};
 
@@ -91,9 +91,11 @@ impl Session {
     }
 
     /// The clean end: writes the tables to the folder, so that it opens to them. Where nothing was committed and no table
-    /// made since the opening, the disk isn't called. What waits for COMMIT is dropped.
+    /// made since the opening, the disk isn't called. What waits for COMMIT is dropped. Whatever is answered, the folder
+    /// opens to the tables that it held or to these.
     pub fn close<D: Disk>(self, alloc: Global, disk: &mut D) -> Result<(), DiskFault>
         ensures leaves { OnOk result (LeavesTables self.kept self.state (D.holds disk.old) (D.holds disk.new)) }
+        ensures keeps { KeepsTables self.kept self.state (D.holds disk.old) (D.holds disk.new) }
         ensures still { IsUnchanged self.kept self.state → disk.new ≡ disk.old }
         ensures cause { HasCause Failed (D.faults disk.old) (D.faults disk.new) result }
     {

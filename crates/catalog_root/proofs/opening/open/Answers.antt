@@ -1,13 +1,18 @@
-use Rattle.std.proofs.Common.{◌∙◌, sym, subst}
-use Rattle.col_disk.specs.Calls.{ListsNames}
-use Rattle.catalog_root.proofs.Bodies.{no_gate_blamed}
+use Rattle.std.proofs.Common.{◌≡◌, ◌∙◌}
+use Rattle.std.proofs.lemmas.Result.{on_ok_weaker}
+use Rattle.common_laws.specs.Maps.{Contents}
+use Rattle.col_disk.proofs.Moving.{moved_read, looks_join}
+use Rattle.catalog_root.proofs.Quieting.{on_all}
 use Rattle.catalog_root.proofs.opening.open.Goals as goal
 
-pub returns-in-Ok-None-clause-blamed : goal.returns-in-Ok-None-clause-blamed
-returns-in-Ok-None-clause-blamed g c =
-    let here = c.as_slice-in-Ok-None.ensures.value in
-    let there = c.as_slice.ensures.value in
-    no_gate_blamed c.without_gate.result (g.D.Disk.holds c.args.disk.now) c.as_slice-in-Ok-None.result.now
-    (λ m told. subst (ListsNames m) (sym here) (c.in-Ok.ensures.answer m told))
-    (λ m told lists. rw c.in-Ok-None.field-0-is at (c.in-Ok-None.ensures.found m (c.in-Ok.ensures.keeps.contents ∙ told) (subst (ListsNames m) (here ∙ sym there) lists)))
-    c.without_gate.ensures.blamed
+pub returns-in-Ok-clause-settled : goal.returns-in-Ok-clause-settled
+returns-in-Ok-clause-settled g c = on_all c.find_root.result (λ m told x is. c.in-Ok.ensures.settles m told x (c.find_root.ensures.looks.images x is))
+
+pub returns-in-Ok-clause-looks : goal.returns-in-Ok-clause-looks
+returns-in-Ok-clause-looks g c = looks_join g.D.Disk c.in-Ok.ensures.keeps c.find_root.ensures.looks
+
+pub returns-in-Ok-clause-moved : goal.returns-in-Ok-clause-moved
+returns-in-Ok-clause-moved g c = moved_read g.D.Disk (looks_join g.D.Disk c.in-Ok.ensures.keeps c.find_root.ensures.looks)
+
+pub returns-in-Err-clause-moved : goal.returns-in-Err-clause-moved
+returns-in-Err-clause-moved g c = moved_read g.D.Disk c.in-Err.ensures.keeps

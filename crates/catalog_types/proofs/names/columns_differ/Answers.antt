@@ -1,6 +1,6 @@
 use Rattle.std.proofs.Common.{◌≢◌, List, arith}
 use Rattle.std.specs.List.{All}
-use Rattle.catalog_types.specs.declared.catalogue.Column.{Column}
+use Rattle.col_value.specs.declared.column.Column.{Column}
 use Rattle.catalog_types.specs.Lists.{Pairwise}
 use Rattle.catalog_types.proofs.Pairs.{refused, passed}
 use Rattle.catalog_types.proofs.names.columns_differ.Goals as goal

@@ -1,5 +1,5 @@
 use Rattle.std.proofs.Common.{ℕ, List, length, ◌<◌, ◌^◌, refl, inl, inr, subst, ◌∙◌}
-use Rattle.col_disk.proofs.Moving.{moved_join, moved_write}
+use Rattle.col_disk.proofs.Moving.{moved_join, moved_write, moved_none}
 use Rattle.col_file.specs.Column.{body_spelling}
 use Rattle.col_file.proofs.Readable.{held_after}
 use Rattle.col_file.proofs.Written.{column_there}
@@ -17,3 +17,9 @@ returns-in-Ok-write-clause-held g c =
 
 pub returns-in-Ok-write-clause-moved : goal.returns-in-Ok-write-clause-moved
 returns-in-Ok-write-clause-moved g c = moved_join g.D.Disk (moved_write g.D.Disk (inl refl) c.write.ensures.writes) (moved_write g.D.Disk (inr refl) c.write-in-Ok-write.ensures.writes)
+
+pub returns-in-Err-clause-moved : goal.returns-in-Err-clause-moved
+returns-in-Err-clause-moved g c = moved_none g.D.Disk c.args.disk.now
+
+pub returns-clause-moved : goal.returns-clause-moved
+returns-clause-moved g c = moved_write g.D.Disk (inl refl) c.write.ensures.writes

@@ -1,5 +1,5 @@
 use Rattle.std.proofs.Common.{ℕ, List, arith, length-drop, subst}
-use Rattle.col_base.specs.Told.{AppendsFront}
+use Rattle.common_laws.specs.Told.{AppendsFront}
 use Rattle.col_io.specs.Sinks.{TakesFront}
 use Rattle.col_io.proofs.Progress.{more_taken, front_taken}
 use Rattle.col_io.proofs.writing.write_all.Goals as goal

@@ -1,5 +1,5 @@
 use Rattle.std.proofs.Common.{length, take, ◌-◌, ◌≤◌}
-use Rattle.col_base.specs.Told.{Appends}
+use Rattle.common_laws.specs.Told.{Appends}
 use Rattle.col_io.proofs.writing.write_all.Given as goal
 
 abbrev pub invariant-loop-at : goal.invariant-loop-at

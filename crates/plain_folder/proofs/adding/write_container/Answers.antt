@@ -1,5 +1,6 @@
 use Rattle.std.proofs.Common.{◌≡◌, ◌∙◌, ap, sym, length, subst, rules}
 use Rattle.std.specs.Prelude.{List}
+use Rattle.col_disk.proofs.Moving.{moved_none}
 use Rattle.col_value.specs.declared.row.Asked.{Asked}
 use Rattle.ros_container.specs.Encodings.{encodings_of}
 use Rattle.ros_container.specs.Rows.{AreWithin}
@@ -20,3 +21,9 @@ returns-in-Ok-write_rows-clause-held g c =
           (c.in-Ok-write_rows.ensures.held m told k c.container_of.ensures.base (c.container_of.ensures.rows ∙ ap (λ (xs : List Asked). length xs) again)
           (subst (λ (xs : List Asked). AreWithin k xs) again (all_within k c.as_slice-in-Ok-write_rows.result.now c.container_of.ensures.least c.container_of.ensures.greatest))),
     )
+
+pub returns-in-Err-clause-moved : goal.returns-in-Err-clause-moved
+returns-in-Err-clause-moved g c = moved_none g.D.Disk c.args.disk.now
+
+pub returns-then-not-are_rows-clause-moved : goal.returns-then-not-are_rows-clause-moved
+returns-then-not-are_rows-clause-moved g c = moved_none g.D.Disk c.args.disk.now

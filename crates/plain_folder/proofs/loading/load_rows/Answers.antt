@@ -1,6 +1,7 @@
-use Rattle.std.proofs.Common.{◌≡◌, ◌∙◌, ℕ, List, length, get_or, sym, refl, rules, arith}
+use Rattle.std.proofs.Common.{◌≡◌, ◌∙◌, ℕ, List, length, get_or, rules}
 use Rattle.std.specs.Prelude.{None}
 use Rattle.std.proofs.lemmas.List.{get_or_default}
+use Rattle.col_disk.proofs.Moving.{moved_join, moved_none}
 use Rattle.catalog_types.specs.declared.catalogue.Container.{Container}
 use Rattle.plain_folder.proofs.Blames.{blame_rows}
 use Rattle.plain_folder.proofs.Read.{read_more, read_all, epochs_more, loadable_at}
@@ -29,8 +30,17 @@ loop-container-preserved g c =
       epochs = epochs_more (length c.args.p.now.columns) c.args.p.now.lge (item ks i) c.in-Ok.found.items c.loop-container.out.items c.add_rows.new.out.items c.in-Ok-add_rows.ensures
           (loadable_at (length c.args.p.now.columns) c.args.p.now.lge ks c.args.p.now.containers i _ c.as_slice-containers.ensures c.requires c.loop-container-test.true) c.in-Ok.ensures.within c.loop-container.invariant.epochs;
       kept = c.in-Ok.ensures.kept ∙ c.loop-container.invariant.kept;
-      moved = search rules;
+      moved = moved_join g.D.Disk c.loop-container.invariant.moved c.in-Ok.ensures.moved;
     }
 
 pub returns-clause-found : goal.returns-clause-found
 returns-clause-found g c = read_all c.args.p.now c.as_slice-containers.result.now c.loop-container.container-index c.loop-container.out.items _ c.as_slice-containers.ensures c.loop-container-test.false c.loop-container.invariant.rows
+
+pub loop-container-init : goal.loop-container-init
+loop-container-init g c = record { rows = search rules; epochs = search rules; kept = search rules; moved = moved_none g.D.Disk c.args.disk.now }
+
+pub returns-in-Err-clause-moved : goal.returns-in-Err-clause-moved
+returns-in-Err-clause-moved g c = moved_join g.D.Disk c.loop-container.invariant.moved c.in-Err.ensures.moved
+
+pub returns-in-Err-add_rows-clause-moved : goal.returns-in-Err-add_rows-clause-moved
+returns-in-Err-add_rows-clause-moved g c = moved_join g.D.Disk c.loop-container.invariant.moved c.in-Ok.ensures.moved

@@ -1,7 +1,7 @@
 use Rattle.std.proofs.Common.{ℕ, ◌≡◌, ◌≤◌, take}
 use Rattle.std.specs.Prelude.{Some}
 use Rattle.std.specs.List.{All}
-use Rattle.col_base.specs.Maps.{Contents}
+use Rattle.common_laws.specs.Maps.{Contents}
 use Rattle.col_disk.specs.Moved.{Moved, NoName}
 use Rattle.ros_container.specs.Encodings.{encodings_of}
 use Rattle.plain_folder.specs.Reopens.{HoldsRows}

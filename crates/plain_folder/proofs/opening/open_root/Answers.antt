@@ -1,5 +1,6 @@
-use Rattle.std.proofs.Common.{◌≡◌, List, subst, map, true, false, refl, rules}
+use Rattle.std.proofs.Common.{◌≡◌, List, subst, map, true, false, rules}
 use Rattle.catalog_types.specs.declared.catalogue.Table.{Table}
+use Rattle.col_disk.proofs.Moving.{moved_none}
 use Rattle.plain_folder.specs.Loading.{BlamesTables}
 use Rattle.plain_tables.specs.Views.{table_of}
 use Rattle.plain_folder.specs.Served.{is_served}
@@ -24,3 +25,9 @@ pub returns-in-Err-load_tables-clause-blamed : goal.returns-in-Err-load_tables-c
 returns-in-Err-load_tables-clause-blamed g c =
     blame_listed c.args.version c.args.catalogue _ c.in-Err-load_tables.fault
     (subst (λ (ts : List Table). BlamesTables ts (g.D.Disk.holds c.args.disk.now) c.in-Err-load_tables.fault) c.as_slice.ensures c.in-Err-load_tables.ensures.blamed)
+
+pub returns-in-Ok-false-clause-moved : goal.returns-in-Ok-false-clause-moved
+returns-in-Ok-false-clause-moved g c = moved_none g.D.Disk c.args.disk.now
+
+pub returns-in-Err-clause-moved : goal.returns-in-Err-clause-moved
+returns-in-Err-clause-moved g c = moved_none g.D.Disk c.args.disk.now

@@ -1,8 +1,8 @@
-use Rattle.std.proofs.Common.{◌≡◌, length, refl, rules}
+use Rattle.std.proofs.Common.{length, refl, rules}
 use Rattle.std.proofs.lemmas.List.{length-map}
 use Rattle.catalog_types.specs.declared.catalogue.ProjColumn.{ProjColumn}
 use Rattle.ros_container.specs.Encodings.{encodings_of}
-use Rattle.col_disk.proofs.Moving.{moved_wider}
+use Rattle.col_disk.proofs.Moving.{moved_wider, moved_none}
 use Rattle.plain_folder.proofs.Below.{nothing_more, one_more, new_is_data}
 use Rattle.plain_folder.proofs.saving.add_container.Goals as goal
 
@@ -22,3 +22,9 @@ returns-in-Err-push-clause-moved g c = moved_wider g.D.Disk (new_is_data c.args.
 
 pub returns-in-Err-clause-moved : goal.returns-in-Err-clause-moved
 returns-in-Err-clause-moved g c = moved_wider g.D.Disk (new_is_data c.args.next (length c.args.shape.now.columns)) (λ q is. is) c.in-Err.ensures.moved
+
+pub returns-then-is_empty-clause-moved : goal.returns-then-is_empty-clause-moved
+returns-then-is_empty-clause-moved g c = moved_none g.D.Disk c.args.disk.now
+
+pub returns-then-next-ge-MOST_NUMBERS-clause-moved : goal.returns-then-next-ge-MOST_NUMBERS-clause-moved
+returns-then-next-ge-MOST_NUMBERS-clause-moved g c = moved_none g.D.Disk c.args.disk.now

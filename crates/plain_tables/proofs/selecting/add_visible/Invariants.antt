@@ -1,5 +1,5 @@
 use Rattle.std.proofs.Common.{take}
-use Rattle.db_model.specs.Database.{visible}
+use Rattle.row_history.specs.History.{visible}
 use Rattle.plain_tables.specs.Outputs.{outputs_of, Collects}
 use Rattle.plain_tables.proofs.selecting.add_visible.Given as goal
 

@@ -33,3 +33,9 @@ loop-i-preserved g c =
       kept = c.read_one.ensures.kept ∙ now.kept;
       moved = moved_join g.D.Disk now.moved c.read_one.ensures.moved;
     }
+
+pub returns-in-Err-read_one-clause-moved : goal.returns-in-Err-read_one-clause-moved
+returns-in-Err-read_one-clause-moved g c = moved_join g.D.Disk c.loop-i.invariant.moved c.read_one.ensures.moved
+
+pub returns-in-Err-with_values-clause-moved : goal.returns-in-Err-with_values-clause-moved
+returns-in-Err-with_values-clause-moved g c = moved_join g.D.Disk c.loop-i.invariant.moved c.read_one.ensures.moved

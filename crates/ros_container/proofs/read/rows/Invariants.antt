@@ -1,6 +1,6 @@
 use Rattle.std.proofs.Common.{◌≡◌, ℕ, ◌<◌, length}
 use Rattle.std.specs.Prelude.{Some}
-use Rattle.col_base.specs.Maps.{Contents}
+use Rattle.common_laws.specs.Maps.{Contents}
 use Rattle.col_disk.specs.Moved.{Moved, NoName}
 use Rattle.col_file.specs.Held.{HoldsColumn}
 use Rattle.col_value.specs.declared.kinds.Encoding.TheVariants.{Auto}

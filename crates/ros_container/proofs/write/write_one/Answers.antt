@@ -2,6 +2,7 @@ use Rattle.std.proofs.Common.{◌≡◌, ◌≤◌, length, sym, subst, ap, ◌�
 use Rattle.std.proofs.lemmas.List.{length-map}
 use Rattle.std.specs.List.{All}
 use Rattle.col_value.specs.Order.{IsValue}
+use Rattle.col_disk.proofs.Moving.{moved_none}
 use Rattle.block_choice.specs.Choice.{Takes}
 use Rattle.ros_container.specs.Encodings.{encodings_of, encoding_at}
 use Rattle.ros_container.specs.Rows.{stored_values}
@@ -28,3 +29,6 @@ returns-clause-held g c =
     held_of c.encoding_of-encoding.result (encoding_at (encodings_of c.args.shape.now) c.args.column) c.body_of-body.result c.index_of-index.result (body_of c.args.base c.args.column) (index_of c.args.base c.args.column) (length c.args.rows.now) c.as_slice-2.result.now
     (stored_values (length c.args.shape.now.columns) c.args.column c.args.rows.now) (g.D.Disk.holds c.write_column.new.disk) c.write_column.result c.encoding_of-encoding.ensures c.body_of-body.ensures c.index_of-index.ensures same
     (stored_length (length c.args.shape.now.columns) c.args.column c.args.rows.now) c.write_column.ensures.held
+
+pub returns-in-Err-clause-moved : goal.returns-in-Err-clause-moved
+returns-in-Err-clause-moved g c = moved_none g.D.Disk c.args.disk.now

@@ -1,5 +1,6 @@
 use Rattle.std.proofs.Common.{length, ap, arith}
 use Rattle.std.proofs.lemmas.List.{length-map}
+use Rattle.col_disk.proofs.Moving.{moved_none}
 use Rattle.ros_container.specs.Encodings.{encodings_of, encoding_at}
 use Rattle.ros_container.specs.Rows.{stored_values}
 use Rattle.ros_container.proofs.Writing.{moved_more, held_more, all_held}
@@ -19,3 +20,6 @@ pub returns-clause-held : goal.returns-clause-held
 returns-clause-held g c m told k same_base same_rows within =
     all_held c.args.base (length c.args.shape.now.columns) (encodings_of c.args.shape.now) m c.args.rows.now k (length-map c.args.shape.now.columns (λ p. p.encoding))
     (λ j lt. c.loop-column.invariant.held j (omega (arith, ap length c.as_slice-columns.ensures)) m told) c.requires.wide same_base same_rows within
+
+pub loop-column-init : goal.loop-column-init
+loop-column-init g c = record { moved = moved_none g.D.Disk c.args.disk.now; held = λ j lt m told. absurd (omega (arith, lt)) }

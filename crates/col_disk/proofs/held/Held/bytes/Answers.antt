@@ -3,8 +3,8 @@ use Rattle.std.specs.Prelude.{Some}
 use Rattle.std.specs.Option.{option_copied}
 use Rattle.std.specs.FinMap.{get}
 use Rattle.std.specs.Cmp.{nat_cmp_total}
-use Rattle.col_base.specs.Maps.{Contents}
-use Rattle.col_base.proofs.MapLaws.{get_lookup}
+use Rattle.common_laws.specs.Maps.{Contents}
+use Rattle.common_laws.proofs.MapLaws.{get_lookup}
 use Rattle.col_disk.proofs.held.Held.bytes.Goals as goal
 
 pub returns-in-Some : goal.returns-in-Some

@@ -1,6 +1,6 @@
 use Rattle.std.proofs.Common.{ℕ, List, sym, subst}
 use Rattle.std.proofs.lemmas.Result.{IfOk-weaker}
-use Rattle.col_base.specs.Maps.{Contents}
+use Rattle.common_laws.specs.Maps.{Contents}
 use Rattle.std.specs.Map.{keys_of}
 use Rattle.col_disk.specs.Calls.{ListsNames}
 use Rattle.col_disk.proofs.Listing.{listed}

@@ -1,8 +1,8 @@
 use Rattle.std.proofs.Common.{◌∙◌, ap}
 use Rattle.std.specs.FinMap.{insert, nat_cmp-IsAntisymmetric}
 use Rattle.std.specs.Cmp.{nat_cmp_total}
-use Rattle.col_base.specs.Maps.{Contents}
-use Rattle.col_base.proofs.MapLaws.{one_given}
+use Rattle.common_laws.specs.Maps.{Contents}
+use Rattle.common_laws.proofs.MapLaws.{one_given}
 use Rattle.col_disk.proofs.held.Held.put.Goals as goal
 
 pub returns-in-Ok-clause-ok : goal.returns-in-Ok-clause-ok

@@ -1,8 +1,8 @@
 use Rattle.std.proofs.Common.{◌∙◌, ap}
 use Rattle.std.specs.FinMap.{remove, nat_cmp-IsAntisymmetric}
 use Rattle.std.specs.Cmp.{nat_cmp_total}
-use Rattle.col_base.specs.Maps.{Contents}
-use Rattle.col_base.proofs.MapLaws.{one_gone}
+use Rattle.common_laws.specs.Maps.{Contents}
+use Rattle.common_laws.proofs.MapLaws.{one_gone}
 use Rattle.col_disk.proofs.held.Held.take.Goals as goal
 
 pub returns : goal.returns

@@ -1,4 +1,0 @@
-pub mod Telling
-pub mod BagLaws
-pub mod MapLaws
-pub mod Fronts

@@ -1,0 +1,212 @@
+//! What a crash may leave of a disk in memory.
+
+ghost use Rattle.std.specs.Prelude.{◌≡◌, ◌≤◌, false, IfOk, IfSome, OnOk, length, drop};
+ghost use Rattle.std.specs.List.{All};
+ghost use Rattle.common_laws.specs.Maps.{Contents};
+ghost use Rattle.col_disk.specs.Calls.{Elsewhere, GoneOrKept};
+ghost use Rattle.col_disk.specs.Dids.{ImagesOf, replayed, after};
+ghost use Rattle.col_disk.specs.Crashing.{is_sync, StepTo, StepsTo};
+ghost use Rattle.col_disk.specs.Memory.{held_by};
+
+use super::MemDisk;
+use crate::Blob;
+use crate::did::Did;
+use std::alloc::AllocError;
+use std::collections::BTreeMap;
+
+/// What a crash makes of a name that was written or removed since the last good sync.
+#[derive(Debug, Drop)]
+pub enum Keep {
+    Absent,
+    /// What it held at that sync: of a name that was only removed.
+    Held,
+    /// These bytes: of a name that was written.
+    Bytes(Blob),
+}
+
+// A name that was written or removed since the last good sync.
+#[derive(Drop)]
+struct Unsynced {
+    name: u64,
+    is_written: bool,
+}
+
+impl MemDisk {
+    /// The disk after a crash now, which has one pick for each name that was written or removed since the last good sync, in
+    /// ascending order. None where there are more or fewer picks than such names, where `Held` is picked for one that was
+    /// written, or `Bytes` for one that was only removed.
+    pub fn crash(&self, picks: &[Keep]) -> Result<Option<MemDisk>, AllocError>
+        ensures image { IfOk result (λ r. IfSome r (λ d. ImagesOf self.now.done (held_by d))) }
+        ensures only { IfOk result (λ r. IfSome r (λ d. (c : Contents) → ImagesOf d.done c → c ≡ held_by d)) }
+    {
+        let names = self.unsynced()?;
+        if !are_picks(names.as_slice(), picks) {
+            return Ok(None);
+        }
+        let dids = self.done.as_slice();
+        let (early, late) = dids.split_at(synced(dids));
+        let mut disk = MemDisk::new(self.alloc);
+        disk.replay(early)?;
+        disk.replay_picked(late, names.as_slice(), picks)?;
+        disk.settle();
+        disk.changed = false;
+        Ok(Some(disk))
+    }
+
+    // the names that were written or removed since the last good sync, in ascending order
+    fn unsynced(&self) -> Result<Vec<Unsynced>, AllocError> {
+        let mut written = BTreeMap::new(self.alloc);
+        for did in self.done.as_slice() {
+            note(&mut written, did)?;
+        }
+        let mut names = Vec::new(self.alloc);
+        for (name, is_written) in &written {
+            names.push(Unsynced {
+                name: *name,
+                is_written: *is_written,
+            })?;
+        }
+        Ok(names)
+    }
+
+    fn redo(&mut self, did: &Did) -> Result<(), AllocError>
+        ensures { OnOk result (held_by self.new ≡ after (held_by self.old) did.now) }
+    {
+        match did {
+            Did::Placed(name, bytes) => self.place(*name, bytes.as_slice()),
+            Did::Wrote(name, bytes) => self.place(*name, bytes.as_slice()),
+            Did::Removed(name) => self.take(*name),
+            Did::Kept(_) => Ok(()),
+            Did::Synced => Ok(()),
+        }
+    }
+
+    fn replay(&mut self, dids: &[Did]) -> Result<(), AllocError>
+        ensures { OnOk result (held_by self.new ≡ replayed (held_by self.old) dids.now) }
+    {
+        for did in dids {
+            self.redo(did)?;
+        }
+        Ok(())
+    }
+
+    // a write that wasn't synced leaves what is picked
+    fn put_picked(&mut self, name: u64, pick: Option<&Keep>) -> Result<(), AllocError>
+        ensures { OnOk result (Elsewhere name (held_by self.old) (held_by self.new)) }
+    {
+        match pick {
+            Some(Keep::Bytes(bytes)) => self.place(name, bytes.as_slice()),
+            _ => self.take(name),
+        }
+    }
+
+    fn take_picked(&mut self, name: u64, pick: Option<&Keep>) -> Result<(), AllocError>
+        ensures { OnOk result (GoneOrKept name (held_by self.old) (held_by self.new)) }
+    {
+        match pick {
+            Some(Keep::Absent) => self.take(name),
+            _ => Ok(()),
+        }
+    }
+
+    fn redo_picked(
+        &mut self,
+        did: &Did,
+        names: &[Unsynced],
+        picks: &[Keep],
+    ) -> Result<(), AllocError>
+        requires { is_sync did.now ≡ false }
+        ensures { OnOk result (StepTo did.now (held_by self.old) (held_by self.new)) }
+    {
+        match did {
+            Did::Placed(name, bytes) => self.place(*name, bytes.as_slice()),
+            Did::Wrote(name, _) => self.put_picked(*name, pick_of(*name, names, picks)),
+            Did::Removed(name) => self.take_picked(*name, pick_of(*name, names, picks)),
+            Did::Kept(name) => self.take_picked(*name, pick_of(*name, names, picks)),
+            Did::Synced => Ok(()),
+        }
+    }
+
+    fn replay_picked(
+        &mut self,
+        dids: &[Did],
+        names: &[Unsynced],
+        picks: &[Keep],
+    ) -> Result<(), AllocError>
+        requires { All (λ d. is_sync d ≡ false) dids.now }
+        ensures { OnOk result (StepsTo dids.now (held_by self.old) (held_by self.new)) }
+    {
+        for did in dids {
+            self.redo_picked(did, names, picks)?;
+        }
+        Ok(())
+    }
+}
+
+// how many of them stand before the last good sync and with it
+fn synced(dids: &[Did]) -> usize
+    ensures within { result ≤ length dids.now }
+    ensures none { All (λ d. is_sync d ≡ false) (drop result dids.now) }
+{
+    let mut left = dids.len();
+    while left > 0 {
+        if is_synced(&dids[left - 1]) {
+            return left;
+        }
+        left -= 1;
+    }
+    0
+}
+
+fn is_synced(did: &Did) -> bool
+    ensures { result ≡ is_sync did.now }
+{
+    match did {
+        Did::Synced => true,
+        _ => false,
+    }
+}
+
+// notes the name, and whether it was written
+fn note(written: &mut BTreeMap<u64, bool>, did: &Did) -> Result<(), AllocError> {
+    match did {
+        Did::Placed(name, _) => {
+            written.remove(name);
+        }
+        Did::Wrote(name, _) => {
+            written.insert(*name, true)?;
+        }
+        Did::Removed(name) | Did::Kept(name) => {
+            let before = written.get(name).copied().unwrap_or(false);
+            written.insert(*name, before)?;
+        }
+        Did::Synced => written.clear(),
+    }
+    Ok(())
+}
+
+fn are_picks(names: &[Unsynced], picks: &[Keep]) -> bool {
+    names.len() == picks.len()
+        && names
+            .iter()
+            .zip(picks)
+            .all(|(name, pick)| may_be(pick, name.is_written))
+}
+
+fn may_be(pick: &Keep, is_written: bool) -> bool {
+    match pick {
+        Keep::Absent => true,
+        Keep::Held => !is_written,
+        Keep::Bytes(_) => is_written,
+    }
+}
+
+// the pick of a name
+fn pick_of<'a>(name: u64, names: &[Unsynced], picks: &'a [Keep]) -> Option<&'a Keep> {
+    for (at, pick) in picks.iter().enumerate() {
+        if at < names.len() && names[at].name == name {
+            return Some(pick);
+        }
+    }
+    None
+}

@@ -1,0 +1,82 @@
+-- What each statement leaves.
+use Rattle.std.specs.Prelude.{ℕ, ◌≡◌, ◌⊎◌, true, false, List, Option, Some, None}
+use Rattle.sql_tree.specs.declared.statement.Function.{Function}
+use Rattle.sql_tree.specs.declared.statement.Statement.{Statement}
+use Rattle.sql_binding.specs.Inserts.{inserted_rows}
+use Rattle.db_model.specs.Database.{Table}
+use Rattle.db_model.specs.State.{State}
+use Rattle.db_model.specs.Views.{table_found}
+use Rattle.db_model.specs.Numbers.{IsDrawn}
+use Rattle.db_model.specs.Events.{table_created, projection_created, table_dropped, projection_dropped, rows_pending, on_table, rows_deleted, rows_updated, rows_loaded, changes_committed, changes_dropped}
+use Rattle.db_model.specs.Loading.{Files, Load, Loads}
+use Rattle.db_model.specs.Mover.{MovesAll, MoverSteps}
+
+-- COPY loads the rows of its file
+abbrev pub LoadLeaves : State → ℕ × Table → List ℕ → State → Type 0
+LoadLeaves state e bytes new = (rows : List (List _)) × Loads e.1.columns bytes (Load.Rows rows) × (new ≡ rows_loaded e.1.name rows state)
+
+abbrev pub CopyLeaves : State → Option (ℕ × Table) → Option (List ℕ) → State → Type 0
+CopyLeaves state None held new = ⊥
+CopyLeaves state (Some e) None new = ⊥
+CopyLeaves state (Some e) (Some bytes) new = LoadLeaves state e bytes new
+
+-- the functions that are defined so far
+abbrev pub CallLeaves : State → Function → State → Type 0
+CallLeaves state Function.Lge new = new ≡ state
+CallLeaves state Function.Ahm new = new ≡ state
+CallLeaves state Function.Current new = new ≡ state
+CallLeaves state Function.MakeAhmNow new = ⊥
+CallLeaves state (Function.SetAhm n) new = ⊥
+CallLeaves state Function.Moveout new = MovesAll state false new
+CallLeaves state Function.Mergeout new = ⊥
+CallLeaves state (Function.Purge table) new = ⊥
+CallLeaves state (Function.Refresh table) new = ⊥
+CallLeaves state Function.StartRefresh new = ⊥
+
+-- what a statement leaves that isn't refused
+abbrev pub Leaves : State → Files → Statement → State → Type 0
+Leaves state files (Statement.CreateTable name columns) new = IsDrawn state (table_created name columns state) new
+Leaves state files (Statement.CreateProjection p) new = IsDrawn state (projection_created p state) new
+Leaves state files (Statement.DropTable name) new = IsDrawn state (table_dropped name state) new
+Leaves state files (Statement.DropProjection name) new = IsDrawn state (projection_dropped name state) new
+Leaves state files (Statement.Insert i) new = new ≡ rows_pending i.table (inserted_rows i) state
+Leaves state files (Statement.Delete d) new = new ≡ on_table d.table (rows_deleted d state) state
+Leaves state files (Statement.Update u) new = new ≡ on_table u.table (rows_updated u state) state
+Leaves state files (Statement.Copy table file) new = CopyLeaves state (table_found table state.database.tables) (files file) new
+Leaves state files Statement.Commit new = new ≡ changes_committed state
+Leaves state files Statement.Rollback new = new ≡ changes_dropped state
+Leaves state files (Statement.Select at q) new = new ≡ state
+Leaves state files (Statement.Explain q) new = new ≡ state
+Leaves state files (Statement.Call f) new = CallLeaves state f new
+Leaves state files (Statement.Session n) new = new ≡ record state { current = n }
+Leaves state files Statement.Step new = MoverSteps state new
+
+-- What a refused statement leaves: nothing changes. A moveout of all alone keeps what it moved before the numbers were spent.
+abbrev pub RefusedCallLeaves : State → Function → State → Type 0
+RefusedCallLeaves state Function.Lge new = new ≡ state
+RefusedCallLeaves state Function.Ahm new = new ≡ state
+RefusedCallLeaves state Function.Current new = new ≡ state
+RefusedCallLeaves state Function.MakeAhmNow new = new ≡ state
+RefusedCallLeaves state (Function.SetAhm n) new = new ≡ state
+RefusedCallLeaves state Function.Moveout new = (new ≡ state) ⊎ MovesAll state true new
+RefusedCallLeaves state Function.Mergeout new = new ≡ state
+RefusedCallLeaves state (Function.Purge table) new = new ≡ state
+RefusedCallLeaves state (Function.Refresh table) new = new ≡ state
+RefusedCallLeaves state Function.StartRefresh new = new ≡ state
+
+abbrev pub RefusedLeaves : State → Statement → State → Type 0
+RefusedLeaves state (Statement.CreateTable name columns) new = new ≡ state
+RefusedLeaves state (Statement.CreateProjection p) new = new ≡ state
+RefusedLeaves state (Statement.DropTable name) new = new ≡ state
+RefusedLeaves state (Statement.DropProjection name) new = new ≡ state
+RefusedLeaves state (Statement.Insert i) new = new ≡ state
+RefusedLeaves state (Statement.Delete d) new = new ≡ state
+RefusedLeaves state (Statement.Update u) new = new ≡ state
+RefusedLeaves state (Statement.Copy table file) new = new ≡ state
+RefusedLeaves state Statement.Commit new = new ≡ state
+RefusedLeaves state Statement.Rollback new = new ≡ state
+RefusedLeaves state (Statement.Select at q) new = new ≡ state
+RefusedLeaves state (Statement.Explain q) new = new ≡ state
+RefusedLeaves state (Statement.Call f) new = RefusedCallLeaves state f new
+RefusedLeaves state (Statement.Session n) new = new ≡ state
+RefusedLeaves state Statement.Step new = new ≡ state

@@ -1,0 +1,11 @@
+pub mod Firsts
+pub mod Uses
+pub mod Sight
+pub mod Search
+pub mod Trees
+pub mod Conjuncts
+pub mod Outputs
+pub mod Queries
+pub mod Changes
+pub mod Projections
+pub mod Inserts
