@@ -24,7 +24,7 @@ fn each_call_of_the_disk_fails_in_turn(rt: HostRuntime) -> Result<(), Fail> {
         let mut disk = made.failing_at(&[failing])?;
         let (status, out) = ran_on(alloc, MORE, &NONE, &mut disk)?;
         if disk.calls() <= failing {
-            assert!(rt; k > 20, "{k}");
+            assert!(rt; k > 16, "{k}");
             assert_eq!(rt; status, Status::Done);
             assert!(rt; out.bytes() == MORE_TEXT);
             return Ok(());
@@ -70,7 +70,7 @@ fn each_call_of_a_first_run_fails_in_turn(rt: HostRuntime) -> Result<(), Fail> {
         let mut disk = MemDisk::new(alloc).failing_at(&[k])?;
         let (status, _) = ran_on(alloc, ROW, &NONE, &mut disk)?;
         if disk.calls() <= k {
-            assert!(rt; k > 20, "{k}");
+            assert!(rt; k > 16, "{k}");
             assert_eq!(rt; status, Status::Done);
             return Ok(());
         }
