@@ -13,7 +13,7 @@ use Rattle.db_model.specs.State.{State}
 use Rattle.db_model.specs.Sound.{IsSoundDatabase}
 use Rattle.db_model.specs.Epochs.{last_good}
 use Rattle.db_model.specs.Views.{table_found}
-use Rattle.db_model.specs.Events.{table_created, projection_created, table_dropped, projection_dropped, rows_deleted, rows_updated}
+use Rattle.db_model.specs.Events.{table_created, projection_created, table_dropped, projection_dropped, rows_pending, rows_deleted, rows_updated, rows_loaded}
 use Rattle.db_model.specs.Loading.{Files}
 use Rattle.db_model.specs.Mover.{MovesAll}
 use Rattle.db_model.specs.Leaving.{Leaves, RefusedLeaves, CallLeaves, RefusedCallLeaves, CopyLeaves}
@@ -36,7 +36,7 @@ updated_good n u state (Some e) good = good
 copied_good : (n : ℕ) (state : State) (e : Option (ℕ × Table)) (held : Option (List ℕ)) (new : State) → CopyLeaves state e held new → IsGood n state.database → IsGood n new.database
 copied_good n state None held new leaves good = absurd leaves
 copied_good n state (Some e) None new leaves good = absurd leaves
-copied_good n state (Some e) (Some bytes) new (rows, loads, same) good = absurd loads
+copied_good n state (Some e) (Some bytes) new (rows, loads, same) good = same_good n (rows_loaded e.1.name rows state) new same (good_committed n (rows_pending e.1.name rows state) good)
 
 called_good : (n : ℕ) (state : State) (f : Function) (new : State) → CallLeaves state f new → IsGood n state.database → IsGood n new.database
 called_good n state Function.Lge new same good = same_good n state new same good

@@ -1,0 +1,67 @@
+//! Laws of what a store stands for.
+
+ghost use Rattle.std.specs.Prelude.{ℕ, ◌≡◌, ◌<◌, ◌++◌, true, List, map, Option};
+ghost use Rattle.std.specs.List.{All};
+ghost use Rattle.common_laws.specs.Maps.{Contents};
+ghost use Rattle.col_disk.specs.Moved.{Moved, ImageOf};
+ghost use Rattle.col_disk.specs.declared.disk.Disk.{Ghosts};
+ghost use Rattle.col_value.specs.declared.value.Value.{Value};
+ghost use Rattle.col_value.specs.declared.row.Asked.{Asked};
+ghost use Rattle.row_history.specs.History.{inserted_at, mark_all, Within};
+ghost use Rattle.catalog_types.specs.declared.catalogue.Table as kept;
+ghost use Rattle.catalog_types.specs.declared.catalogue.Catalogue.{Catalogue};
+ghost use Rattle.catalog_types.specs.Reached.{least_lge};
+ghost use Rattle.catalog_root.specs.Crash.{IsReplaced};
+ghost use Rattle.catalog_root.specs.Quiet.{IsSpare, IsUseless};
+ghost use Rattle.db_model.specs.Database.{Database, Table};
+ghost use Rattle.db_model.specs.Epochs.{last_good, cut};
+ghost use Rattle.db_model.specs.Sound.{IsSoundDatabase};
+ghost use Rattle.stored_rows.specs.Stored.{Projected};
+ghost use Rattle.folder_model.specs.Tables.{StandsForTable, AreDatabase};
+ghost use Rattle.folder_model.specs.Reopening.{Reopens};
+ghost use Rattle.folder_model.specs.Standing.{StandsFor};
+ghost use Rattle.folder_model.specs.Changing.{inserted_into, AreDeletedFrom};
+
+use db_laws::openings_are_sound;
+
+/// Whatever a crash leaves of a disk over which a store stands for a database, the folder reopens to that database cut at its last good
+/// epoch.
+pub fn every_image_reopens()
+    ensures { (c : Catalogue) (stores : List (List Projected)) (told : Option Contents) (image : Contents → Type 0) (d : Database)
+        → StandsFor c stores told image d → (x : Contents) → image x → Reopens x (cut (last_good d) d) }
+{
+    openings_are_sound();
+}
+
+/// The last good epoch of the database is the least that an up-to-date projection of the catalogue has reached.
+pub fn last_good_is_reached()
+    ensures { (m : Contents) (c : Catalogue) (stores : List (List Projected)) (d : Database) → AreDatabase m c stores d → last_good d ≡ least_lge c }
+{}
+
+/// A store stands for its database on while data files are written that its root doesn't list, and files removed that it has no use
+/// for.
+pub fn other_files_move()
+    ensures { (D : Type 0) (disk : Ghosts D) (W R : ℕ → Type 0) (old new : D) (c : Catalogue) (stores : List (List Projected)) (d : Database)
+        → (stands : StandsFor c stores (disk.holds old) (ImageOf disk old) d) → ((q : ℕ) → W q → IsSpare stands.root q) → ((q : ℕ) → R q → IsUseless stands.root q)
+        → Moved disk W R old new → StandsFor c stores (disk.holds new) (ImageOf disk new) d }
+{}
+
+/// A catalogue that is, with its stores, a sound database over the contents stands for it after its commit.
+pub fn commits_stand()
+    ensures { (told : Option Contents) (image : Contents → Type 0) (version : ℕ) (c : Catalogue) (stores : List (List Projected)) (m : Contents) (d : Database)
+        → AreDatabase m c stores d → IsSoundDatabase d → version < c.next → IsReplaced told image version c m → StandsFor c stores told image d }
+{}
+
+/// Rows that a commit inserts join the table and each of its up-to-date projections, with its columns.
+pub fn inserts_stand()
+    ensures { (m : Contents) (mark epoch : ℕ) (t : kept.Table) (ps : List Projected) (u : Table) (new : List (List Value))
+        → All (λ p. p.entry.fresh ≡ true → p.entry.lge < epoch) ps → StandsForTable m mark t ps u
+        → StandsForTable m mark t (map (inserted_into epoch new) ps) (record u { rows = u.rows ++ map (inserted_at epoch) new }) }
+{}
+
+/// Rows that a commit deletes are deleted of the table and of each of its up-to-date projections, whichever of equal rows it marks.
+pub fn deletes_stand()
+    ensures { (m : Contents) (mark epoch : ℕ) (t : kept.Table) (old new : List Projected) (u : Table) (asked : List Asked)
+        → mark < epoch → Within asked u.rows → AreDeletedFrom m epoch asked old new → StandsForTable m mark t old u
+        → StandsForTable m mark t new (record u { rows = mark_all epoch asked u.rows }) }
+{}

@@ -1,0 +1,54 @@
+-- The rows of a projection with what is kept of it in memory.
+use Rattle.std.specs.Prelude.{ℕ, ◌≡◌, ◌<◌, ◌++◌, List, [], ◌∷◌, map, Option, Some}
+use Rattle.std.specs.Option.{option_or}
+use Rattle.std.specs.List.{All}
+use Rattle.common_laws.specs.Maps.{Contents}
+use Rattle.col_value.specs.declared.kinds.Encoding.{Encoding}
+use Rattle.col_value.specs.declared.row.Stamped.{Stamped}
+use Rattle.catalog_types.specs.declared.catalogue.Container.{Container}
+use Rattle.catalog_types.specs.declared.catalogue.Projection.{Projection}
+use Rattle.ros_container.specs.Encodings.{encodings_of}
+use Rattle.del_vector.specs.declared.mark.Mark.{Mark}
+use Rattle.del_vector.specs.Marks.{epoch_at}
+use Rattle.stored_rows.specs.Held.{HoldsVector, HoldsMarked}
+
+-- what is kept in memory of a container: its delete vector, and the marks that came since
+pub record Beside : Type 0 where
+  pub held : List Mark
+  pub fresh : List Mark
+
+-- the epoch in which a position was deleted, by the vector or by a mark that came since
+abbrev pub mark_in : Beside → ℕ → Option ℕ
+mark_in b i = option_or (epoch_at b.held i) (epoch_at b.fresh i)
+
+-- A projection: its entry in the catalogue, what is kept in memory of each of its containers, and the rows that aren't on disk.
+pub record Projected : Type 0 where
+  pub entry : Projection
+  pub beside : List Beside
+  pub unsaved : List Stamped
+
+-- the rows of listed containers with what is kept of each, the oldest container first
+abbrev pub StoresRows : Contents → List Encoding → List Container → List Beside → List Stamped → Type 0
+StoresRows m encodings [] [] rows = rows ≡ []
+StoresRows m encodings [] (b ∷ bs) rows = ⊥
+StoresRows m encodings (k ∷ ks) [] rows = ⊥
+StoresRows m encodings (k ∷ ks) (b ∷ bs) rows =
+    (here : List Stamped) × (more : List Stamped)
+    × HoldsVector m k b.held × HoldsMarked m encodings k (mark_in b) here × StoresRows m encodings ks bs more × (rows ≡ here ++ more)
+
+-- all rows of a projection: those of its containers, and then those in memory
+abbrev pub Stores : Contents → Projected → List Stamped → Type 0
+Stores m p rows = (saved : List Stamped) × StoresRows m (encodings_of p.entry) p.entry.containers p.beside saved × (rows ≡ saved ++ p.unsaved)
+
+-- marks later than an epoch
+abbrev pub AreLater : ℕ → List Mark → Type 0
+AreLater epoch marks = (i e : ℕ) → epoch_at marks i ≡ Some e → epoch < e
+
+-- what is in memory alone is later than an epoch
+pub record IsMemoryAbove (epoch : ℕ) (p : Projected) : Type 0 where
+  pub rows : All (λ s. epoch < s.ins) p.unsaved
+  pub marks : All (λ b. AreLater epoch b.fresh) p.beside
+
+-- a projection as it was read from the disk: nothing is in memory alone
+abbrev pub IsRead : Projected → Type 0
+IsRead p = (p.unsaved ≡ []) × All (λ b. b.fresh ≡ []) p.beside

@@ -1,0 +1,12 @@
+//! The rows of a projection: what its files and its delete vectors hold, and what is kept of it in memory.
+//!
+//! The definitions are `specs/Held.antt` (the rows of the files that a catalogue lists) and `specs/Stored.antt` (the same with the
+//! rows and marks that aren't on disk); the laws are the contracts here, and there is no code. Projections, jobs and what a
+//! folder reopens to are stated in these words.
+#![tactic(auto)]
+
+mod laws;
+
+pub use laws::{
+    a_cut_sees_no_memory, one_list_of_rows, other_files_may_change, what_is_read_is_stored,
+};
