@@ -11,17 +11,17 @@ use Rattle.row_history.specs.History.{inserted_at}
 use Rattle.row_history.proofs.Inserting.{alike_inserted}
 use Rattle.catalog_types.specs.declared.catalogue.Table as kept
 use Rattle.db_model.specs.Database.{Table}
-use Rattle.stored_rows.specs.Stored.{Projected}
 use Rattle.folder_model.specs.Projections.{ordinals, HasHistory, IsBare, HasRows}
 use Rattle.folder_model.specs.Tables.{StandsForTable}
-use Rattle.folder_model.specs.Changing.{rows_for, with_rows, inserted_into}
+use Rattle.stored_rows.specs.Stored.{Projected, with_rows}
+use Rattle.folder_model.specs.Changing.{rows_for, inserted_into}
 
 later_new : (lge epoch : ℕ) (rows : List (List Value)) → lge < epoch → All (λ s. lge < s.ins) (map (inserted_at epoch) rows)
 later_new lge epoch [] lt = All-nil (λ s. lge < s.ins)
 later_new lge epoch (row ∷ rows) lt = All-cons (λ s. lge < s.ins) (inserted_at epoch row) (map (inserted_at epoch) rows) lt (later_new lge epoch rows lt)
 
 history_inserted : (m : Contents) (mark epoch : ℕ) (rows : List Stamped) (new : List (List Value)) (p : Projected) → p.entry.lge < epoch → HasHistory m mark rows p
-    → HasHistory m mark (rows ++ map (inserted_at epoch) new) (with_rows epoch new p)
+    → HasHistory m mark (rows ++ map (inserted_at epoch) new) (with_rows (rows_for epoch new p) p)
 history_inserted m mark epoch rows new p lt has = record {
   stored = has.stored ++ rows_for epoch new p;
   are = (has.are.0, has.are.1, ap (λ (ss : List Stamped). ss ++ rows_for epoch new p) has.are.2 ∙ append_assoc has.are.0 p.unsaved (rows_for epoch new p));
@@ -37,7 +37,7 @@ rows_inserted : (m : Contents) (mark epoch : ℕ) (rows : List Stamped) (new : L
 rows_inserted m mark epoch rows new p lt has = by p.entry.fresh refl has.fresh has.stale
   where
     q : Bool → Projected
-    q b = cond b (with_rows epoch new p) p
+    q b = cond b (with_rows (rows_for epoch new p) p) p
 
     on : (b : Bool) (P Q : Type 0) → b ≡ true → OnTrue b P → (P → Q) → OnTrue b Q
     on true P Q is h f = f h
@@ -53,8 +53,8 @@ rows_inserted m mark epoch rows new p lt has = by p.entry.fresh refl has.fresh h
 
     by : (b : Bool) → p.entry.fresh ≡ b → OnTrue p.entry.fresh (HasHistory m mark rows p) → OnFalse p.entry.fresh (IsBare p) → HasRows m mark (rows ++ map (inserted_at epoch) new) (q b)
     by true is fresh stale = record {
-      fresh = on p.entry.fresh (HasHistory m mark rows p) (HasHistory m mark (rows ++ map (inserted_at epoch) new) (with_rows epoch new p)) is fresh (λ h. history_inserted m mark epoch rows new p (lt is) h);
-      stale = off p.entry.fresh (IsBare (with_rows epoch new p)) is;
+      fresh = on p.entry.fresh (HasHistory m mark rows p) (HasHistory m mark (rows ++ map (inserted_at epoch) new) (with_rows (rows_for epoch new p) p)) is fresh (λ h. history_inserted m mark epoch rows new p (lt is) h);
+      stale = off p.entry.fresh (IsBare (with_rows (rows_for epoch new p) p)) is;
     }
     by false is fresh stale = record { fresh = nothing p.entry.fresh (HasHistory m mark (rows ++ map (inserted_at epoch) new) p) is; stale = stale }
 
@@ -69,7 +69,7 @@ table_inserted m mark epoch t ps u new lt stands = record {
   rows = each ps lt stands.rows;
 }
   where
-    entry_same : (p : Projected) (b : Bool) → (cond b (with_rows epoch new p) p).entry ≡ p.entry
+    entry_same : (p : Projected) (b : Bool) → (cond b (with_rows (rows_for epoch new p) p) p).entry ≡ p.entry
     entry_same p true = refl
     entry_same p false = refl
 

@@ -8,19 +8,16 @@ use Rattle.col_value.specs.declared.row.Asked.{Asked}
 use Rattle.col_value.specs.declared.row.Stamped.{Stamped}
 use Rattle.col_value.specs.Order.{projected}
 use Rattle.row_history.specs.History.{inserted_at, asked_on, Takes}
-use Rattle.stored_rows.specs.Stored.{Projected, Stores, IsMemoryAbove}
+use Rattle.stored_rows.specs.Stored.{Projected, Stores, IsMemoryAbove, with_rows}
 use Rattle.folder_model.specs.Projections.{ordinals}
 
 -- rows of the table, with the projection's columns, inserted at an epoch
 abbrev pub rows_for : ℕ → List (List Value) → Projected → List Stamped
 rows_for epoch new p = map (inserted_at epoch) (map (λ row. projected row (ordinals p.entry)) new)
 
-abbrev pub with_rows : ℕ → List (List Value) → Projected → Projected
-with_rows epoch new p = record p { unsaved = p.unsaved ++ rows_for epoch new p }
-
 -- a projection after a commit that inserts rows: one that is up to date has them in memory
 abbrev pub inserted_into : ℕ → List (List Value) → Projected → Projected
-inserted_into epoch new p = if p.entry.fresh then with_rows epoch new p else p
+inserted_into epoch new p = if p.entry.fresh then with_rows (rows_for epoch new p) p else p
 
 -- Of what a projection stores, these rows of the table are deleted at an epoch, with its columns, and no others; its entry is as it was.
 pub record TakesRows (m : Contents) (epoch : ℕ) (asked : List Asked) (old new : Projected) : Type 0 where

@@ -1,3 +1,4 @@
 pub mod OneList
 pub mod KeptRows
+pub mod ReadRows
 pub mod Memories

@@ -1,7 +1,7 @@
 -- The rows of a projection with what is kept of it in memory.
 use Rattle.std.specs.Prelude.{ℕ, ◌≡◌, ◌<◌, ◌++◌, List, [], ◌∷◌, map, Option, Some}
 use Rattle.std.specs.Option.{option_or}
-use Rattle.std.specs.List.{All}
+use Rattle.std.specs.List.{All, AllZip}
 use Rattle.common_laws.specs.Maps.{Contents}
 use Rattle.col_value.specs.declared.kinds.Encoding.{Encoding}
 use Rattle.col_value.specs.declared.row.Stamped.{Stamped}
@@ -49,6 +49,15 @@ pub record IsMemoryAbove (epoch : ℕ) (p : Projected) : Type 0 where
   pub rows : All (λ s. epoch < s.ins) p.unsaved
   pub marks : All (λ b. AreLater epoch b.fresh) p.beside
 
+-- what is kept of a container is its delete vector on the disk, and no mark came since
+abbrev pub IsUnmarked : Contents → Container → Beside → Type 0
+IsUnmarked m k b = HoldsVector m k b.held × (b.fresh ≡ [])
+
 -- a projection as it was read from the disk: nothing is in memory alone
-abbrev pub IsRead : Projected → Type 0
-IsRead p = (p.unsaved ≡ []) × All (λ b. b.fresh ≡ []) p.beside
+pub record IsLoaded (m : Contents) (p : Projected) : Type 0 where
+  pub beside : AllZip (IsUnmarked m) p.entry.containers p.beside
+  pub unsaved : p.unsaved ≡ []
+
+-- a projection with more rows in memory
+abbrev pub with_rows : List Stamped → Projected → Projected
+with_rows rows p = record p { unsaved = p.unsaved ++ rows }

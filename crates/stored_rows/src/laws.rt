@@ -11,7 +11,7 @@ ghost use Rattle.row_history.specs.History.{cut_rows};
 ghost use Rattle.del_vector.specs.declared.mark.Mark.{Mark};
 ghost use Rattle.stored_rows.specs.Listed.{SameFiles, SameEntry};
 ghost use Rattle.stored_rows.specs.Held.{HoldsVector, HoldsRows, Holds};
-ghost use Rattle.stored_rows.specs.Stored.{Beside, Projected, StoresRows, Stores, IsMemoryAbove, IsRead};
+ghost use Rattle.stored_rows.specs.Stored.{Projected, Stores, IsMemoryAbove, IsLoaded};
 
 use del_vector::one_vector;
 use ros_container::one_container;
@@ -33,11 +33,13 @@ pub fn other_files_may_change()
     ensures stored { (m n : Contents) (p : Projected) (rows : List Stamped) → SameEntry m n p.entry → Stores m p rows → Stores n p rows }
 {}
 
-/// A projection that was read from the disk, its delete vectors whole, stores exactly the rows of its files.
+/// A projection that was read from the disk stores exactly the rows of its files.
 pub fn what_is_read_is_stored()
-    ensures stored { (m : Contents) (p : Projected) (rows : List Stamped) → IsRead p → Stores m p rows → Holds m p.entry rows }
-    ensures held { (m : Contents) (encodings : List Encoding) (ks : List Container) (bs : List Beside) (rows : List Stamped) → All (λ b. b.fresh ≡ []) bs → StoresRows m encodings ks bs rows → HoldsRows m encodings ks rows }
-{}
+    ensures stored { (m : Contents) (p : Projected) (rows : List Stamped) → IsLoaded m p → Holds m p.entry rows → Stores m p rows }
+    ensures held { (m : Contents) (p : Projected) (rows : List Stamped) → IsLoaded m p → Stores m p rows → Holds m p.entry rows }
+{
+    one_vector();
+}
 
 /// Cut at an epoch above which all is that stands in memory alone, a projection has the rows of its files.
 pub fn a_cut_sees_no_memory()
