@@ -54,7 +54,7 @@ history_cut m x mark epoch rows p marked reached_is same has =
       k.0,
       entry_kept m x p.entry k.0 same k.1,
       subst (λ (xs : List Stamped). SameBag xs (map (on_columns columns) (retained mark (cut_rows epoch rows)))) (sym left)
-      (subst (SameBag (cut_rows epoch (retained mark has.stored))) right (bag_cut epoch (retained mark has.stored) (map (on_columns columns) (retained mark rows)) has.history)),
+          (subst (SameBag (cut_rows epoch (retained mark has.stored))) right (bag_cut epoch (retained mark has.stored) (map (on_columns columns) (retained mark rows)) has.history)),
     )
 
 projections_cut : (m x : Contents) (mark epoch : ℕ) (rows : List Stamped) (ps : List Projected) → mark ≤ epoch
@@ -64,7 +64,7 @@ projections_cut m x mark epoch rows [] marked good same has = All-nil (λ p. OnT
 projections_cut m x mark epoch rows (p ∷ ps) marked good same has =
     All-cons (λ q. OnTrue q.entry.fresh (HoldsHistory x mark epoch (cut_rows epoch rows) q.entry)) p ps
     (on_true p.entry.fresh (λ fresh h. history_cut m x mark epoch rows p marked (All-head (λ q. q.entry.fresh ≡ true → epoch ≤ q.entry.lge) p ps good fresh) (All-head (λ q. SameEntry m x q.entry) p ps same) h)
-        ((All-head (HasRows m mark rows) p ps has).fresh))
+    ((All-head (HasRows m mark rows) p ps has).fresh))
     (projections_cut m x mark epoch rows ps marked (All-tail (λ q. q.entry.fresh ≡ true → epoch ≤ q.entry.lge) p ps good) (All-tail (λ q. SameEntry m x q.entry) p ps same) (All-tail (HasRows m mark rows) p ps has))
 
 -- what holds of the entries holds of each projection's entry

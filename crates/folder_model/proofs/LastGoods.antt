@@ -71,9 +71,9 @@ pub good_below : (c : Catalogue) → All (λ t. All (λ p. p.fresh ≡ true → 
 good_below c =
     All-weaker (λ t. Below (all_reached c) (table_reached t)) (λ t. All (λ p. p.fresh ≡ true → least_lge c ≤ p.lge) t.projections)
     (λ t below.
-        All-weaker (λ p. Below (table_reached t) (reached p)) (λ p. p.fresh ≡ true → least_lge c ≤ p.lge)
-        (λ p is. below_lge (all_reached c) c.last p (below_chain (all_reached c) (table_reached t) (reached p) below is))
-        t.projections (below_each reached None t.projections))
+    All-weaker (λ p. Below (table_reached t) (reached p)) (λ p. p.fresh ≡ true → least_lge c ≤ p.lge)
+    (λ p is. below_lge (all_reached c) c.last p (below_chain (all_reached c) (table_reached t) (reached p) below is))
+    t.projections (below_each reached None t.projections))
     c.tables (below_each table_reached None c.tables)
 
 -- ---- the least over all shapes
