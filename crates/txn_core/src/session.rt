@@ -112,7 +112,8 @@ impl Session {
             None => {
                 let mut changes = Changes::untouched(alloc, table)?;
                 changes.join(rows)?;
-                self.changes.push(changes)
+                self.changes.push(changes)?;
+                Ok(())
             }
         }
     }
@@ -133,7 +134,8 @@ impl Session {
             None => {
                 let mut changes = Changes::untouched(alloc, table)?;
                 changes.mark(rows, deletes)?;
-                self.changes.push(changes)
+                self.changes.push(changes)?;
+                Ok(())
             }
         }
     }
