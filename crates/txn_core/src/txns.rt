@@ -11,6 +11,9 @@ use col_value::{Asked, Row};
 use std::alloc::{AllocError, Global};
 use std::marker::Model;
 
+// How many sessions there are.
+const SESSIONS: usize = 8;
+
 /// The changes of the eight sessions, which are numbered from 1.
 #[derive(Drop)]
 pub struct Txns {
@@ -33,8 +36,8 @@ impl Txns {
     pub fn new(alloc: Global) -> Result<Txns, AllocError>
         ensures { IfOk result (λ t. t ≡ idle_sessions) }
     {
-        let mut sessions = Vec::with_capacity(alloc, 8)?;
-        for _ in 0..8 {
+        let mut sessions = Vec::with_capacity(alloc, SESSIONS)?;
+        for _ in 0..SESSIONS {
             sessions.push(Session::new(alloc))?;
         }
         Ok(Txns { sessions })
