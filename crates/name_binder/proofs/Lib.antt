@@ -1,0 +1,5 @@
+pub mod Named
+pub mod Parts
+pub mod Sights
+pub mod Walks
+pub mod Theres
