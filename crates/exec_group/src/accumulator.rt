@@ -1,0 +1,195 @@
+//! An aggregate that takes one value after another.
+
+ghost use Rattle.std.specs.Prelude.{◌≡◌, ◌+◌, [], Some, if◌then◌else◌, IfOk, OnOk, IsErrOf};
+ghost use Rattle.col_value.specs.Order.{wide_cmp, wide_kind};
+ghost use Rattle.sql_bound.specs.Outputs.{greater, lesser, number_or_zero};
+ghost use Rattle.expr_value.specs.Worths.{wide_of};
+ghost use Rattle.exec_group.specs.Accumulators.{accumulated, added, greatest_with, least_with, or_null, sum_or_null, taken, worth_or_null};
+ghost use Rattle.exec_group.specs.declared.accumulator.Accumulator.TheVariants as accumulator;
+ghost use Rattle.exec_group.specs.declared.fault.GroupFault.{GroupFault};
+
+use crate::GroupFault;
+use crate::total::Total;
+use col_value::Wide;
+use expr_value::Worth;
+use sql_tree::AggKind;
+use std::alloc::{AllocError, Global};
+use std::cmp::Ordering;
+
+/// What an aggregate keeps of the values that it took: for COUNT how many rows or values there were, for SUM their total (None
+/// before the first value) or that it is too great, and for MIN and MAX the least and the greatest value so far.
+#[derive(Debug, Drop)]
+pub enum Accumulator {
+    Rows(u64),
+    Values(u64),
+    Sum(Option<Total>),
+    TooGreat,
+    Least(Option<Wide>),
+    Greatest(Option<Wide>),
+}
+
+impl Accumulator {
+    /// The aggregate over no row.
+    pub fn new(kind: AggKind) -> Accumulator
+        ensures { result ≡ accumulated kind 0 [] }
+    {
+        match kind {
+            AggKind::CountAll => Accumulator::Rows(0),
+            AggKind::Count => Accumulator::Values(0),
+            AggKind::Sum => Accumulator::Sum(None),
+            AggKind::Min => Accumulator::Least(None),
+            AggKind::Max => Accumulator::Greatest(None),
+        }
+    }
+
+    /// Takes a row more, in which its argument has this value. A count that no u64 holds finds no memory.
+    pub fn take(&mut self, alloc: Global, value: &Worth<'_>) -> Result<(), AllocError>
+        ensures { OnOk result (self.new ≡ taken self.old (wide_of value.now)) }
+    {
+        let before = std::mem::replace(self, Accumulator::TooGreat);
+        *self = before.taken(alloc, value)?;
+        Ok(())
+    }
+
+    /// The same over a row more.
+    fn taken(self, alloc: Global, value: &Worth<'_>) -> Result<Accumulator, AllocError>
+        ensures { IfOk result (λ a. a ≡ taken self (wide_of value.now)) }
+    {
+        match self {
+            Accumulator::Rows(n) => Ok(Accumulator::Rows(raised(n)?)),
+            other if value.is_null() => Ok(other),
+            Accumulator::Values(n) => Ok(Accumulator::Values(raised(n)?)),
+            Accumulator::Sum(total) => Ok(added(total, number_or_zero(value))),
+            Accumulator::TooGreat => Ok(Accumulator::TooGreat),
+            Accumulator::Least(found) => Ok(Accumulator::Least(Some(least_with(
+                alloc, found, value,
+            )?))),
+            Accumulator::Greatest(found) => Ok(Accumulator::Greatest(Some(greatest_with(
+                alloc, found, value,
+            )?))),
+        }
+    }
+
+    /// The aggregate's value. SUM, MIN and MAX over no value are NULL.
+    pub fn worth(&self, alloc: Global) -> Result<Wide, GroupFault>
+        ensures value { IfOk result (λ w. w ≡ worth_or_null self.now) }
+        ensures in_range { OnOk result (self.now ≡ accumulator.TooGreat → ⊥) }
+        ensures great { IsErrOf result GroupFault.SumOutOfRange → self.now ≡ accumulator.TooGreat }
+    {
+        match self {
+            Accumulator::Rows(n) => Ok(Wide::Int(i128::from(*n))),
+            Accumulator::Values(n) => Ok(Wide::Int(i128::from(*n))),
+            Accumulator::Sum(total) => Ok(sum_or_null(total)),
+            Accumulator::TooGreat => Err(GroupFault::SumOutOfRange),
+            Accumulator::Least(found) => Ok(or_null(alloc, found)?),
+            Accumulator::Greatest(found) => Ok(or_null(alloc, found)?),
+        }
+    }
+}
+
+fn sum_or_null(total: &Option<Total>) -> Wide
+    ensures { result ≡ sum_or_null total.now }
+{
+    match total {
+        Some(total) => Wide::Int(total.sum()),
+        None => Wide::Null,
+    }
+}
+
+fn or_null(alloc: Global, found: &Option<Wide>) -> Result<Wide, AllocError>
+    ensures { IfOk result (λ w. w ≡ or_null found.now) }
+{
+    match found {
+        Some(value) => value.copy(alloc),
+        None => Ok(Wide::Null),
+    }
+}
+
+fn raised(n: u64) -> Result<u64, AllocError>
+    ensures { IfOk result (λ m. m ≡ n + 1) }
+{
+    match n.checked_add(1) {
+        Some(m) => Ok(m),
+        None => Err(AllocError),
+    }
+}
+
+fn number_or_zero(value: &Worth<'_>) -> i128
+    ensures { result ≡ number_or_zero (wide_of value.now) }
+{
+    match value {
+        Worth::Int(n) => *n,
+        Worth::Null | Worth::Bool(_) | Worth::Text(_) => 0,
+    }
+}
+
+fn added(total: Option<Total>, number: i128) -> Accumulator
+    ensures { result ≡ added total number }
+{
+    match total.unwrap_or(Total::none()).with(number) {
+        Some(total) => Accumulator::Sum(Some(total)),
+        None => Accumulator::TooGreat,
+    }
+}
+
+/// The place of its kind in the order.
+fn kind(value: &Worth<'_>) -> u8
+    ensures { result ≡ wide_kind (wide_of value.now) }
+{
+    match value {
+        Worth::Null => 0,
+        Worth::Bool(_) => 1,
+        Worth::Int(_) => 2,
+        Worth::Text(_) => 3,
+    }
+}
+
+/// How two values stand.
+fn order(a: &Worth<'_>, b: &Worth<'_>) -> Ordering
+    ensures { result ≡ wide_cmp (wide_of a.now) (wide_of b.now) }
+{
+    match (a, b) {
+        (Worth::Bool(a), Worth::Bool(b)) => a.cmp(b),
+        (Worth::Int(a), Worth::Int(b)) => a.cmp(b),
+        (Worth::Text(a), Worth::Text(b)) => a.as_bytes().cmp(&b.as_bytes()),
+        _ => kind(a).cmp(&kind(b)),
+    }
+}
+
+fn lesser(alloc: Global, found: Wide, value: &Worth<'_>) -> Result<Wide, AllocError>
+    ensures { IfOk result (λ w. w ≡ lesser found (wide_of value.now)) }
+{
+    if order(value, &Worth::of_wide(&found)).is_lt() {
+        value.own(alloc)
+    } else {
+        Ok(found)
+    }
+}
+
+fn least_with(alloc: Global, found: Option<Wide>, value: &Worth<'_>) -> Result<Wide, AllocError>
+    ensures { IfOk result (λ w. w ≡ least_with found (wide_of value.now)) }
+{
+    match found {
+        Some(found) => lesser(alloc, found, value),
+        None => value.own(alloc),
+    }
+}
+
+fn greater(alloc: Global, found: Wide, value: &Worth<'_>) -> Result<Wide, AllocError>
+    ensures { IfOk result (λ w. w ≡ greater found (wide_of value.now)) }
+{
+    if order(&Worth::of_wide(&found), value).is_lt() {
+        value.own(alloc)
+    } else {
+        Ok(found)
+    }
+}
+
+fn greatest_with(alloc: Global, found: Option<Wide>, value: &Worth<'_>) -> Result<Wide, AllocError>
+    ensures { IfOk result (λ w. w ≡ greatest_with found (wide_of value.now)) }
+{
+    match found {
+        Some(found) => greater(alloc, found, value),
+        None => value.own(alloc),
+    }
+}

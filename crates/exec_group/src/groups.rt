@@ -1,0 +1,163 @@
+//! Groups, each found by its key.
+
+ghost use Rattle.std.specs.Prelude.{◌≡◌, ◌++◌, ◌∷◌, List, [], true, get_or, map, set, IfOk, OnOk, IsErrOf};
+ghost use Rattle.std.specs.List.{All};
+ghost use Rattle.col_value.specs.Order.{IsRow};
+ghost use Rattle.col_value.specs.declared.value.Value.{Value};
+ghost use Rattle.sql_bound.specs.declared.query.BoundQuery.{BoundQuery};
+ghost use Rattle.exec_group.specs.Accumulators.{fresh, is_bounded_aggregate, taken_by_all, worth_or_null};
+ghost use Rattle.exec_group.specs.Groups.{Held, AreGroups, HasGreatSum, HasTooGreat, HoldsGroups, one_group, pushed};
+ghost use Rattle.exec_group.specs.declared.accumulator.Accumulator.TheVariants.{TooGreat};
+ghost use Rattle.exec_group.specs.declared.fault.GroupFault.{GroupFault};
+
+use crate::GroupFault;
+use crate::tally::Tally;
+use col_value::{List, Row, Value, WideRow};
+use row_keys::KeyTable;
+use sql_bound::{Aggregate, BoundQuery};
+use std::alloc::{AllocError, Global};
+use std::marker::Model;
+
+/// The groups of the rows taken so far.
+#[derive(Drop)]
+pub struct Groups {
+    keys: KeyTable,
+    tallies: Vec<Tally>,
+}
+
+impl Model for Groups {
+    ghost use Rattle.exec_group.specs.Groups.{Held};
+
+    ghost Value = { Held };
+
+    ghost view = { λ g. record { keys = g.keys; tallies = g.tallies.items } };
+}
+
+/// Groups that are done: the GROUP BY columns of each, and beside them its aggregates.
+#[derive(Drop)]
+pub struct Grouped {
+    pub keys: List<Row>,
+    pub aggs: List<WideRow>,
+}
+
+impl Groups {
+    /// The groups over no row: none, or the one group of a query without GROUP BY.
+    pub fn new(alloc: Global, query: &BoundQuery) -> Result<Groups, AllocError>
+        ensures { IfOk result (HoldsGroups query.now []) }
+    {
+        if query.keys.as_slice().is_empty() {
+            return Groups::one(alloc, query.aggs.as_slice());
+        }
+        Ok(Groups {
+            keys: KeyTable::new(alloc),
+            tallies: Vec::new(alloc),
+        })
+    }
+
+    /// One group, of no key and no row.
+    fn one(alloc: Global, aggs: &[Aggregate]) -> Result<Groups, AllocError>
+        ensures { IfOk result (λ g. g ≡ one_group aggs.now) }
+    {
+        let mut keys = KeyTable::new(alloc);
+        keys.add(alloc, &[], &[])?;
+        let mut tallies = Vec::new(alloc);
+        tallies.push(Tally::new(alloc, aggs)?)?;
+        Ok(Groups { keys, tallies })
+    }
+
+    /// Takes a row of the query. Groups that found no memory for a row are of no more use.
+    pub fn push(
+        &mut self,
+        alloc: Global,
+        query: &BoundQuery,
+        row: &[Value],
+    ) -> Result<(), AllocError>
+        requires bounded { All (λ a. is_bounded_aggregate a ≡ true) query.now.aggs }
+        requires row { IsRow row.now }
+        ensures { OnOk result ((rows : List (List Value)) → HoldsGroups query.now rows self.old → HoldsGroups query.now (rows ++ row.now ∷ []) self.new) }
+    {
+        self.put(alloc, query.keys.as_slice(), query.aggs.as_slice(), row)
+    }
+
+    /// Puts a row to its group, or begins a group with it.
+    fn put(
+        &mut self,
+        alloc: Global,
+        keys: &[usize],
+        aggs: &[Aggregate],
+        row: &[Value],
+    ) -> Result<(), AllocError>
+        requires bounded { All (λ a. is_bounded_aggregate a ≡ true) aggs.now }
+        requires row { IsRow row.now }
+        ensures { OnOk result (self.new ≡ pushed keys.now aggs.now row.now self.old) }
+    {
+        match self.keys.find(keys, row) {
+            Some(place) => take_at(&mut self.tallies, alloc, place, aggs, row),
+            None => {
+                self.tallies.push(first_tally(alloc, aggs, row)?)?;
+                self.keys.add(alloc, keys, row)
+            }
+        }
+    }
+
+    /// The groups of all rows taken, and a fault where a SUM passes what a result holds in one of them.
+    pub fn finish(self, alloc: Global) -> Result<Grouped, GroupFault>
+        ensures groups { IfOk result (λ g. (q : BoundQuery) (rows : List (List Value)) → HoldsGroups q rows self → AreGroups q rows g) }
+        ensures in_range { OnOk result ((q : BoundQuery) (rows : List (List Value)) → HoldsGroups q rows self → HasGreatSum q rows → ⊥) }
+        ensures great { IsErrOf result GroupFault.SumOutOfRange → (q : BoundQuery) (rows : List (List Value)) → HoldsGroups q rows self → HasGreatSum q rows }
+    {
+        let Groups { keys, tallies } = self;
+        match worths(alloc, tallies.as_slice()) {
+            Ok(aggs) => Ok(Grouped {
+                keys: List::new(keys.into_keys()),
+                aggs: List::new(aggs),
+            }),
+            Err(fault) => Err(fault),
+        }
+    }
+}
+
+/// The aggregates over one row.
+fn first_tally(alloc: Global, aggs: &[Aggregate], row: &[Value]) -> Result<Tally, AllocError>
+    requires bounded { All (λ a. is_bounded_aggregate a ≡ true) aggs.now }
+    requires row { IsRow row.now }
+    ensures { IfOk result (λ t. t ≡ taken_by_all row.now aggs.now (fresh aggs.now)) }
+{
+    let mut tally = Tally::new(alloc, aggs)?;
+    tally.take(alloc, aggs, row)?;
+    Ok(tally)
+}
+
+/// Lets the aggregates at this place take a row.
+fn take_at(
+    tallies: &mut Vec<Tally>,
+    alloc: Global,
+    place: usize,
+    aggs: &[Aggregate],
+    row: &[Value],
+) -> Result<(), AllocError>
+    requires bounded { All (λ a. is_bounded_aggregate a ≡ true) aggs.now }
+    requires row { IsRow row.now }
+    ensures { OnOk result (tallies.new.items ≡ set tallies.old.items place (taken_by_all row.now aggs.now (get_or tallies.old.items place []))) }
+{
+    if place < tallies.len() {
+        tallies[place].take(alloc, aggs, row)?;
+    }
+    Ok(())
+}
+
+/// The values of each group's aggregates, and a fault where a sum is too great.
+fn worths(alloc: Global, tallies: &[Tally]) -> Result<Vec<WideRow>, GroupFault>
+    ensures values { IfOk result (λ v. v.items ≡ map (map worth_or_null) tallies.now) }
+    ensures in_range { OnOk result (All (All (λ a. a ≡ TooGreat → ⊥)) tallies.now) }
+    ensures great { IsErrOf result GroupFault.SumOutOfRange → HasTooGreat tallies.now }
+{
+    let mut out = Vec::with_capacity(alloc, tallies.len())?;
+    for tally in tallies {
+        match tally.worths(alloc) {
+            Ok(values) => out.push(values)?,
+            Err(fault) => return Err(fault),
+        }
+    }
+    Ok(out)
+}
