@@ -1,6 +1,6 @@
 -- Rows that are kept are the same rows.
 use Rattle.std.proofs.Common.{◌≡◌, ℕ, Bool, true, false, cond, List, [], ◌∷◌, map, filter, refl, ap}
-use Rattle.std.specs.Prelude.{nat_lt, nat_le}
+use Rattle.std.specs.Prelude.{nat_lt}
 use Rattle.col_value.specs.declared.row.Stamped.{Stamped}
 use Rattle.write_store.specs.declared.held.Held.{Held}
 use Rattle.write_store.specs.Memory.{stamp}

@@ -1,6 +1,6 @@
 -- Rows whose places are deleted.
 use Rattle.std.proofs.Common.{◌≡◌, ◌+◌, ◌<◌, ◌∷◌, ◌++◌, [], ℕ, zero, suc, Bool, true, false, cond, List, map, length, set, get_or, refl, sym, ap, ap₂, ◌∙◌, arith}
-use Rattle.std.specs.Prelude.{Option, Some, None, ◌==◌, ◌||◌}
+use Rattle.std.specs.Prelude.{Some, ◌==◌, ◌||◌}
 use Rattle.std.proofs.lemmas.Bool.Decides.{nat_tests}
 use Rattle.col_value.specs.declared.row.Stamped.{Stamped}
 use Rattle.write_store.specs.declared.held.Held.{Held}

@@ -1,5 +1,5 @@
 -- Rows in memory, and which of them are deleted.
-use Rattle.std.specs.Prelude.{ℕ, ◌≡◌, ◌==◌, ◌+◌, ◌<◌, if◌then◌else◌, Bool, List, [], ◌∷◌, map, IsSomeAnd, Option, Some, None}
+use Rattle.std.specs.Prelude.{ℕ, ◌≡◌, ◌==◌, ◌+◌, if◌then◌else◌, Bool, List, [], ◌∷◌, map, IsSomeAnd, Option, Some, None}
 use Rattle.std.specs.List.{slice_get, list_any}
 use Rattle.col_value.specs.declared.row.Asked.{Asked}
 use Rattle.col_value.specs.declared.row.Stamped.{Stamped}

@@ -1,4 +1,4 @@
-use Rattle.std.proofs.Common.{◌≡◌, ◌∙◌, ◌++◌, ◌∷◌, [], List, ℕ, take, map, sym, ap, get_or, rules}
+use Rattle.std.proofs.Common.{◌∙◌, ◌∷◌, [], List, ℕ, take, map, sym, ap, get_or, rules}
 use Rattle.std.proofs.lemmas.List.{take_more}
 use Rattle.col_value.specs.declared.row.Stamped.{Stamped}
 use Rattle.write_store.specs.Memory.{stamp, deleted_at}
