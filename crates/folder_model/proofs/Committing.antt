@@ -14,21 +14,25 @@ use Rattle.catalog_types.specs.declared.catalogue.Table as kept
 use Rattle.catalog_types.specs.declared.catalogue.Catalogue.{Catalogue}
 use Rattle.catalog_root.specs.declared.found.Found.{Found}
 use Rattle.catalog_root.specs.declared.found.Found.TheVariants.{Fresh, Root}
-use Rattle.catalog_root.specs.Root.{data_file, body_file, gate_file}
+use Rattle.catalog_root.specs.Root.{data_file, Opens}
 use Rattle.catalog_root.specs.Listed.{IsListed, IsStray, IsUnlisted}
-use Rattle.catalog_root.specs.Crash.{RootNames, IsReplaced}
-use Rattle.catalog_root.specs.Quiet.{Quiet, IsSpare, IsUseless}
+use Rattle.catalog_root.specs.Crash.{RootNames, IsReplaced, OldOrNew}
+use Rattle.catalog_root.specs.Quiet.{IsQuiet, Quiet, IsSpare, IsUseless}
 use Rattle.catalog_root.proofs.Quieting.{quiet_moved, quiet_replaced, listed_stay}
 use Rattle.db_model.specs.Database.{Database, Table}
+use Rattle.db_model.specs.Epochs.{last_good, cut}
 use Rattle.db_model.specs.Sound.{IsSoundDatabase}
+use Rattle.db_laws.proofs.Sounds.{cut_sound}
 use Rattle.stored_rows.specs.Listed.{SameEntry}
 use Rattle.stored_rows.specs.Stored.{Projected}
 use Rattle.stored_rows.proofs.KeptRows.{stored_kept}
 use Rattle.folder_model.specs.Projections.{HasRows}
 use Rattle.folder_model.specs.Tables.{StandsForTable, StandForTables, AreDatabase}
+use Rattle.folder_model.specs.Reopening.{Reopens}
 use Rattle.folder_model.specs.Standing.{IsRootOf, StandsFor}
 use Rattle.folder_model.proofs.ListedFiles.{SameTables, tables_same}
-use Rattle.folder_model.proofs.CutTables.{of_entries}
+use Rattle.folder_model.proofs.LastGoods.{mark_below_good}
+use Rattle.folder_model.proofs.CutTables.{of_entries, image_reopens}
 
 on_true : (b : Bool) {P Q : Type 0} → (P → Q) → OnTrue b P → OnTrue b Q
 on_true true h p = h p
@@ -109,3 +113,34 @@ stands_committed told image version c stores m d are sound drawn replaced =
       is_root = (refl, refl, drawn, λ none. refl);
       quiet = quiet;
     }
+
+-- ---- at any moment of a commit
+
+old_quiet : (m x y : Contents) (root : Found) (version : ℕ) → IsQuiet m root y → Opens x root → Changed (RootNames version) NoName y x → IsQuiet m root x
+old_quiet m x y Fresh version quiet opens like = record { opens = opens; same = tt }
+old_quiet m x y (Root v r) version quiet opens like = record {
+  opens = opens;
+  same = λ k listed. changed_kept (RootNames version) NoName y x (data_file k) (not_root version k) (λ q. q) like ∙ quiet.same k listed;
+}
+
+reopens : (m x : Contents) (c : Catalogue) (stores : List (List Projected)) (d : Database) (root : Found) → AreDatabase m c stores d → IsSoundDatabase d → IsRootOf c root → IsQuiet m root x
+    → Reopens x (cut (last_good d) d)
+reopens m x c stores d root are sound is_root quiet =
+    let marked = mark_below_good d sound in
+    image_reopens m x c stores d root are marked (cut_sound (last_good d) d marked sound) is_root quiet
+
+pub stands_reopens : (c : Catalogue) (stores : List (List Projected)) (told : Option Contents) (image : Contents → Type 0) (d : Database) → StandsFor c stores told image d
+    → (x : Contents) → image x → Reopens x (cut (last_good d) d)
+stands_reopens c stores told image d stands x is = reopens stands.files x c stores d stands.root stands.are stands.sound stands.is_root (stands.quiet.every x is)
+
+pub commit_reopens : (c k : Catalogue) (stores others : List (List Projected)) (told : Option Contents) (image : Contents → Type 0) (version : ℕ) (d e : Database) (stands : StandsFor c stores told image d)
+    → AreDatabase stands.files k others e → IsSoundDatabase e → version < k.next → (x : Contents) → OldOrNew stands.root version k image stands.files x
+    → Reopens x (cut (last_good d) d) ⊎ Reopens x (cut (last_good e) e)
+commit_reopens c k stores others told image version d e stands are sound drawn x (inl old) =
+    let (y, is, like) = old.like in
+    inl (reopens stands.files x c stores d stands.root stands.are stands.sound stands.is_root (old_quiet stands.files x y stands.root version (stands.quiet.every y is) old.opens like))
+commit_reopens c k stores others told image version d e stands are sound drawn x (inr new) =
+    inr (reopens stands.files x k others e (Root version k) are sound (refl, refl, drawn, λ none. refl) (record {
+      opens = new.root;
+      same = λ n listed. changed_kept (RootNames version) NoName stands.files x (data_file n) (not_root version n) (λ q. q) new.like;
+    }))

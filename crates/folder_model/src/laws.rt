@@ -1,6 +1,6 @@
 //! Laws of what a store stands for.
 
-ghost use Rattle.std.specs.Prelude.{ℕ, ◌≡◌, ◌<◌, ◌++◌, true, List, map, Option};
+ghost use Rattle.std.specs.Prelude.{ℕ, ◌≡◌, ◌⊎◌, ◌<◌, ◌++◌, true, List, map, Option};
 ghost use Rattle.std.specs.List.{All};
 ghost use Rattle.common_laws.specs.Maps.{Contents};
 ghost use Rattle.col_disk.specs.Moved.{Moved, ImageOf};
@@ -11,7 +11,7 @@ ghost use Rattle.row_history.specs.History.{inserted_at, mark_all, Within};
 ghost use Rattle.catalog_types.specs.declared.catalogue.Table as kept;
 ghost use Rattle.catalog_types.specs.declared.catalogue.Catalogue.{Catalogue};
 ghost use Rattle.catalog_types.specs.Reached.{least_lge};
-ghost use Rattle.catalog_root.specs.Crash.{IsReplaced};
+ghost use Rattle.catalog_root.specs.Crash.{IsReplaced, OldOrNew};
 ghost use Rattle.catalog_root.specs.Quiet.{IsSpare, IsUseless};
 ghost use Rattle.db_model.specs.Database.{Database, Table};
 ghost use Rattle.db_model.specs.Epochs.{last_good, cut};
@@ -22,16 +22,21 @@ ghost use Rattle.folder_model.specs.Reopening.{Reopens};
 ghost use Rattle.folder_model.specs.Standing.{StandsFor};
 ghost use Rattle.folder_model.specs.Changing.{inserted_into, AreDeletedFrom};
 
-use db_laws::openings_are_sound;
-
 /// Whatever a crash leaves of a disk over which a store stands for a database, the folder reopens to that database cut at its last good
 /// epoch.
 pub fn every_image_reopens()
     ensures { (c : Catalogue) (stores : List (List Projected)) (told : Option Contents) (image : Contents → Type 0) (d : Database)
         → StandsFor c stores told image d → (x : Contents) → image x → Reopens x (cut (last_good d) d) }
-{
-    openings_are_sound();
-}
+{}
+
+/// Whatever a crash leaves at any moment of a commit of a new catalogue, the folder reopens to the database of before or to the new one, each
+/// cut at its last good epoch.
+pub fn a_commit_reopens()
+    ensures { (c k : Catalogue) (stores others : List (List Projected)) (told : Option Contents) (image : Contents → Type 0) (version : ℕ) (d e : Database)
+        → (stands : StandsFor c stores told image d) → AreDatabase stands.files k others e → IsSoundDatabase e → version < k.next
+        → (x : Contents) → OldOrNew stands.root version k image stands.files x
+        → Reopens x (cut (last_good d) d) ⊎ Reopens x (cut (last_good e) e) }
+{}
 
 /// The last good epoch of the database is the least that an up-to-date projection of the catalogue has reached.
 pub fn last_good_is_reached()

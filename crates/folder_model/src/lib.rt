@@ -8,6 +8,6 @@
 mod laws;
 
 pub use laws::{
-    commits_stand, deletes_stand, every_image_reopens, inserts_stand, last_good_is_reached,
-    other_files_move,
+    a_commit_reopens, commits_stand, deletes_stand, every_image_reopens, inserts_stand,
+    last_good_is_reached, other_files_move,
 };

@@ -144,29 +144,29 @@ entered version c found left served done m told above = let (n, told_n, root) = 
 
 -- ---- a folder without an open gate
 
--- version 1 is above every gate of a folder that opens to no tables
-first_above : (m : Contents) → OpensTo m no_tables → IsAbove 1 m
+-- no gate is open in a folder that opens to no tables by no version
+first_above : (m : Contents) → OpensTo m no_tables → IsAbove 0 m
 first_above m (inl (fresh, is)) w gate = absurd (fresh.closed w gate)
-first_above m (inr (v, root)) w gate = let le = root.gate.greatest w gate in let lt = root.below in omega (arith, le, lt)
+first_above m (inr (v, root)) w gate = let lt = root.below in absurd (omega (arith, lt))
 
 no_tables_of : (m n : Contents) (us : List Table) → AllZip (IsTableOf m) [] us → AllZip (IsTableOf n) [] us
 no_tables_of m n [] all = tt
 no_tables_of m n (u ∷ us) all = absurd all
 
 -- the folder opens to the same database by the first catalogue
-first_told : (m n : Contents) (d : Database) → IsServedRoot 1 first_catalogue n → IsTold m no_tables d → IsTold n first_catalogue d
+first_told : (m n : Contents) (d : Database) → IsServedRoot 0 first_catalogue n → IsTold m no_tables d → IsTold n first_catalogue d
 first_told m n d root told = record {
-  opens = inr (1, root.0);
+  opens = inr (0, root.0);
   served = root.1;
   database = record { last = told.database.last; ahm = told.database.ahm; tables = no_tables_of m n d.tables told.database.tables };
 }
 
-first_was : (m n : Contents) (us : List Table) → All (WasHeld m no_tables 1) us → All (WasHeld n first_catalogue 2) us
-first_was m n us was i u lt = record { held = (was i u lt).held; below = All-nil (λ k. k.base + 2 * (length (first_encodings (slice_index_or us i u).shapes) + 1) ≤ 2) }
+first_was : (m n : Contents) (us : List Table) → All (WasHeld m no_tables 0) us → All (WasHeld n first_catalogue 1) us
+first_was m n us was i u lt = record { held = (was i u lt).held; below = All-nil (λ k. k.base + 2 * (length (first_encodings (slice_index_or us i u).shapes) + 1) ≤ 1) }
 
 -- it was not entered
-pub keeps_first : {D : Type 0} (disk : Ghosts D) {old new : D} (kept : Catalogue) (last : ℕ) (us : List Table) → kept ≡ no_tables → EntersOrNot 1 first_catalogue (disk.holds old) (disk.holds new)
-    → Moved disk (RootNames 1) NoName old new → KeepsAll kept last us (disk.holds old) (disk.holds new)
+pub keeps_first : {D : Type 0} (disk : Ghosts D) {old new : D} (kept : Catalogue) (last : ℕ) (us : List Table) → kept ≡ no_tables → EntersOrNot 0 first_catalogue (disk.holds old) (disk.holds new)
+    → Moved disk (RootNames 0) NoName old new → KeepsAll kept last us (disk.holds old) (disk.holds new)
 keeps_first disk {old} {new} kept last us blank either moved =
     subst (λ (c : Catalogue). KeepsAll c last us (disk.holds old) (disk.holds new)) (sym blank) keeps
   where
@@ -175,26 +175,26 @@ keeps_first disk {old} {new} kept last us blank either moved =
         let (n, told_n, ends) = either m told (first_above m is.opens) in
         (n, told_n, inl (by n (moved_between disk m n told told_n moved) ends))
       where
-        by : (n : Contents) → Changed (RootNames 1) NoName m n → OpensAsBefore m n ⊎ IsServedRoot 1 first_catalogue n → Reopens n d
-        by n changed (inl before) = reopens_kept m n no_tables d (root_apart m n 1 1 changed) (opens_before m n no_tables before is.opens) is
+        by : (n : Contents) → Changed (RootNames 0) NoName m n → OpensAsBefore m n ⊎ IsServedRoot 0 first_catalogue n → Reopens n d
+        by n changed (inl before) = reopens_kept m n no_tables d (root_apart m n 0 0 changed) (opens_before m n no_tables before is.opens) is
         by n changed (inr root) = let now = first_told m n d root is in record { kept = first_catalogue; opens = now.opens; served = now.served; database = now.database }
 
 -- it was entered, and then the tables were written
-pub keeps_after : {D : Type 0} (disk : Ghosts D) {old mid new : D} (kept : Catalogue) (last : ℕ) (us : List Table) → kept ≡ no_tables → Enters 1 first_catalogue (disk.holds old) (disk.holds mid)
+pub keeps_after : {D : Type 0} (disk : Ghosts D) {old mid new : D} (kept : Catalogue) (last : ℕ) (us : List Table) → kept ≡ no_tables → Enters 0 first_catalogue (disk.holds old) (disk.holds mid)
     → KeepsRooted first_catalogue last us (disk.holds mid) (disk.holds new) → KeepsAll kept last us (disk.holds old) (disk.holds new)
 keeps_after disk {old} {mid} {new} kept last us blank entered rooted =
     subst (λ (c : Catalogue). KeepsAll c last us (disk.holds old) (disk.holds new)) (sym blank)
     (λ d m told is was.
     let (n, told_n, root) = entered m told (first_above m is.opens) in
-    rooted d n 1 told_n root.0 (first_told m n d root is) (first_was m n us was))
+    rooted d n 0 told_n root.0 (first_told m n d root is) (first_was m n us was))
 
-pub leaves_after : (kept : Catalogue) (last : ℕ) (us : List Table) (found mid left : Option Contents) → kept ≡ no_tables → Enters 1 first_catalogue found mid
+pub leaves_after : (kept : Catalogue) (last : ℕ) (us : List Table) (found mid left : Option Contents) → kept ≡ no_tables → Enters 0 first_catalogue found mid
     → LeavesAll first_catalogue last us mid left → LeavesAll kept last us found left
 leaves_after kept last us found mid left blank entered leaves =
     subst (λ (c : Catalogue). LeavesAll c last us found left) (sym blank)
     (λ m told opens was.
     let (n, told_n, root) = entered m told (first_above m opens) in
-    leaves n told_n (inr (1, root.0)) (first_was m n us was))
+    leaves n told_n (inr (0, root.0)) (first_was m n us was))
 
 -- ---- a folder with an open gate
 

@@ -34,9 +34,9 @@ Ends kept old new d = (IsSpent kept × Changed NoName NoName old new) ⊎ EndsAs
 abbrev pub DataFrom : ℕ → ℕ → Type 0
 DataFrom base q = (n : ℕ) × (base ≤ n) × (q ≡ data_file n)
 
--- the catalogue of no tables, which is committed before any data file is written to a folder without an open gate
+-- the catalogue of no tables, which is committed as version 0 before any data file is written to a folder without an open gate
 abbrev pub first_catalogue : Catalogue
-first_catalogue = record { last = 0; ahm = 0; next = 2; tables = [] }
+first_catalogue = record { last = 0; ahm = 0; next = 1; tables = [] }
 
 -- the folder opens to the one database, or to the other, with all rows moved to disk, in some order
 abbrev pub EndsAtEither : Contents → Database → Database → Type 0

@@ -17,9 +17,9 @@ use Rattle.ros_container.specs.Held.{HoldsContainer}
 use Rattle.db_model.specs.Database.{Database, Table, Shape}
 use Rattle.plain_folder.specs.Served.{is_served}
 
--- the catalogue of a folder in which nothing was ever written
+-- the catalogue of a folder in which nothing was ever written: no version was drawn, not the first one, 0
 abbrev pub no_tables : Catalogue
-no_tables = record { last = 0; ahm = 0; next = 1; tables = [] }
+no_tables = record { last = 0; ahm = 0; next = 0; tables = [] }
 
 -- the catalogue that the disk opens to: that of its greatest open gate, or of a fresh folder
 abbrev pub OpensTo : Contents → Catalogue → Type 0

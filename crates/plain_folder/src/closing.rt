@@ -60,17 +60,17 @@ fn is_unchanged(store: &PlainStore, kept: &Catalogue) -> bool
 fn is_blank(kept: &Catalogue) -> bool
     ensures { IsTrue result ↔ (kept.now ≡ no_tables) }
 {
-    kept.last == 0 && kept.ahm == 0 && kept.next == 1 && kept.tables.as_slice().is_empty()
+    kept.last == 0 && kept.ahm == 0 && kept.next == 0 && kept.tables.as_slice().is_empty()
 }
 
-// No tables; version 1 is used up.
+// No tables; version 0 is used up.
 fn first_catalogue(alloc: Global) -> Catalogue
     ensures { result ≡ rules.first_catalogue }
 {
     Catalogue {
         last: 0,
         ahm: 0,
-        next: 2,
+        next: 1,
         tables: List::new(Vec::new(alloc)),
     }
 }
@@ -92,7 +92,7 @@ fn write_tables<D: Disk>(
         return replace_tables(alloc, disk, tables, last, kept);
     }
     let first = first_catalogue(alloc);
-    match enter(alloc, disk, 1, &first) {
+    match enter(alloc, disk, 0, &first) {
         Ok(()) => replace_tables(alloc, disk, tables, last, &first),
         Err(fault) => Err(fault),
     }

@@ -52,7 +52,7 @@ fn fresh(alloc: Global) -> Opened
         kept: Catalogue {
             last: 0,
             ahm: 0,
-            next: 1,
+            next: 0,
             tables: List::new(Vec::new(alloc)),
         },
     }

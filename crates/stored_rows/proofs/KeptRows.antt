@@ -1,6 +1,5 @@
 -- Rows are held on while other files change.
-use Rattle.std.proofs.Common.{◌≡◌, ℕ, ◌+◌, ◌++◌, List, [], ◌∷◌, length, map, Option, Some, None, refl, sym, ◌∙◌, subst, inl, inr}
-use Rattle.std.specs.Prelude.{◌⊎◌}
+use Rattle.std.proofs.Common.{◌≡◌, ℕ, List, [], ◌∷◌, length, Option, Some, None, refl, sym, ◌∙◌, subst, inl, inr}
 use Rattle.std.specs.List.{All}
 use Rattle.std.specs.FinMap.{get}
 use Rattle.std.proofs.lemmas.List.{length-map}
@@ -11,11 +10,10 @@ use Rattle.col_value.specs.declared.row.Stamped.{Stamped}
 use Rattle.catalog_types.specs.declared.catalogue.Container.{Container}
 use Rattle.catalog_types.specs.declared.catalogue.Projection.{Projection}
 use Rattle.ros_container.specs.Encodings.{encodings_of}
-use Rattle.ros_container.specs.Files.{IsFileOf}
 use Rattle.ros_container.proofs.Kept.{rows_kept}
 use Rattle.del_vector.specs.declared.mark.Mark.{Mark}
 use Rattle.del_vector.specs.Marks.{epoch_at}
-use Rattle.stored_rows.specs.Listed.{IsVectorFile, IsListedOf, SameFiles, SameEntry}
+use Rattle.stored_rows.specs.Listed.{IsVectorFile, SameFiles, SameEntry}
 use Rattle.stored_rows.specs.Held.{HoldsVectorAt, HoldsVector, HoldsMarked, HoldsRows, Holds}
 use Rattle.stored_rows.specs.Stored.{Beside, Projected, mark_in, StoresRows, Stores}
 

@@ -1,6 +1,6 @@
 -- A cut up to an epoch doesn't see what is in memory above it.
-use Rattle.std.proofs.Common.{◌≡◌, ℕ, ◌+◌, ◌≤◌, ◌<◌, ◌++◌, Bool, true, false, cond, List, [], ◌∷◌, map, filter, Option, Some, None, refl, sym, ap, ap₂, ◌∙◌, arith, subst}
-use Rattle.std.specs.Prelude.{nat_le, nat_lt}
+use Rattle.std.proofs.Common.{◌≡◌, ℕ, ◌+◌, ◌<◌, ◌++◌, Bool, true, false, cond, List, [], ◌∷◌, map, filter, Option, Some, None, refl, sym, ap, ap₂, ◌∙◌, arith}
+use Rattle.std.specs.Prelude.{nat_le}
 use Rattle.std.specs.Option.{option_or}
 use Rattle.std.specs.List.{All}
 use Rattle.std.proofs.lemmas.Bool.Decides.{nat_tests}
@@ -15,7 +15,7 @@ use Rattle.ros_container.specs.Encodings.{encodings_of}
 use Rattle.row_history.specs.History.{cut_delete, cut_row, cut_rows, stamped}
 use Rattle.row_history.proofs.Histories.{cut_append, cut_none}
 use Rattle.del_vector.specs.Marks.{epoch_at}
-use Rattle.stored_rows.specs.Held.{HoldsMarked, HoldsRows, Holds, stamped_from}
+use Rattle.stored_rows.specs.Held.{HoldsRows, Holds, stamped_from}
 use Rattle.stored_rows.specs.Stored.{Beside, mark_in, StoresRows, Stores, Projected, AreLater, IsMemoryAbove}
 
 -- a later mark is undone

@@ -1,5 +1,5 @@
 -- One list of rows.
-use Rattle.std.proofs.Common.{◌≡◌, ℕ, ◌+◌, ◌++◌, List, [], ◌∷◌, Option, Some, None, sym, ap, ap₂, ◌∙◌, subst}
+use Rattle.std.proofs.Common.{◌≡◌, ℕ, ◌++◌, List, [], ◌∷◌, Option, Some, None, sym, ap, ap₂, ◌∙◌, subst}
 use Rattle.common_laws.specs.Maps.{Contents}
 use Rattle.col_value.specs.declared.kinds.Encoding.{Encoding}
 use Rattle.col_value.specs.declared.row.Asked.{Asked}

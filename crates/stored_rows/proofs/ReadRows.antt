@@ -12,7 +12,7 @@ use Rattle.catalog_types.specs.declared.catalogue.Container.{Container}
 use Rattle.ros_container.specs.Encodings.{encodings_of}
 use Rattle.del_vector.specs.declared.mark.Mark.{Mark}
 use Rattle.del_vector.specs.Marks.{epoch_at}
-use Rattle.stored_rows.specs.Held.{HoldsVector, HoldsMarked, HoldsRows, Holds, stamped_from}
+use Rattle.stored_rows.specs.Held.{HoldsMarked, HoldsRows, Holds, stamped_from}
 use Rattle.stored_rows.specs.Stored.{Beside, Projected, mark_in, StoresRows, Stores, IsUnmarked, IsLoaded}
 use Rattle.stored_rows.proofs.OneList.{OneVector, one_marks}
 

@@ -1,5 +1,5 @@
 -- The files that a projection of the catalogue lists.
-use Rattle.std.specs.Prelude.{ℕ, ◌≡◌, ◌⊎◌, ◌*◌, List, length, Option, Some, None}
+use Rattle.std.specs.Prelude.{ℕ, ◌≡◌, ◌⊎◌, ◌*◌, length, Option, Some, None}
 use Rattle.std.specs.List.{All}
 use Rattle.std.specs.FinMap.{get}
 use Rattle.common_laws.specs.Maps.{Contents}

@@ -1,5 +1,5 @@
 -- The rows of a projection with what is kept of it in memory.
-use Rattle.std.specs.Prelude.{ℕ, ◌≡◌, ◌<◌, ◌++◌, List, [], ◌∷◌, map, Option, Some}
+use Rattle.std.specs.Prelude.{ℕ, ◌≡◌, ◌<◌, ◌++◌, List, [], ◌∷◌, Option, Some}
 use Rattle.std.specs.Option.{option_or}
 use Rattle.std.specs.List.{All, AllZip}
 use Rattle.common_laws.specs.Maps.{Contents}

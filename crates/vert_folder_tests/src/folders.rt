@@ -16,7 +16,7 @@ pub const QUERY: &[u8] = b"SELECT a FROM t;";
 pub const ROWS: &[u8] = b"1\n2\n(2 rows)\n";
 
 /// The names of the files that it leaves.
-pub const NAMES: [u64; 6] = [8, 12, 16, 20, 25, 26];
+pub const NAMES: [u64; 6] = [4, 8, 12, 16, 21, 22];
 
 // The column of two numbers, and its bounds.
 const COLUMN: &[u8] = b"\x02\x02\0\0\0\0\0\0\0\x01\x01\x02";
@@ -26,9 +26,9 @@ const EPOCH: &[u8] = b"\x01\x01\x01\0\0\0\0\0\0\0\x01\x02";
 
 const BOUNDS: &[u8] = b"\x02\0\0\x01\0\0\0\0\0\0\0\x01\x01\0\0\0\0\0\0\0\x02";
 
-// The catalogue: epoch 1, the next number 7, the table, its column, its projection, the container of base 2.
+// The catalogue: epoch 1, the next number 6, the table, its column, its projection, the container of base 1.
 const CATALOGUE: &[u8] =
-    b"VCAT\x01\x01\0\x07\x01\x01t\x01\x01a\x01\0\x01\x07t_super\x01\0\0\x01\0\x01\x01\x01\x01\x02\x02\x01\x01\0\0\0";
+    b"VCAT\x01\x01\0\x06\x01\x01t\x01\x01a\x01\0\x01\x07t_super\x01\0\0\x01\0\x01\x01\x01\x01\x01\x02\x01\x01\0\0\0";
 
 const GATE: &[u8] = b"V";
 
@@ -57,11 +57,11 @@ fn the_files_of_a_run(rt: HostRuntime) -> Result<(), Fail> {
     assert!(rt; out.bytes().ends_with(ROWS));
     assert_eq!(rt; disk.names(alloc)?.as_slice(), NAMES.as_slice());
     for (name, bytes) in [
-        (8, COLUMN),
-        (12, BOUNDS),
-        (16, EPOCH),
-        (25, CATALOGUE),
-        (26, GATE),
+        (4, COLUMN),
+        (8, BOUNDS),
+        (12, EPOCH),
+        (21, CATALOGUE),
+        (22, GATE),
     ] {
         assert!(rt; disk.bytes(name) == Some(bytes), "{name}");
     }

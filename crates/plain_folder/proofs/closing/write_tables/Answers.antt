@@ -17,8 +17,8 @@ pub returns-in-Ok-clause-leaves : goal.returns-in-Ok-clause-leaves
 returns-in-Ok-clause-leaves g c =
     let us = map table_of c.args.tables.items in
     let blank : c.args.kept.now ≡ no_tables = c.is_blank.ensures.0 c.if-not-is_blank.false in
-    let entered : Enters 1 first_catalogue (g.D.Disk.holds c.args.disk.now) (g.D.Disk.holds c.enter.new.disk) =
-    subst (λ (k : Catalogue). Enters 1 k (g.D.Disk.holds c.args.disk.now) (g.D.Disk.holds c.enter.new.disk)) c.first_catalogue-first.ensures c.in-Ok.ensures.entered in
+    let entered : Enters 0 first_catalogue (g.D.Disk.holds c.args.disk.now) (g.D.Disk.holds c.enter.new.disk) =
+    subst (λ (k : Catalogue). Enters 0 k (g.D.Disk.holds c.args.disk.now) (g.D.Disk.holds c.enter.new.disk)) c.first_catalogue-first.ensures c.in-Ok.ensures.entered in
     on_ok_weaker c.replace_tables-in-Ok.result (leaves_after c.args.kept.now c.args.last us _ _ _ blank entered)
     (subst (λ (k : Catalogue). OnOk c.replace_tables-in-Ok.result (LeavesAll k c.args.last us (g.D.Disk.holds c.enter.new.disk) (g.D.Disk.holds c.replace_tables-in-Ok.new.disk))) c.first_catalogue-first.ensures c.replace_tables-in-Ok.ensures.leaves)
 
@@ -26,8 +26,8 @@ pub returns-in-Ok-clause-keeps : goal.returns-in-Ok-clause-keeps
 returns-in-Ok-clause-keeps g c =
     let us = map table_of c.args.tables.items in
     let blank : c.args.kept.now ≡ no_tables = c.is_blank.ensures.0 c.if-not-is_blank.false in
-    let entered : Enters 1 first_catalogue (g.D.Disk.holds c.args.disk.now) (g.D.Disk.holds c.enter.new.disk) =
-    subst (λ (k : Catalogue). Enters 1 k (g.D.Disk.holds c.args.disk.now) (g.D.Disk.holds c.enter.new.disk)) c.first_catalogue-first.ensures c.in-Ok.ensures.entered in
+    let entered : Enters 0 first_catalogue (g.D.Disk.holds c.args.disk.now) (g.D.Disk.holds c.enter.new.disk) =
+    subst (λ (k : Catalogue). Enters 0 k (g.D.Disk.holds c.args.disk.now) (g.D.Disk.holds c.enter.new.disk)) c.first_catalogue-first.ensures c.in-Ok.ensures.entered in
     keeps_after g.D.Disk c.args.kept.now c.args.last us blank entered
     (subst (λ (k : Catalogue). KeepsRooted k c.args.last us (g.D.Disk.holds c.enter.new.disk) (g.D.Disk.holds c.replace_tables-in-Ok.new.disk)) c.first_catalogue-first.ensures c.replace_tables-in-Ok.ensures.keeps)
 
@@ -36,4 +36,4 @@ returns-in-Err-clause-keeps g c =
     let us = map table_of c.args.tables.items in
     let blank : c.args.kept.now ≡ no_tables = c.is_blank.ensures.0 c.if-not-is_blank.false in
     keeps_first g.D.Disk c.args.kept.now c.args.last us blank
-    (subst (λ (k : Catalogue). EntersOrNot 1 k (g.D.Disk.holds c.args.disk.now) (g.D.Disk.holds c.enter.new.disk)) c.first_catalogue-first.ensures c.in-Err.ensures.either) c.in-Err.ensures.moved
+    (subst (λ (k : Catalogue). EntersOrNot 0 k (g.D.Disk.holds c.args.disk.now) (g.D.Disk.holds c.enter.new.disk)) c.first_catalogue-first.ensures c.in-Err.ensures.either) c.in-Err.ensures.moved

@@ -1,0 +1,15 @@
+-- What DELETE and UPDATE make of a session's changes, and who holds a table.
+use Rattle.std.specs.Prelude.{ℕ, ◌==◌, ◌&&◌, ◌++◌, not, Bool, true, List, find, Option, option_map}
+use Rattle.std.specs.List.{enumerate_from}
+use Rattle.col_value.specs.declared.value.Value.{Value}
+use Rattle.col_value.specs.declared.row.Asked.{Asked}
+use Rattle.db_model.specs.State.{Changes}
+use Rattle.db_model.specs.Locks.{excludes}
+
+-- these are the pending rows, these deletes join the others, and the table is held in mode X
+abbrev pub marked : List (List Value) → List Asked → Changes → Changes
+marked rows deletes c = record c { exclusive = true; rows = rows; deletes = c.deletes ++ deletes }
+
+-- the least other session whose mode on a table excludes the one that is wanted
+abbrev pub holder : List (List Changes) → ℕ → List ℕ → Bool → Option ℕ
+holder sessions current name want = option_map (λ e. e.0) (find (λ e. not (e.0 == current) && excludes name want e.1) (enumerate_from 1 sessions))

@@ -1,0 +1,98 @@
+//! The changes of a session in one table.
+
+ghost use Rattle.std.specs.Prelude.{◌≡◌, ◌++◌, true, IfOk, OnOk, OnErr};
+ghost use Rattle.db_model.specs.State.{joined};
+ghost use Rattle.db_model.specs.Events.{untouched};
+ghost use Rattle.txn_core.specs.Marking.{marked};
+
+use col_value::{Asked, Name, Row};
+use std::alloc::{AllocError, Global};
+use std::marker::Model;
+
+/// What a session has changed in a table since its last COMMIT or ROLLBACK, and whether it holds the table against others.
+#[derive(Drop)]
+pub struct Changes {
+    table: Name,
+    exclusive: bool,
+    rows: Vec<Row>,
+    deletes: Vec<Asked>,
+}
+
+impl Model for Changes {
+    ghost use Rattle.db_model.specs.State as state;
+
+    ghost Value = { state.Changes };
+
+    ghost view = { λ c. record { table = c.table; exclusive = c.exclusive; rows = c.rows.items; deletes = c.deletes.items } };
+}
+
+impl Changes {
+    /// None yet in the table of this name.
+    pub(crate) fn untouched(alloc: Global, table: &[u8]) -> Result<Changes, AllocError>
+        ensures { IfOk result (λ c. c ≡ untouched table.now) }
+    {
+        let table = Name::new(Vec::from_slice(alloc, table)?);
+        Ok(Changes {
+            table,
+            exclusive: false,
+            rows: Vec::new(alloc),
+            deletes: Vec::new(alloc),
+        })
+    }
+
+    /// The name of the table.
+    pub fn table(&self) -> &[u8]
+        ensures { result.now ≡ self.now.table }
+    {
+        self.table.as_slice()
+    }
+
+    /// Whether no other session may change the table, too.
+    pub fn is_exclusive(&self) -> bool
+        ensures { result ≡ self.now.exclusive }
+    {
+        self.exclusive
+    }
+
+    /// The pending rows.
+    pub fn rows(&self) -> &[Row]
+        ensures { result.now ≡ self.now.rows }
+    {
+        self.rows.as_slice()
+    }
+
+    /// The committed rows that are to be deleted.
+    pub fn deletes(&self) -> &[Asked]
+        ensures { result.now ≡ self.now.deletes }
+    {
+        self.deletes.as_slice()
+    }
+
+    /// The pending rows and the pending deletes themselves.
+    pub fn into_parts(self) -> (Vec<Row>, Vec<Asked>)
+        ensures rows { result.0.items ≡ self.rows }
+        ensures deletes { result.1.items ≡ self.deletes }
+    {
+        let Changes { rows, deletes, .. } = self;
+        (rows, deletes)
+    }
+
+    /// Rows join the pending ones.
+    pub(crate) fn join(&mut self, mut rows: Vec<Row>) -> Result<(), AllocError>
+        ensures joined { OnOk result (self.new ≡ joined self.old rows.items) }
+        ensures kept { OnErr result (self.new ≡ self.old) }
+    {
+        self.rows.append(&mut rows)
+    }
+
+    /// These are the pending rows from now on, these deletes join the others, and the table is held against all.
+    pub(crate) fn mark(&mut self, rows: Vec<Row>, mut deletes: Vec<Asked>) -> Result<(), AllocError>
+        ensures marked { OnOk result (self.new ≡ marked rows.items deletes.items self.old) }
+        ensures kept { OnErr result (self.new ≡ self.old) }
+    {
+        self.deletes.append(&mut deletes)?;
+        self.rows = rows;
+        self.exclusive = true;
+        Ok(())
+    }
+}

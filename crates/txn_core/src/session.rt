@@ -1,0 +1,149 @@
+//! The changes of one session.
+
+ghost use Rattle.std.specs.Prelude.{◌≡◌, [], filter, IfSome, IfNone, OnOk, OnErr};
+ghost use Rattle.std.specs.Option.{option_copied};
+ghost use Rattle.db_model.specs.State.{has_changes, with_rows};
+ghost use Rattle.db_model.specs.Locks.{changes_on, excludes};
+ghost use Rattle.db_model.specs.Events.{change_of, is_not_named};
+ghost use Rattle.txn_core.specs.Marking.{marked};
+ghost use Rattle.txn_core.specs.Places.{StandsAt, StandsNowhere};
+
+use crate::changes::Changes;
+use col_value::{Asked, Row};
+use std::alloc::{AllocError, Global};
+use std::marker::Model;
+
+/// What a session has changed since its last COMMIT or ROLLBACK, table by table.
+#[derive(Drop)]
+pub struct Session {
+    changes: Vec<Changes>,
+}
+
+impl Model for Session {
+    ghost use Rattle.std.specs.Prelude.{List};
+    ghost use Rattle.db_model.specs.State.{Changes as Changed};
+
+    ghost Value = { List Changed };
+
+    ghost view = { λ s. s.changes.items };
+}
+
+impl Session {
+    /// No changes. It takes no memory.
+    pub(crate) fn new(alloc: Global) -> Session
+        ensures { result ≡ [] }
+    {
+        Session {
+            changes: Vec::new(alloc),
+        }
+    }
+
+    /// The changes, table by table.
+    pub fn changes(&self) -> &[Changes]
+        ensures { result.now ≡ self.now }
+    {
+        self.changes.as_slice()
+    }
+
+    /// The changes themselves.
+    pub fn into_changes(self) -> Vec<Changes>
+        ensures { result.items ≡ self }
+    {
+        let Session { changes } = self;
+        changes
+    }
+
+    /// Whether rows or deletes are pending.
+    pub fn has_changes(&self) -> bool
+        ensures { result ≡ has_changes self.now }
+    {
+        for changes in self.changes.as_slice() {
+            if !changes.rows().is_empty() || !changes.deletes().is_empty() {
+                return true;
+            }
+        }
+        false
+    }
+
+    fn place_of(&self, table: &[u8]) -> Option<usize>
+        ensures found { IfSome result (StandsAt table.now self.now) }
+        ensures none { IfNone result (StandsNowhere table.now self.now) }
+    {
+        for (place, changes) in self.changes.as_slice().iter().enumerate() {
+            if changes.table() == table {
+                return Some(place);
+            }
+        }
+        None
+    }
+
+    /// The changes in the table of a name; None exactly where the session doesn't hold it.
+    pub fn on(&self, table: &[u8]) -> Option<&Changes>
+        ensures { option_copied result ≡ changes_on table.now self.now }
+    {
+        match self.place_of(table) {
+            Some(place) => Some(&self.changes[place]),
+            None => None,
+        }
+    }
+
+    /// Whether it keeps another session from a table that is wanted in mode X, or in mode I.
+    pub fn excludes(&self, table: &[u8], want: bool) -> bool
+        ensures { result ≡ excludes table.now want self.now }
+    {
+        match self.on(table) {
+            Some(changes) => changes.is_exclusive() || want,
+            None => false,
+        }
+    }
+
+    /// Rows join the pending rows of a table.
+    pub(crate) fn insert(
+        &mut self,
+        alloc: Global,
+        table: &[u8],
+        rows: Vec<Row>,
+    ) -> Result<(), AllocError>
+        ensures pending { OnOk result (self.new ≡ with_rows table.now rows.items self.old) }
+        ensures kept { OnErr result (self.new ≡ self.old) }
+    {
+        match self.place_of(table) {
+            Some(place) => self.changes[place].join(rows),
+            None => {
+                let mut changes = Changes::untouched(alloc, table)?;
+                changes.join(rows)?;
+                self.changes.push(changes)?;
+                Ok(())
+            }
+        }
+    }
+
+    /// These are the pending rows of a table from now on, these deletes join the others, and the table is held in mode X.
+    pub(crate) fn mark(
+        &mut self,
+        alloc: Global,
+        table: &[u8],
+        rows: Vec<Row>,
+        deletes: Vec<Asked>,
+    ) -> Result<(), AllocError>
+        ensures marked { OnOk result (self.new ≡ change_of table.now (marked rows.items deletes.items) self.old) }
+        ensures kept { OnErr result (self.new ≡ self.old) }
+    {
+        match self.place_of(table) {
+            Some(place) => self.changes[place].mark(rows, deletes),
+            None => {
+                let mut changes = Changes::untouched(alloc, table)?;
+                changes.mark(rows, deletes)?;
+                self.changes.push(changes)?;
+                Ok(())
+            }
+        }
+    }
+
+    /// The changes in a table are dropped. It takes no memory.
+    pub(crate) fn forget(&mut self, table: &[u8])
+        ensures { self.new ≡ filter (λ c. is_not_named table.now c.table) self.old }
+    {
+        self.changes.retain(|changes| changes.table() != table);
+    }
+}

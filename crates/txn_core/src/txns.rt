@@ -1,0 +1,115 @@
+//! The eight sessions.
+
+ghost use Rattle.std.specs.Prelude.{◌≡◌, ◌≤◌, ◌-◌, [], filter, slice_set, IfOk, OnOk, OnErr};
+ghost use Rattle.std.specs.List.{slice_index_or};
+ghost use Rattle.db_model.specs.State.{idle_sessions, with_rows};
+ghost use Rattle.db_model.specs.Events.{change_of, is_not_named};
+ghost use Rattle.txn_core.specs.Marking.{marked, holder};
+
+use crate::session::Session;
+use col_value::{Asked, Row};
+use std::alloc::{AllocError, Global};
+use std::marker::Model;
+
+/// The changes of the eight sessions, which are numbered from 1.
+#[derive(Drop)]
+pub struct Txns {
+    sessions: Vec<Session>,
+}
+
+impl Model for Txns {
+    ghost use Rattle.std.specs.Prelude.{◌≡◌, List, length};
+    ghost use Rattle.db_model.specs.State.{Changes};
+
+    ghost Value = { List (List Changes) };
+
+    ghost view = { λ t. t.sessions.items };
+
+    ghost invariant = { λ t. length t.sessions.items ≡ 8 };
+}
+
+impl Txns {
+    /// Nothing is pending.
+    pub fn new(alloc: Global) -> Result<Txns, AllocError>
+        ensures { IfOk result (λ t. t ≡ idle_sessions) }
+    {
+        let mut sessions = Vec::with_capacity(alloc, 8)?;
+        for _ in 0..8 {
+            sessions.push(Session::new(alloc))?;
+        }
+        Ok(Txns { sessions })
+    }
+
+    /// A session's changes.
+    pub fn session(&self, session: usize) -> &Session
+        requires first { 1 ≤ session }
+        requires last { session ≤ 8 }
+        ensures { result.now ≡ slice_index_or self.now (session - 1) [] }
+    {
+        &self.sessions[session - 1]
+    }
+
+    /// The least other session that keeps this one from a table that it wants in mode X, or in mode I. It takes no memory.
+    pub fn conflict(&self, session: usize, table: &[u8], want: bool) -> Option<usize>
+        ensures { result ≡ holder self.now session table.now want }
+    {
+        for (place, other) in self.sessions.as_slice().iter().enumerate() {
+            if place + 1 != session && other.excludes(table, want) {
+                return Some(place + 1);
+            }
+        }
+        None
+    }
+
+    /// Rows join a session's pending rows of a table.
+    pub fn insert(
+        &mut self,
+        alloc: Global,
+        session: usize,
+        table: &[u8],
+        rows: Vec<Row>,
+    ) -> Result<(), AllocError>
+        requires first { 1 ≤ session }
+        requires last { session ≤ 8 }
+        ensures pending { OnOk result (self.new ≡ slice_set self.old (session - 1) (with_rows table.now rows.items (slice_index_or self.old (session - 1) []))) }
+        ensures kept { OnErr result (self.new ≡ self.old) }
+    {
+        self.sessions[session - 1].insert(alloc, table, rows)
+    }
+
+    /// These are a session's pending rows of a table from now on, these deletes join the others, and the session holds the table in mode X.
+    pub fn mark(
+        &mut self,
+        alloc: Global,
+        session: usize,
+        table: &[u8],
+        rows: Vec<Row>,
+        deletes: Vec<Asked>,
+    ) -> Result<(), AllocError>
+        requires first { 1 ≤ session }
+        requires last { session ≤ 8 }
+        ensures marked { OnOk result (self.new ≡ slice_set self.old (session - 1) (change_of table.now (marked rows.items deletes.items) (slice_index_or self.old (session - 1) []))) }
+        ensures kept { OnErr result (self.new ≡ self.old) }
+    {
+        self.sessions[session - 1].mark(alloc, table, rows, deletes)
+    }
+
+    /// A session's changes are given up and handed over; it holds no table. It takes no memory.
+    pub fn take(&mut self, alloc: Global, session: usize) -> Session
+        requires first { 1 ≤ session }
+        requires last { session ≤ 8 }
+        ensures taken { result ≡ slice_index_or self.old (session - 1) [] }
+        ensures left { self.new ≡ slice_set self.old (session - 1) [] }
+    {
+        std::mem::replace(&mut self.sessions[session - 1], Session::new(alloc))
+    }
+
+    /// A session's changes in a table are dropped. It takes no memory.
+    pub fn forget(&mut self, session: usize, table: &[u8])
+        requires first { 1 ≤ session }
+        requires last { session ≤ 8 }
+        ensures { self.new ≡ slice_set self.old (session - 1) (filter (λ c. is_not_named table.now c.table) (slice_index_or self.old (session - 1) [])) }
+    {
+        self.sessions[session - 1].forget(table);
+    }
+}
