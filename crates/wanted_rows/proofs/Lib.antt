@@ -1,0 +1,5 @@
+pub mod Counting
+pub mod Steps
+pub mod Rows
+pub mod Taking
+pub mod Whole

@@ -1,0 +1,15 @@
+//! Wanted rows: which stored rows a delete takes.
+//!
+//! What is wanted is a bag of rows with their insert epochs, counted in a `Wants`. `pick` goes once over rows that lie in any order
+//! and picks distinct places of rows that aren't deleted, each for one that is wanted, until none of the others is wanted still
+//! (`Picks`, `specs/Picked.antt`). So n rows cost n look-ups in a map of what is wanted. The laws go on from there: rows that are
+//! deleted at the places that were picked are those that were wanted.
+#![tactic(auto)]
+
+mod laws;
+mod picking;
+mod wants;
+
+pub use laws::{picked_rows_go, wanted_rows_go};
+pub use picking::pick;
+pub use wants::Wants;

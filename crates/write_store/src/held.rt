@@ -1,0 +1,64 @@
+ghost use Rattle.std.specs.Prelude.{◌≡◌, IfOk};
+ghost use Rattle.write_store.specs.Memory.{stamp, held_of};
+
+use col_value::{Asked, Row, Stamped};
+use std::alloc::{AllocError, Global};
+
+/// A row and the epoch that inserted it. Rows of one epoch stand by their values.
+#[derive(Debug, Drop, PartialEq, Eq, PartialOrd, Ord)]
+pub struct Inserted {
+    pub ins: u64,
+    pub row: Row,
+}
+
+impl Inserted {
+    /// The same row once more.
+    pub fn copy(&self, alloc: Global) -> Result<Inserted, AllocError>
+        ensures { IfOk result (λ i. i ≡ self.now) }
+    {
+        Ok(Inserted {
+            ins: self.ins,
+            row: self.row.copy(alloc)?,
+        })
+    }
+}
+
+/// A row in memory, and the epoch that deleted it, if one did.
+#[derive(Debug, Drop, PartialEq, Eq)]
+pub struct Held {
+    pub inserted: Inserted,
+    pub del: Option<u64>,
+}
+
+impl Held {
+    /// A row of a container, with its delete epoch.
+    pub fn new(asked: Asked, del: Option<u64>) -> Held
+        ensures { result ≡ held_of del asked }
+    {
+        let Asked { row, ins } = asked;
+        Held {
+            inserted: Inserted { ins, row },
+            del,
+        }
+    }
+
+    /// A copy of the row, with its epochs.
+    pub fn copy(&self, alloc: Global) -> Result<Stamped, AllocError>
+        ensures { IfOk result (λ s. s ≡ stamp self.now) }
+    {
+        Ok(Stamped {
+            row: self.inserted.row.copy(alloc)?,
+            ins: self.inserted.ins,
+            del: self.del,
+        })
+    }
+
+    /// The row with its epochs.
+    pub fn into_stamped(self) -> Stamped
+        ensures { result ≡ stamp self }
+    {
+        let Held { inserted, del } = self;
+        let Inserted { ins, row } = inserted;
+        Stamped { row, ins, del }
+    }
+}

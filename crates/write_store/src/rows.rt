@@ -1,0 +1,51 @@
+//! Work on rows in memory as they lie there.
+
+ghost use Rattle.std.specs.Prelude.{◌≡◌, ◌≤◌, ◌<◌, [], ◌∷◌, map, length, filter, nat_le, nat_lt, IfOk, vec_len, vec_capacity};
+ghost use Rattle.std.specs.List.{All};
+ghost use Rattle.write_store.specs.Memory.{stamp, deleted_at};
+
+use crate::held::Held;
+use col_value::Stamped;
+use std::alloc::{AllocError, Global};
+
+/// The row at a place is deleted by an epoch.
+pub fn delete(rows: &mut [Held], place: usize, epoch: u64)
+    requires { place < length rows.old }
+    ensures rows { map stamp rows.new ≡ deleted_at epoch (place ∷ []) (map stamp rows.old) }
+    ensures long { length rows.new ≡ length rows.old }
+{
+    rows[place].del = Some(epoch);
+}
+
+/// The rows at these places are deleted by an epoch.
+pub fn delete_each(rows: &mut [Held], places: &[usize], epoch: u64)
+    requires { All (λ p. p < length rows.old) places.now }
+    ensures rows { map stamp rows.new ≡ deleted_at epoch places.now (map stamp rows.old) }
+    ensures long { length rows.new ≡ length rows.old }
+{
+    for place in places {
+        delete(rows, *place, epoch);
+    }
+}
+
+/// Keeps the rows that were inserted after an epoch.
+pub fn keep_after(rows: &mut Vec<Held>, epoch: u64)
+    ensures rows { map stamp rows.new.items ≡ filter (λ s. nat_lt epoch s.ins) (map stamp rows.old.items) }
+    ensures fewer { vec_len rows.new ≤ vec_len rows.old }
+    ensures room { vec_capacity rows.new ≡ vec_capacity rows.old }
+{
+    rows.retain(|row| row.inserted.ins > epoch);
+}
+
+/// Copies of the rows that were inserted up to an epoch.
+pub fn copies_upto(alloc: Global, rows: &[Held], epoch: u64) -> Result<Vec<Stamped>, AllocError>
+    ensures { IfOk result (λ v. v.items ≡ filter (λ s. nat_le s.ins epoch) (map stamp rows.now)) }
+{
+    let mut taken = Vec::new(alloc);
+    for row in rows {
+        if row.inserted.ins <= epoch {
+            taken.push(row.copy(alloc)?)?;
+        }
+    }
+    Ok(taken)
+}
