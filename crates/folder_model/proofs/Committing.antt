@@ -1,7 +1,6 @@
 -- What a store stands for while other files change, and after a commit of its catalogue.
-use Rattle.std.proofs.Common.{◌≡◌, ◌≢◌, ℕ, ◌+◌, ◌*◌, ◌≤◌, ◌<◌, Bool, true, false, List, [], ◌∷◌, map, Option, Some, None, refl, sym, ap, ap₂, ◌∙◌, arith, subst, inl, inr}
-use Rattle.std.specs.Prelude.{◌⊎◌, min, fold}
-use Rattle.std.specs.FinMap.{get}
+use Rattle.std.proofs.Common.{ℕ, ◌<◌, Bool, true, false, List, [], ◌∷◌, Option, refl, sym, ◌∙◌, arith, subst, inl, inr}
+use Rattle.std.specs.Prelude.{◌⊎◌}
 use Rattle.std.specs.Bool.{OnTrue}
 use Rattle.std.specs.List.{All}
 use Rattle.std.proofs.lemmas.List.Elements.{All-head, All-tail, All-cons, All-nil}
@@ -15,9 +14,8 @@ use Rattle.catalog_types.specs.declared.catalogue.Catalogue.{Catalogue}
 use Rattle.catalog_root.specs.declared.found.Found.{Found}
 use Rattle.catalog_root.specs.declared.found.Found.TheVariants.{Fresh, Root}
 use Rattle.catalog_root.specs.Root.{data_file, Opens}
-use Rattle.catalog_root.specs.Listed.{IsListed, IsStray, IsUnlisted}
 use Rattle.catalog_root.specs.Crash.{RootNames, IsReplaced, OldOrNew}
-use Rattle.catalog_root.specs.Quiet.{IsQuiet, Quiet, IsSpare, IsUseless}
+use Rattle.catalog_root.specs.Quiet.{IsQuiet, IsSpare, IsUseless}
 use Rattle.catalog_root.proofs.Quieting.{quiet_moved, quiet_replaced, listed_stay}
 use Rattle.db_model.specs.Database.{Database, Table}
 use Rattle.db_model.specs.Epochs.{last_good, cut}

@@ -1,8 +1,8 @@
 -- Whatever a crash leaves of what a store stands for, the folder reopens to the tables cut at the last good epoch.
-use Rattle.std.proofs.Common.{◌≡◌, ℕ, ◌+◌, ◌*◌, ◌≤◌, ◌<◌, ◌++◌, Bool, true, false, cond, List, [], ◌∷◌, length, map, Option, Some, None, refl, sym, ap, ap₂, ◌∙◌, arith, subst}
+use Rattle.std.proofs.Common.{◌≡◌, ℕ, ◌≤◌, ◌<◌, Bool, true, false, List, [], ◌∷◌, map, Option, Some, None, refl, sym, ap, ap₂, ◌∙◌, arith, subst}
 use Rattle.std.specs.Prelude.{fold, filter, unwrap_or}
 use Rattle.std.specs.Bool.{OnTrue}
-use Rattle.std.specs.List.{All, AllZip, flat_map}
+use Rattle.std.specs.List.{All, AllZip}
 use Rattle.std.proofs.lemmas.List.Elements.{All-head, All-tail, All-cons, All-nil, All-weaker, All-map}
 use Rattle.common_laws.specs.Bags.{SameBag}
 use Rattle.common_laws.specs.Maps.{Contents}
@@ -15,21 +15,19 @@ use Rattle.catalog_types.specs.declared.catalogue.Catalogue.{Catalogue}
 use Rattle.catalog_types.specs.Reached.{earlier, table_reached, all_reached, least_lge}
 use Rattle.catalog_root.specs.declared.found.Found.{Found}
 use Rattle.catalog_root.specs.declared.found.Found.TheVariants.{Fresh, Root}
-use Rattle.catalog_root.specs.Listed.{IsListed}
 use Rattle.catalog_root.specs.Quiet.{IsQuiet}
-use Rattle.db_model.specs.Database.{Database, Table, Shape, empty_database}
+use Rattle.db_model.specs.Database.{Database, Table, Shape}
 use Rattle.db_model.specs.Kept.{moved_shape}
 use Rattle.db_model.specs.Epochs.{all_shapes, least_or, last_good, cut_table, cut}
 use Rattle.db_model.specs.Sound.{IsSoundDatabase}
 use Rattle.stored_rows.specs.Listed.{SameEntry}
-use Rattle.stored_rows.specs.Held.{Holds}
-use Rattle.stored_rows.specs.Stored.{Projected, Stores, IsMemoryAbove, AreLater}
+use Rattle.stored_rows.specs.Stored.{Projected, IsMemoryAbove, AreLater}
 use Rattle.stored_rows.proofs.KeptRows.{entry_kept}
 use Rattle.stored_rows.proofs.Memories.{cut_memory}
 use Rattle.folder_model.specs.Projections.{ordinals, shape_of, HasHistory, HasRows, HoldsHistory}
 use Rattle.folder_model.specs.Tables.{StandsForTable, StandForTables, AreDatabase}
-use Rattle.folder_model.specs.Reopening.{IsTableAt, IsCutOf, ReopensBy, Reopens}
-use Rattle.folder_model.specs.Standing.{IsRootOf, StandsFor}
+use Rattle.folder_model.specs.Reopening.{IsTableAt, IsCutOf, Reopens}
+use Rattle.folder_model.specs.Standing.{IsRootOf}
 use Rattle.folder_model.proofs.LastGoods.{good_below, good_same}
 use Rattle.folder_model.proofs.ListedFiles.{SameTables, tables_same}
 

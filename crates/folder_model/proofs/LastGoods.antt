@@ -1,11 +1,11 @@
 -- The last good epoch of what a catalogue stands for is the least epoch that an up-to-date projection of it has reached.
-use Rattle.std.proofs.Common.{◌≡◌, ℕ, ◌+◌, ◌≤◌, ◌<◌, ◌++◌, Bool, true, false, cond, List, [], ◌∷◌, map, filter, Option, Some, None, refl, sym, ap, ap₂, ◌∙◌, arith, subst}
+use Rattle.std.proofs.Common.{◌≡◌, ℕ, ◌≤◌, ◌++◌, Bool, true, false, cond, List, [], ◌∷◌, map, filter, Option, Some, None, refl, sym, ap, ap₂, ◌∙◌, arith, subst}
 use Rattle.std.specs.Prelude.{min, fold, unwrap_or}
 use Rattle.std.specs.Bool.{OnTrue}
 use Rattle.std.specs.List.{All, flat_map}
 use Rattle.std.proofs.lemmas.List.{map-append}
 use Rattle.std.proofs.lemmas.List.Concat.{flat_map-cons}
-use Rattle.std.proofs.lemmas.List.Elements.{filter-append, All-head, All-tail, All-cons, All-nil, All-weaker}
+use Rattle.std.proofs.lemmas.List.Elements.{filter-append, All-cons, All-nil, All-weaker}
 use Rattle.std.proofs.lemmas.Grind.{fold-append}
 use Rattle.common_laws.specs.Maps.{Contents}
 use Rattle.catalog_types.specs.declared.catalogue.Projection.{Projection}
@@ -18,11 +18,11 @@ use Rattle.db_model.specs.Sound.{ReachesMark, IsSoundShape, IsSoundTable, IsSoun
 use Rattle.db_laws.proofs.Goods.{Reaches, TableReaches, good_least}
 use Rattle.stored_rows.specs.Stored.{Projected}
 use Rattle.folder_model.specs.Projections.{shape_of}
-use Rattle.folder_model.specs.Tables.{StandsForTable, StandForTables, AreDatabase}
+use Rattle.folder_model.specs.Tables.{StandForTables, AreDatabase}
 
 -- ---- the least of some epochs that may be there
 
-pub Below : Option ℕ → Option ℕ → Type 0
+abbrev pub Below : Option ℕ → Option ℕ → Type 0
 Below least None = Unit {0}
 Below None (Some b) = ⊥
 Below (Some a) (Some b) = a ≤ b
@@ -78,10 +78,10 @@ good_below c =
 
 -- ---- the least over all shapes
 
-lges : List Shape → List ℕ
+abbrev lges : List Shape → List ℕ
 lges ss = map (λ s. s.lge) (filter (λ s. s.fresh) ss)
 
-least_from : Option ℕ → List ℕ → Option ℕ
+abbrev least_from : Option ℕ → List ℕ → Option ℕ
 least_from e ns = fold (λ a n. earlier a (Some n)) e ns
 
 earlier_joins : (a b c : Option ℕ) → earlier a (earlier b c) ≡ earlier (earlier a b) c
@@ -103,22 +103,23 @@ lges_more s ss b is = ap (λ (c : Bool). map (λ (x : Shape). x.lge) (cond c (s 
 
 shapes_reached : (e : Option ℕ) (ps : List Projection) → fold (λ a p. earlier a (reached p)) e ps ≡ least_from e (lges (map shape_of ps))
 shapes_reached e [] = refl
-shapes_reached e (p ∷ ps) = by p.fresh refl
+shapes_reached e (p ∷ ps) = by p.fresh refl (λ o. shapes_reached o ps)
   where
-    by : (b : Bool) → p.fresh ≡ b → fold (λ a x. earlier a (reached x)) (earlier e (reached p)) ps ≡ least_from e (lges (shape_of p ∷ map shape_of ps))
-    by true is =
+    by : (b : Bool) → p.fresh ≡ b → ((o : Option ℕ) → fold (λ a x. earlier a (reached x)) o ps ≡ least_from o (lges (map shape_of ps)))
+        → fold (λ a x. earlier a (reached x)) (earlier e (reached p)) ps ≡ least_from e (lges (shape_of p ∷ map shape_of ps))
+    by true is rest =
         ap (λ (o : Option ℕ). fold (λ a x. earlier a (reached x)) (earlier e o) ps) (ap (λ (b : Bool). cond b (Some p.lge) None) is)
-        ∙ shapes_reached (earlier e (Some p.lge)) ps ∙ sym (ap (least_from e) (lges_more (shape_of p) (map shape_of ps) true is))
-    by false is =
+        ∙ rest (earlier e (Some p.lge)) ∙ sym (ap (least_from e) (lges_more (shape_of p) (map shape_of ps) true is))
+    by false is rest =
         ap (λ (o : Option ℕ). fold (λ a x. earlier a (reached x)) (earlier e o) ps) (ap (λ (b : Bool). cond b (Some p.lge) None) is)
         ∙ ap (λ (o : Option ℕ). fold (λ a x. earlier a (reached x)) o ps) (earlier_none e)
-        ∙ shapes_reached e ps ∙ sym (ap (least_from e) (lges_more (shape_of p) (map shape_of ps) false is))
+        ∙ rest e ∙ sym (ap (least_from e) (lges_more (shape_of p) (map shape_of ps) false is))
 
 lges_append : (xs ys : List Shape) → lges (xs ++ ys) ≡ lges xs ++ lges ys
 lges_append xs ys = ap (map (λ (s : Shape). s.lge)) (filter-append (λ s. s.fresh) xs ys) ∙ map-append (λ (s : Shape). s.lge) (filter (λ s. s.fresh) xs) (filter (λ s. s.fresh) ys)
 
 -- the shapes of the projections of a catalogue's tables
-pub kept_shapes : List kept.Table → List Shape
+abbrev pub kept_shapes : List kept.Table → List Shape
 kept_shapes ts = flat_map (λ t. map shape_of t.projections) ts
 
 tables_reached : (e : Option ℕ) (ts : List kept.Table) → fold (λ a t. earlier a (table_reached t)) e ts ≡ least_from e (lges (kept_shapes ts))

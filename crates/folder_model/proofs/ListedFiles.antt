@@ -1,6 +1,5 @@
 -- The files that a catalogue lists, projection by projection.
-use Rattle.std.proofs.Common.{◌≡◌, ℕ, ◌+◌, ◌*◌, ◌≤◌, ◌<◌, ◌++◌, List, [], ◌∷◌, length, Option, Some, None, refl, sym, ◌∙◌, subst, inl, inr, arith}
-use Rattle.std.specs.Prelude.{◌⊎◌}
+use Rattle.std.proofs.Common.{◌≡◌, ℕ, ◌+◌, List, [], ◌∷◌, length, Option, Some, None, refl, sym, subst, inl, inr, arith}
 use Rattle.std.specs.FinMap.{get}
 use Rattle.std.specs.List.{All, Any, flat_map}
 use Rattle.std.proofs.lemmas.List.Concat.{flat_map-cons}
@@ -15,7 +14,7 @@ use Rattle.catalog_types.specs.declared.catalogue.Catalogue.{Catalogue}
 use Rattle.catalog_types.specs.Numbers.{files, span_of, mark, container_spans, projection_spans, table_spans}
 use Rattle.catalog_root.specs.Root.{data_file}
 use Rattle.catalog_root.specs.Listed.{IsIn, IsListed}
-use Rattle.stored_rows.specs.Listed.{IsListedOf, IsVectorFile, SameFiles, SameEntry, vector_file}
+use Rattle.stored_rows.specs.Listed.{IsVectorFile, SameFiles, SameEntry}
 
 -- files of numbers within some spans are in both the same
 abbrev pub SameIn : Contents → Contents → List Span → Type 0

@@ -1,5 +1,5 @@
 -- A commit's changes of a projection.
-use Rattle.std.specs.Prelude.{ℕ, ◌≡◌, ◌++◌, if◌then◌else◌, List, map}
+use Rattle.std.specs.Prelude.{ℕ, ◌≡◌, if◌then◌else◌, List, map}
 use Rattle.std.specs.List.{AllZip}
 use Rattle.std.specs.Bool.{OnTrue, OnFalse}
 use Rattle.common_laws.specs.Maps.{Contents}

@@ -1,5 +1,5 @@
 -- What a folder reopens to: tables cut at one epoch, that up to which every up-to-date projection has all its rows on disk.
-use Rattle.std.specs.Prelude.{ℕ, ◌≡◌, List, map}
+use Rattle.std.specs.Prelude.{ℕ, ◌≡◌, map}
 use Rattle.std.specs.Bool.{OnTrue}
 use Rattle.std.specs.List.{All, AllZip}
 use Rattle.common_laws.specs.Maps.{Contents}

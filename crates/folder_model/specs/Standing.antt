@@ -1,5 +1,5 @@
 -- What a store stands for over a disk, whatever a crash leaves of it.
-use Rattle.std.specs.Prelude.{ℕ, ◌≡◌, ◌<◌, List, [], Option, None}
+use Rattle.std.specs.Prelude.{◌≡◌, ◌<◌, List, [], Option, None}
 use Rattle.common_laws.specs.Maps.{Contents}
 use Rattle.catalog_types.specs.declared.catalogue.Catalogue.{Catalogue}
 use Rattle.catalog_types.specs.Reached.{all_reached}

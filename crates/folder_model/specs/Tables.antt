@@ -1,5 +1,5 @@
 -- That a catalogue and the stores of its projections stand for a database.
-use Rattle.std.specs.Prelude.{ℕ, ◌≡◌, ◌≤◌, List, [], ◌∷◌, map}
+use Rattle.std.specs.Prelude.{ℕ, ◌≡◌, List, [], ◌∷◌, map}
 use Rattle.std.specs.List.{All}
 use Rattle.common_laws.specs.Maps.{Contents}
 use Rattle.catalog_types.specs.declared.catalogue.Table as kept

@@ -1,10 +1,9 @@
 //! Laws of what a store stands for.
 
-ghost use Rattle.std.specs.Prelude.{ℕ, ◌≡◌, ◌⊎◌, ◌<◌, ◌++◌, true, List, map, Option};
+ghost use Rattle.std.specs.Prelude.{ℕ, ◌≡◌, ◌⊎◌, ◌<◌, ◌++◌, true, List, map};
 ghost use Rattle.std.specs.List.{All};
 ghost use Rattle.common_laws.specs.Maps.{Contents};
 ghost use Rattle.col_disk.specs.Moved.{Moved, ImageOf};
-ghost use Rattle.col_disk.specs.declared.disk.Disk.{Ghosts};
 ghost use Rattle.col_value.specs.declared.value.Value.{Value};
 ghost use Rattle.col_value.specs.declared.row.Asked.{Asked};
 ghost use Rattle.row_history.specs.History.{inserted_at, mark_all, Within};
@@ -22,19 +21,21 @@ ghost use Rattle.folder_model.specs.Reopening.{Reopens};
 ghost use Rattle.folder_model.specs.Standing.{StandsFor};
 ghost use Rattle.folder_model.specs.Changing.{inserted_into, AreDeletedFrom};
 
+use col_disk::Disk;
+
 /// Whatever a crash leaves of a disk over which a store stands for a database, the folder reopens to that database cut at its last good
 /// epoch.
-pub fn every_image_reopens()
-    ensures { (c : Catalogue) (stores : List (List Projected)) (told : Option Contents) (image : Contents → Type 0) (d : Database)
-        → StandsFor c stores told image d → (x : Contents) → image x → Reopens x (cut (last_good d) d) }
+pub fn every_image_reopens<D: Disk>()
+    ensures { (c : Catalogue) (stores : List (List Projected)) (disk : D) (d : Database)
+        → StandsFor c stores (D.holds disk) (ImageOf ⟦<D as Disk>⟧ disk) d → (x : Contents) → ImageOf ⟦<D as Disk>⟧ disk x → Reopens x (cut (last_good d) d) }
 {}
 
 /// Whatever a crash leaves at any moment of a commit of a new catalogue, the folder reopens to the database of before or to the new one, each
 /// cut at its last good epoch.
-pub fn a_commit_reopens()
-    ensures { (c k : Catalogue) (stores others : List (List Projected)) (told : Option Contents) (image : Contents → Type 0) (version : ℕ) (d e : Database)
-        → (stands : StandsFor c stores told image d) → AreDatabase stands.files k others e → IsSoundDatabase e → version < k.next
-        → (x : Contents) → OldOrNew stands.root version k image stands.files x
+pub fn a_commit_reopens<D: Disk>()
+    ensures { (c k : Catalogue) (stores others : List (List Projected)) (disk : D) (version : ℕ) (d e : Database)
+        → (stands : StandsFor c stores (D.holds disk) (ImageOf ⟦<D as Disk>⟧ disk) d) → AreDatabase stands.files k others e → IsSoundDatabase e → version < k.next
+        → (x : Contents) → OldOrNew stands.root version k (ImageOf ⟦<D as Disk>⟧ disk) stands.files x
         → Reopens x (cut (last_good d) d) ⊎ Reopens x (cut (last_good e) e) }
 {}
 
@@ -45,16 +46,17 @@ pub fn last_good_is_reached()
 
 /// A store stands for its database on while data files are written that its root doesn't list, and files removed that it has no use
 /// for.
-pub fn other_files_move()
-    ensures { (D : Type 0) (disk : Ghosts D) (W R : ℕ → Type 0) (old new : D) (c : Catalogue) (stores : List (List Projected)) (d : Database)
-        → (stands : StandsFor c stores (disk.holds old) (ImageOf disk old) d) → ((q : ℕ) → W q → IsSpare stands.root q) → ((q : ℕ) → R q → IsUseless stands.root q)
-        → Moved disk W R old new → StandsFor c stores (disk.holds new) (ImageOf disk new) d }
+pub fn other_files_move<D: Disk>()
+    ensures { (old new : D) (c : Catalogue) (stores : List (List Projected)) (d : Database)
+        → (stands : StandsFor c stores (D.holds old) (ImageOf ⟦<D as Disk>⟧ old) d) → Moved ⟦<D as Disk>⟧ (IsSpare stands.root) (IsUseless stands.root) old new
+        → StandsFor c stores (D.holds new) (ImageOf ⟦<D as Disk>⟧ new) d }
 {}
 
 /// A catalogue that is, with its stores, a sound database over the contents stands for it after its commit.
-pub fn commits_stand()
-    ensures { (told : Option Contents) (image : Contents → Type 0) (version : ℕ) (c : Catalogue) (stores : List (List Projected)) (m : Contents) (d : Database)
-        → AreDatabase m c stores d → IsSoundDatabase d → version < c.next → IsReplaced told image version c m → StandsFor c stores told image d }
+pub fn commits_stand<D: Disk>()
+    ensures { (disk : D) (version : ℕ) (c : Catalogue) (stores : List (List Projected)) (m : Contents) (d : Database)
+        → AreDatabase m c stores d → IsSoundDatabase d → version < c.next → IsReplaced (D.holds disk) (ImageOf ⟦<D as Disk>⟧ disk) version c m
+        → StandsFor c stores (D.holds disk) (ImageOf ⟦<D as Disk>⟧ disk) d }
 {}
 
 /// Rows that a commit inserts join the table and each of its up-to-date projections, with its columns.

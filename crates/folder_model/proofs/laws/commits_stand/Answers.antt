@@ -2,4 +2,4 @@ use Rattle.folder_model.proofs.Committing.{stands_committed}
 use Rattle.folder_model.proofs.laws.commits_stand.Goals as goal
 
 pub returns : goal.returns
-returns c = stands_committed
+returns g c = λ disk version k stores m d are sound drawn replaced. stands_committed _ _ version k stores m d are sound drawn replaced
