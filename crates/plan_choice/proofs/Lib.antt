@@ -1,4 +1,0 @@
-pub mod Covered
-pub mod Bounded
-pub mod Narrowest
-pub mod Chosen
