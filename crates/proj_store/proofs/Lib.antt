@@ -1,0 +1,5 @@
+pub mod Epochs
+pub mod Zips
+pub mod SavedRows
+pub mod Marked
+pub mod Vectors

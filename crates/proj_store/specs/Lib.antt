@@ -1,0 +1,4 @@
+pub mod Loaded
+pub mod Sound
+pub mod Reading
+pub mod Marking

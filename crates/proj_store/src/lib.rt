@@ -1,0 +1,18 @@
+//! A projection: its entry in the catalogue, the delete vector that it holds for each container, the marks that came since, and the
+//! rows that aren't on disk.
+//!
+//! No row of a container is in memory: over the contents of a disk a `ProjStore` stands for the rows that `Stores` of `stored_rows`
+//! says. `load` reads the delete vectors and nothing else; `stamped` and `visible` read the containers. For the rows of a commit
+//! `prepare_rows` makes room, and may fail; `apply_rows` takes no memory. For its deletes `specs/Marking.antt` says which places are
+//! prepared, and `wanted_rows_are_deleted` that marks at them delete exactly what was wanted.
+#![tactic(auto)]
+
+mod copies;
+mod kept;
+mod laws;
+mod loading;
+mod saved;
+mod store;
+
+pub use laws::{valid_entries_load, vectors_are_those_of_the_disk, wanted_rows_are_deleted};
+pub use store::{ProjStore, ReadyRows};
