@@ -1,0 +1,6 @@
+pub mod Splitting
+pub mod Exact
+pub mod Factored
+pub mod Refused
+pub mod Scoped
+pub mod Stars
