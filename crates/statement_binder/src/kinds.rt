@@ -12,10 +12,7 @@ use sql_tree::AggKind;
 use std::alloc::{AllocError, Global};
 
 /// The kinds of the columns in sight.
-pub fn column_kinds(
-    alloc: Global,
-    seen: &[SeenColumn<'_>],
-) -> Result<Vec<Kind>, AllocError>
+pub fn column_kinds(alloc: Global, seen: &[SeenColumn<'_>]) -> Result<Vec<Kind>, AllocError>
     ensures { IfOk result (λ v. v.items ≡ map (λ s. kind_of_column s.column.kind) seen.now) }
 {
     let mut out = Vec::with_capacity(alloc, seen.len())?;

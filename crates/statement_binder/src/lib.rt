@@ -16,9 +16,9 @@ mod scope;
 mod sources;
 mod types;
 
-pub use queries::{bind_named, bind_query, check_trees};
-pub use row_trees::bind_row;
 pub use kinds::column_kinds;
 pub use narrowness::{are_narrow, is_narrow_query};
+pub use queries::{bind_named, bind_query, check_trees};
+pub use row_trees::bind_row;
 pub use scope::Scope;
 pub use types::is_typed_query;

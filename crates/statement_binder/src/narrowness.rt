@@ -22,8 +22,10 @@ pub fn is_narrow_query(alloc: Global, query: &BoundQuery) -> Result<bool, AllocE
         return Ok(false);
     }
     let bounds = bounds_of(alloc, query.aggs.as_slice())?;
-    Ok(are_narrow(query.items.as_slice(), bounds.as_slice())
-        && is_narrow_or_none(&query.having, bounds.as_slice()))
+    Ok(
+        are_narrow(query.items.as_slice(), bounds.as_slice())
+            && is_narrow_or_none(&query.having, bounds.as_slice()),
+    )
 }
 
 /// Whether the expressions are narrow, where the aggregates have these bounds.

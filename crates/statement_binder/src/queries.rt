@@ -17,7 +17,10 @@ use crate::narrowness::is_narrow_query;
 use crate::sources::bind_sources;
 use crate::types::is_typed_query;
 use col_value::{List, Name};
-use name_binder::{BindFault, Found, SeenColumn, bind_order, check_names, find_tables, is_grouped, output_names, place_of, sight};
+use name_binder::{
+    BindFault, Found, SeenColumn, bind_order, check_names, find_tables, is_grouped, output_names,
+    place_of, sight,
+};
 use sql_bound::BoundQuery;
 use sql_tree::{ColRef, Query, Refusal, Which};
 use std::alloc::{AllocError, Global};
@@ -37,11 +40,7 @@ pub fn bind_query(
 }
 
 /// The bound tree of a query over its tables.
-fn bind_over(
-    alloc: Global,
-    query: &Query,
-    tables: &[Found<'_>],
-) -> Result<BoundQuery, BindFault>
+fn bind_over(alloc: Global, query: &Query, tables: &[Found<'_>]) -> Result<BoundQuery, BindFault>
     ensures accepted { OnOk result (refusal_over (columns_of tables.now) query.now ≡ None) }
     ensures bound { IfOk result (λ b. b ≡ bound_query tables.now query.now) }
     ensures refused { IfErr result (RefusesBy (refusal_over (columns_of tables.now) query.now)) }
@@ -207,14 +206,15 @@ fn over_groups(
 }
 
 /// The columns of GROUP BY by their places.
-fn grouping(
-    alloc: Global,
-    seen: &[SeenColumn<'_>],
-    query: &Query,
-) -> Result<Vec<usize>, AllocError>
+fn grouping(alloc: Global, seen: &[SeenColumn<'_>], query: &Query) -> Result<Vec<usize>, AllocError>
     ensures { IfOk result (λ v. v.items ≡ grouping seen.now query.now) }
 {
-    places_of(alloc, seen, query.sources.as_slice().len(), query.group.as_slice())
+    places_of(
+        alloc,
+        seen,
+        query.sources.as_slice().len(),
+        query.group.as_slice(),
+    )
 }
 
 fn places_of(
@@ -245,11 +245,7 @@ pub fn check_trees(
     check_bounds(alloc, bound)
 }
 
-fn check_types(
-    alloc: Global,
-    seen: &[SeenColumn<'_>],
-    bound: &BoundQuery,
-) -> Result<(), BindFault>
+fn check_types(alloc: Global, seen: &[SeenColumn<'_>], bound: &BoundQuery) -> Result<(), BindFault>
     ensures ok { OnOk result (refused_where (not (is_typed_query (row_kinds seen.now) bound.now)) Refusal.TypeMismatch ≡ None) }
     ensures refused { IfErr result (RefusesBy (refused_where (not (is_typed_query (row_kinds seen.now) bound.now)) Refusal.TypeMismatch)) }
 {

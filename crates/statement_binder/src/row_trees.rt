@@ -51,11 +51,7 @@ fn bind_rows(alloc: Global, scope: Scope<'_>, trees: &[Tree]) -> Result<List<Exp
 }
 
 #[cycle(rows)]
-fn term_rows(
-    alloc: Global,
-    scope: Scope<'_>,
-    terms: &[Term],
-) -> Result<List<BoundTerm>, AllocError>
+fn term_rows(alloc: Global, scope: Scope<'_>, terms: &[Term]) -> Result<List<BoundTerm>, AllocError>
     ensures { IfOk result (λ l. l ≡ rows_of (map (bound_term (scope_of scope.entry)) terms.now)) }
 {
     let mut out = Vec::with_capacity(alloc, terms.len())?;

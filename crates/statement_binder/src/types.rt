@@ -24,11 +24,7 @@ pub fn is_typed_query(
 }
 
 /// The same over columns of these kinds.
-fn is_typed_over(
-    alloc: Global,
-    columns: &[Kind],
-    query: &BoundQuery,
-) -> Result<bool, AllocError>
+fn is_typed_over(alloc: Global, columns: &[Kind], query: &BoundQuery) -> Result<bool, AllocError>
     ensures { IfOk result (λ t. t ≡ is_typed_query (over_columns columns.now) query.now) }
 {
     if query.grouped {
@@ -39,11 +35,7 @@ fn is_typed_over(
     }
 }
 
-fn is_typed_groups(
-    alloc: Global,
-    columns: &[Kind],
-    query: &BoundQuery,
-) -> Result<bool, AllocError>
+fn is_typed_groups(alloc: Global, columns: &[Kind], query: &BoundQuery) -> Result<bool, AllocError>
     ensures { IfOk result (λ t. t ≡ is_typed_in (over_columns columns.now) (group_kinds (over_columns columns.now) query.now) query.now) }
 {
     let rows = Places::new(columns, &[], &[]);
