@@ -1,0 +1,4 @@
+pub mod Covered
+pub mod Bounded
+pub mod Narrowest
+pub mod Chosen
