@@ -11,8 +11,10 @@ mod copies;
 mod kept;
 mod laws;
 mod loading;
+mod marking;
+mod picks;
 mod saved;
 mod store;
 
 pub use laws::{valid_entries_load, vectors_are_those_of_the_disk, wanted_rows_are_deleted};
-pub use store::{ProjStore, ReadyRows};
+pub use store::{ProjStore, ReadyMarks, ReadyRows};

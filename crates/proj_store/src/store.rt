@@ -12,6 +12,10 @@ ghost use Rattle.write_store.specs.Memory.{stamp};
 ghost use Rattle.proj_store.specs.Sound.{IsLoadable};
 ghost use Rattle.proj_store.specs.Reading.{BlamesLoad, BlamesRows, HasVectors};
 
+mod marks;
+
+pub use marks::ReadyMarks;
+
 use crate::copies::{add_copies, visible_rows};
 use crate::kept::Kept;
 use crate::loading::load_each;
