@@ -111,9 +111,9 @@ fn bind_over(
 }
 
 /// The bound tree of an UPDATE over these columns in sight; `query` gives the rows that it changes.
-fn bind_seen(
+fn bind_seen<'x>(
     alloc: Global,
-    seen: &[SeenColumn<'_>],
+    seen: &'x [SeenColumn<'x>],
     tables: &[Found<'_>],
     query: &Query,
     update: &Update,
@@ -129,9 +129,9 @@ fn bind_seen(
 }
 
 #[tactic(auto, using(crate::proofs::Changing::no_key))]
-fn bind_parts(
+fn bind_parts<'x>(
     alloc: Global,
-    seen: &[SeenColumn<'_>],
+    seen: &'x [SeenColumn<'x>],
     tables: &[Found<'_>],
     query: &Query,
     update: &Update,
