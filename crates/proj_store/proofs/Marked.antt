@@ -1,5 +1,5 @@
 -- Rows at places that are marked are taken.
-use Rattle.std.proofs.Common.{◌≡◌, ◌+◌, ◌<◌, ◌++◌, ℕ, zero, suc, Bool, true, false, cond, List, [], ◌∷◌, length, map, get_or, refl, sym, ap, ap₂, ◌∙◌, subst, arith}
+use Rattle.std.proofs.Common.{◌≡◌, ◌+◌, ◌++◌, ℕ, suc, Bool, true, false, cond, List, [], ◌∷◌, map, refl, sym, ap, ap₂, ◌∙◌, subst, arith}
 use Rattle.std.specs.Prelude.{Option, Some, None, ◌==◌, ◌||◌, find, option_map}
 use Rattle.std.specs.Option.{option_or}
 use Rattle.std.specs.List.{All}
@@ -13,7 +13,6 @@ use Rattle.col_value.specs.declared.row.Stamped.{Stamped}
 use Rattle.row_history.specs.History.{stamped, Takes, Within}
 use Rattle.catalog_types.specs.declared.catalogue.Container.{Container}
 use Rattle.ros_container.specs.Encodings.{encodings_of}
-use Rattle.ros_container.specs.Held.{HoldsContainer}
 use Rattle.del_vector.specs.declared.mark.Mark.{Mark}
 use Rattle.del_vector.specs.Marks.{epoch_at}
 use Rattle.stored_rows.specs.Held.{stamped_from}
@@ -24,7 +23,7 @@ use Rattle.wanted_rows.specs.Picked.{IsUndeleted, Picks}
 use Rattle.wanted_rows.specs.Taking.{asked_of, Took, marked_at}
 use Rattle.wanted_rows.proofs.Taking.{picks_took, took_append}
 use Rattle.wanted_rows.proofs.Whole.{took_takes}
-use Rattle.proj_store.specs.Marking.{marks_at, marked_beside, all_marked, Places, with_marks, PicksIn, PicksEach, del_of, IsPrepared}
+use Rattle.proj_store.specs.Marking.{marks_at, marked_beside, all_marked, Places, with_marks, PicksEach, del_of, IsPrepared}
 use Rattle.proj_store.proofs.Epochs.{epochs_join}
 
 epochs_of : (epoch : ℕ) (places : List ℕ) (i : ℕ) → epoch_at (marks_at epoch places) i ≡ cond (is_in i places) (Some epoch) None

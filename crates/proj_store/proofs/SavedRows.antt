@@ -1,5 +1,5 @@
 -- Rows of containers, one after the other.
-use Rattle.std.proofs.Common.{◌≡◌, ◌+◌, ◌<◌, ◌≤◌, ◌++◌, ℕ, zero, suc, List, [], ◌∷◌, length, map, take, get_or, refl, sym, ◌∙◌, ap, ap₂, subst, arith, append_assoc, length-take-le}
+use Rattle.std.proofs.Common.{◌≡◌, ◌+◌, ◌<◌, ◌≤◌, ◌++◌, ℕ, zero, suc, List, [], ◌∷◌, length, map, take, get_or, refl, sym, ◌∙◌, ap, ap₂, subst, arith, append_assoc}
 use Rattle.std.specs.Prelude.{Option, Some, None}
 use Rattle.std.specs.List.{All, AllZip, Any}
 use Rattle.std.proofs.lemmas.List.{append-nil, take_more, take_all, get_or-map, get_or_default, length-map}
@@ -8,7 +8,6 @@ use Rattle.common_laws.specs.Maps.{Contents}
 use Rattle.col_disk.specs.declared.disk.StoreFault.{StoreFault}
 use Rattle.col_disk.specs.declared.disk.StoreFault.TheVariants.{Disk, Damaged, Memory}
 use Rattle.col_value.specs.declared.kinds.Encoding.{Encoding}
-use Rattle.col_value.specs.declared.row.Asked.{Asked}
 use Rattle.col_value.specs.declared.row.Stamped.{Stamped}
 use Rattle.row_history.specs.History.{stamped}
 use Rattle.catalog_types.specs.declared.catalogue.Container.{Container}
@@ -16,7 +15,7 @@ use Rattle.catalog_types.specs.declared.catalogue.Projection.{Projection}
 use Rattle.ros_container.specs.Encodings.{encodings_of}
 use Rattle.ros_container.specs.Held.{BlamesContainer}
 use Rattle.stored_rows.specs.Held.{HoldsVector, HoldsMarked, stamped_from}
-use Rattle.stored_rows.specs.Stored.{Beside, Projected, mark_in, StoresRows, Stores, IsUnmarked, IsLoaded}
+use Rattle.stored_rows.specs.Stored.{Beside, Projected, mark_in, StoresRows, Stores}
 use Rattle.vector_files.specs.Blamed.{BlamesVector}
 use Rattle.write_store.specs.declared.held.Held.{Held}
 use Rattle.write_store.specs.Memory.{stamp}

@@ -1,7 +1,7 @@
 -- The delete vectors that are kept, and entries that can be loaded.
-use Rattle.std.proofs.Common.{◌≡◌, ◌+◌, ◌<◌, ◌≤◌, ◌^◌, ℕ, List, [], ◌∷◌, length, get_or, arith}
+use Rattle.std.proofs.Common.{◌<◌, ◌≤◌, ◌^◌, ℕ, List, [], ◌∷◌, get_or, arith}
 use Rattle.std.specs.Prelude.{Option, Some, None, IfSome}
-use Rattle.std.specs.List.{All, AllZip}
+use Rattle.std.specs.List.{AllZip}
 use Rattle.common_laws.specs.Maps.{Contents}
 use Rattle.col_value.specs.declared.kinds.Encoding.{Encoding}
 use Rattle.col_value.specs.declared.row.Stamped.{Stamped}
@@ -9,12 +9,11 @@ use Rattle.catalog_types.specs.declared.catalogue.Catalogue.{Catalogue}
 use Rattle.catalog_types.specs.declared.catalogue.Container.{Container}
 use Rattle.catalog_types.specs.declared.catalogue.Projection.{Projection}
 use Rattle.catalog_types.specs.declared.catalogue.Table.{Table}
-use Rattle.catalog_types.specs.Numbers.{file_count}
-use Rattle.catalog_types.specs.Parts.{IsContainer, IsProjection}
+use Rattle.catalog_types.specs.Parts.{IsProjection}
 use Rattle.ros_container.specs.Encodings.{encodings_of}
 use Rattle.stored_rows.specs.Held.{HoldsVector}
 use Rattle.stored_rows.specs.Stored.{Beside, Projected, StoresRows, Stores, IsUnmarked, IsLoaded}
-use Rattle.proj_store.specs.Sound.{HasFileNumbers, HasVectorNumber, IsLoadable}
+use Rattle.proj_store.specs.Sound.{IsLoadable}
 use Rattle.proj_store.specs.Reading.{HasVectors}
 
 loaded_each : (m : Contents) (ks : List Container) (bs : List Beside) → AllZip (IsUnmarked m) ks bs → AllZip (λ k b. HoldsVector m k b.held) ks bs

@@ -1,12 +1,12 @@
 -- One row more of those that are looked at.
-use Rattle.std.proofs.Common.{◌≡◌, ◌+◌, ◌<◌, ◌∷◌, ◌++◌, [], ℕ, Bool, true, false, cond, List, length, map, get_or, sym, ap, ◌∙◌, subst, arith}
+use Rattle.std.proofs.Common.{◌≡◌, ◌+◌, ◌<◌, ◌∷◌, ◌++◌, [], ℕ, Bool, true, false, cond, List, length, get_or, sym, ap, ◌∙◌, subst, arith}
 use Rattle.std.specs.Prelude.{Option, None}
 use Rattle.std.proofs.lemmas.List.{get_or-map, length-map}
 use Rattle.col_value.specs.declared.row.Asked.{Asked}
 use Rattle.write_store.specs.declared.held.Held.{Held}
 use Rattle.wanted_rows.specs.Wanted.{asked_in, Tries}
-use Rattle.wanted_rows.specs.Picked.{blank, asked_of, del_at, TriesPlace, PicksBefore, Picks}
-use Rattle.wanted_rows.proofs.Steps.{picks_step, picks_all}
+use Rattle.wanted_rows.specs.Picked.{blank, asked_of, del_at, TriesPlace, PicksBefore}
+use Rattle.wanted_rows.proofs.Steps.{picks_step}
 
 pub pick_row : (rows : List Held) (i : ℕ) (row : Held) (places next : List ℕ) (old new newer : Asked → ℕ) (taken : Bool) → PicksBefore i (del_at rows) (asked_of rows) places old new
     → i < length rows → row ≡ get_or rows i row → TriesPlace taken row.del (asked_in row.inserted) new newer → next ≡ cond taken (places ++ i ∷ []) places

@@ -1,6 +1,5 @@
-use Rattle.std.proofs.Common.{◌≡◌, ◌∙◌, List, [], subst, sym}
+use Rattle.std.proofs.Common.{◌∙◌}
 use Rattle.col_disk.proofs.Moving.{looks_join}
-use Rattle.del_vector.specs.declared.mark.Mark.{Mark}
 use Rattle.stored_rows.specs.Stored.{IsUnmarked}
 use Rattle.proj_store.specs.Sound.{IsKept}
 use Rattle.proj_store.proofs.Zips.{kept_more, none_inside}

@@ -1,4 +1,4 @@
-use Rattle.std.proofs.Common.{◌≡◌, ◌∙◌, ◌<◌, ℕ, List, length, refl}
+use Rattle.std.proofs.Common.{◌∙◌, ◌<◌, length, refl}
 use Rattle.col_disk.proofs.Moving.{moved_join, moved_none}
 use Rattle.ros_container.specs.Encodings.{encodings_of}
 use Rattle.proj_store.proofs.SavedRows.{item, item_is, reads_more, reads_done, kept_within, kept_here, blames_here}

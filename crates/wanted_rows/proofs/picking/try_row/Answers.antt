@@ -1,4 +1,3 @@
-use Rattle.std.proofs.Common.{rules}
 use Rattle.std.proofs.lemmas.Result.{IfOk-weaker}
 use Rattle.wanted_rows.specs.Wanted.{need_in, asked_in}
 use Rattle.wanted_rows.proofs.Rows.{tries_undeleted}

@@ -1,4 +1,4 @@
-use Rattle.std.proofs.Common.{◌≡◌, ◌∙◌, List, ap}
+use Rattle.std.proofs.Common.{◌∙◌, List, ap}
 use Rattle.std.specs.Option.{option_or}
 use Rattle.del_vector.specs.declared.mark.Mark.{Mark}
 use Rattle.del_vector.specs.Marks.{epoch_at}

@@ -1,4 +1,4 @@
-use Rattle.std.proofs.Common.{◌≡◌, ◌∙◌, subst}
+use Rattle.std.proofs.Common.{subst}
 use Rattle.proj_store.specs.Loaded.{Loaded}
 use Rattle.proj_store.specs.Reading.{BlamesRows}
 use Rattle.proj_store.proofs.SavedRows.{stored_seen}
