@@ -12,13 +12,12 @@ use Rattle.db_model.specs.Database.{Shape, Table, Database, is_super}
 use Rattle.db_model.specs.State.{Changes, idle_sessions, opened_with}
 use Rattle.db_model.specs.Kept.{moved_shape}
 use Rattle.db_model.specs.Epochs.{cut_table, cut}
-use Rattle.db_model.specs.Locks.{changes_on}
 use Rattle.db_model.specs.Sound.{RowFits, HasEpochs, ReachesMark, IsSoundShape, IsSoundTable, all_names, IsSoundDatabase, ChangesFit, IsSoundSession, GoTogether, IsStale, IsSound}
 
 -- ---- nothing is pending
 
 idle : (d : Database) → IsSoundSession d []
-idle d = record { each = All-nil (ChangesFit d); once = All-nil (λ c. changes_on c.table [] ≡ Some c) }
+idle d = record { each = All-nil (ChangesFit d); once = λ i j x lt below. absurd (omega (arith, below)) }
 
 empty_at : (i : ℕ) (other : List Changes) → i < 8 → slice_index_or idle_sessions i other ≡ []
 empty_at zero other lt = refl

@@ -12,7 +12,6 @@ use Rattle.col_value.specs.Order.{IsRow}
 use Rattle.row_history.specs.History.{Within}
 use Rattle.db_model.specs.Database.{Shape, Table, Database, table_named, is_super}
 use Rattle.db_model.specs.State.{State, Changes}
-use Rattle.db_model.specs.Locks.{changes_on}
 
 -- a text fits a column of texts that takes as many octets
 abbrev pub TextFits : ColType → List ℕ → Type 0
@@ -77,7 +76,7 @@ pub record ChangesFit (d : Database) (c : Changes) : Type 0 where
 -- the changes of a session, no two of one table
 pub record IsSoundSession (d : Database) (changes : List Changes) : Type 0 where
   pub each : All (ChangesFit d) changes
-  pub once : All (λ c. changes_on c.table changes ≡ Some c) changes
+  pub once : AllPairs (λ c e. bytes_eq c.table e.table ≡ false) changes
 
 -- what two sessions hold goes together: on a table that both hold, neither holds mode X
 abbrev pub GoTogether : List Changes → List Changes → Type 0
