@@ -5,18 +5,18 @@ use Rattle.std.specs.Bool.{OnTrue}
 use Rattle.std.specs.List.{All}
 use Rattle.std.proofs.lemmas.List.Elements.{All-head, All-tail, All-cons, All-nil}
 use Rattle.common_laws.specs.Maps.{Contents}
-use Rattle.col_disk.specs.Moved.{Changed, Moved, NoName, ImageOf}
+use Rattle.col_disk.specs.Moved.{Changed, Moved, NoName, ImageOf, Leaves}
 use Rattle.col_disk.specs.declared.disk.Disk.{Ghosts}
-use Rattle.col_disk.proofs.Moving.{changed_kept}
+use Rattle.col_disk.proofs.Moving.{changed_kept, moved_told, leaves_wider}
 use Rattle.col_value.specs.declared.row.Stamped.{Stamped}
 use Rattle.catalog_types.specs.declared.catalogue.Table as kept
 use Rattle.catalog_types.specs.declared.catalogue.Catalogue.{Catalogue}
 use Rattle.catalog_root.specs.declared.found.Found.{Found}
 use Rattle.catalog_root.specs.declared.found.Found.TheVariants.{Fresh, Root}
 use Rattle.catalog_root.specs.Root.{data_file, Opens}
-use Rattle.catalog_root.specs.Crash.{RootNames, IsReplaced, OldOrNew}
+use Rattle.catalog_root.specs.Crash.{RootNames, IsOld, IsReplaced, OldOrNew}
 use Rattle.catalog_root.specs.Quiet.{IsQuiet, IsSpare, IsUseless}
-use Rattle.catalog_root.proofs.Quieting.{quiet_moved, quiet_replaced, listed_stay}
+use Rattle.catalog_root.proofs.Quieting.{quiet_moved, quiet_leaves, quiet_replaced, listed_stay}
 use Rattle.db_model.specs.Database.{Database, Table}
 use Rattle.db_model.specs.Epochs.{last_good, cut}
 use Rattle.db_model.specs.Sound.{IsSoundDatabase}
@@ -142,3 +142,38 @@ commit_reopens c k stores others told image version d e stands are sound drawn x
       opens = new.root;
       same = λ n listed. changed_kept (RootNames version) NoName stands.files x (data_file n) (not_root version n) (λ q. q) new.like;
     }))
+
+-- ---- a commit that was given up
+
+undone_quiet : (m n x y : Contents) (root : Found) (version : ℕ) → Changed (RootNames version) NoName m n → IsQuiet m root y → Opens x root → Changed (RootNames version) NoName y x → IsQuiet n root x
+undone_quiet m n x y Fresh version told quiet opens like = record { opens = opens; same = tt }
+undone_quiet m n x y (Root v r) version told quiet opens like = record {
+  opens = opens;
+  same = λ k listed.
+    changed_kept (RootNames version) NoName y x (data_file k) (not_root version k) (λ q. q) like ∙ quiet.same k listed
+    ∙ sym (changed_kept (RootNames version) NoName m n (data_file k) (not_root version k) (λ q. q) told);
+}
+
+pub stands_undone : {D : Type 0} (disk : Ghosts D) {old new : D} (version : ℕ) (c : Catalogue) (stores : List (List Projected)) (d : Database) → (stands : StandsFor c stores (disk.holds old) (ImageOf disk old) d)
+    → Moved disk (RootNames version) NoName old new → ((x : Contents) → ImageOf disk new x → IsOld stands.root version (ImageOf disk old) x) → StandsFor c stores (disk.holds new) (ImageOf disk new) d
+stands_undone disk {old} {new} version c stores d stands moved each =
+    let (n, told, changed) = moved_told disk stands.files stands.quiet.told_is moved in
+    record {
+      files = n;
+      are = database_moved stands.files n c stores d (tables_same stands.files n c (λ k listed. changed_kept (RootNames version) NoName stands.files n (data_file k) (not_root version k) (λ r. r) changed)) stands.are;
+      sound = stands.sound;
+      root = stands.root;
+      is_root = stands.is_root;
+      quiet = record { told_is = told; every = λ x is. by n changed x (each x is) };
+    }
+  where
+    by : (n : Contents) → Changed (RootNames version) NoName stands.files n → (x : Contents) → IsOld stands.root version (ImageOf disk old) x → IsQuiet n stands.root x
+    by n changed x before = let (y, is, like) = before.like in undone_quiet stands.files n x y stands.root version changed (stands.quiet.every y is) before.opens like
+
+-- whatever a crash leaves while other files are written and removed
+pub moved_reopens : {D : Type 0} (disk : Ghosts D) {W R : ℕ → Type 0} {old new : D} (c : Catalogue) (stores : List (List Projected)) (d : Database)
+    → (stands : StandsFor c stores (disk.holds old) (ImageOf disk old) d) → ((q : ℕ) → W q → IsSpare stands.root q) → ((q : ℕ) → R q → IsUseless stands.root q)
+    → Moved disk W R old new → Leaves disk (λ x. Reopens x (cut (last_good d) d)) old new
+moved_reopens disk {W} {R} {old} {new} c stores d stands written removed moved =
+    leaves_wider disk (λ x quiet. reopens stands.files x c stores d stands.root stands.are stands.sound stands.is_root quiet)
+    (quiet_leaves disk {W = W} {R = R} {old = old} {new = new} stands.root stands.files written removed moved stands.quiet)

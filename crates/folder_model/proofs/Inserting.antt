@@ -20,7 +20,7 @@ later_new : (lge epoch : ℕ) (rows : List (List Value)) → lge < epoch → All
 later_new lge epoch [] lt = All-nil (λ s. lge < s.ins)
 later_new lge epoch (row ∷ rows) lt = All-cons (λ s. lge < s.ins) (inserted_at epoch row) (map (inserted_at epoch) rows) lt (later_new lge epoch rows lt)
 
-history_inserted : (m : Contents) (mark epoch : ℕ) (rows : List Stamped) (new : List (List Value)) (p : Projected) → p.entry.lge < epoch → HasHistory m mark rows p
+pub history_inserted : (m : Contents) (mark epoch : ℕ) (rows : List Stamped) (new : List (List Value)) (p : Projected) → p.entry.lge < epoch → HasHistory m mark rows p
     → HasHistory m mark (rows ++ map (inserted_at epoch) new) (with_rows (rows_for epoch new p) p)
 history_inserted m mark epoch rows new p lt has = record {
   stored = has.stored ++ rows_for epoch new p;

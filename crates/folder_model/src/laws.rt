@@ -3,14 +3,14 @@
 ghost use Rattle.std.specs.Prelude.{ℕ, ◌≡◌, ◌⊎◌, ◌<◌, ◌++◌, true, List, map};
 ghost use Rattle.std.specs.List.{All};
 ghost use Rattle.common_laws.specs.Maps.{Contents};
-ghost use Rattle.col_disk.specs.Moved.{Moved, ImageOf};
+ghost use Rattle.col_disk.specs.Moved.{Moved, ImageOf, Leaves, NoName};
 ghost use Rattle.col_value.specs.declared.value.Value.{Value};
 ghost use Rattle.col_value.specs.declared.row.Asked.{Asked};
 ghost use Rattle.row_history.specs.History.{inserted_at, mark_all, Within};
 ghost use Rattle.catalog_types.specs.declared.catalogue.Table as kept;
 ghost use Rattle.catalog_types.specs.declared.catalogue.Catalogue.{Catalogue};
 ghost use Rattle.catalog_types.specs.Reached.{least_lge};
-ghost use Rattle.catalog_root.specs.Crash.{IsReplaced, OldOrNew};
+ghost use Rattle.catalog_root.specs.Crash.{RootNames, IsOld, IsReplaced, OldOrNew};
 ghost use Rattle.catalog_root.specs.Quiet.{IsSpare, IsUseless};
 ghost use Rattle.db_model.specs.Database.{Database, Table};
 ghost use Rattle.db_model.specs.Epochs.{last_good, cut};
@@ -50,6 +50,21 @@ pub fn other_files_move<D: Disk>()
     ensures { (old new : D) (c : Catalogue) (stores : List (List Projected)) (d : Database)
         → (stands : StandsFor c stores (D.holds old) (ImageOf ⟦<D as Disk>⟧ old) d) → Moved ⟦<D as Disk>⟧ (IsSpare stands.root) (IsUseless stands.root) old new
         → StandsFor c stores (D.holds new) (ImageOf ⟦<D as Disk>⟧ new) d }
+{}
+
+/// Whatever a crash leaves while such files are written and removed, the folder reopens to the database cut at its last good epoch.
+pub fn moving_files_reopen<D: Disk>()
+    ensures { (old new : D) (c : Catalogue) (stores : List (List Projected)) (d : Database)
+        → (stands : StandsFor c stores (D.holds old) (ImageOf ⟦<D as Disk>⟧ old) d) → Moved ⟦<D as Disk>⟧ (IsSpare stands.root) (IsUseless stands.root) old new
+        → Leaves ⟦<D as Disk>⟧ (λ x. Reopens x (cut (last_good d) d)) old new }
+{}
+
+/// A store stands for its database on after a commit that was given up: each image opens as before, and but for the body and the gate of
+/// the version it is one from before.
+pub fn undone_commits_stand<D: Disk>()
+    ensures { (old new : D) (version : ℕ) (c : Catalogue) (stores : List (List Projected)) (d : Database)
+        → (stands : StandsFor c stores (D.holds old) (ImageOf ⟦<D as Disk>⟧ old) d) → Moved ⟦<D as Disk>⟧ (RootNames version) NoName old new
+        → ((x : Contents) → ImageOf ⟦<D as Disk>⟧ new x → IsOld stands.root version (ImageOf ⟦<D as Disk>⟧ old) x) → StandsFor c stores (D.holds new) (ImageOf ⟦<D as Disk>⟧ new) d }
 {}
 
 /// A catalogue that is, with its stores, a sound database over the contents stands for it after its commit.

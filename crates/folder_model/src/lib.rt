@@ -9,5 +9,5 @@ mod laws;
 
 pub use laws::{
     a_commit_reopens, commits_stand, deletes_stand, every_image_reopens, inserts_stand,
-    last_good_is_reached, other_files_move,
+    last_good_is_reached, moving_files_reopen, other_files_move, undone_commits_stand,
 };
