@@ -1,5 +1,5 @@
 -- What a store stands for while other files change, and after a commit of its catalogue.
-use Rattle.std.proofs.Common.{ℕ, ◌<◌, Bool, true, false, List, [], ◌∷◌, Option, refl, sym, ◌∙◌, arith, subst, inl, inr}
+use Rattle.std.proofs.Common.{◌≡◌, ℕ, ◌<◌, Bool, true, false, List, [], ◌∷◌, Option, refl, sym, ◌∙◌, arith, subst, inl, inr}
 use Rattle.std.specs.Prelude.{◌⊎◌}
 use Rattle.std.specs.Bool.{OnTrue}
 use Rattle.std.specs.List.{All}
@@ -68,7 +68,7 @@ all_moved m n mark (t ∷ ts) (ps ∷ pss) (u ∷ us) same (here, more) = (
   all_moved m n mark ts pss us (All-tail (λ x. All (SameEntry m n) x.projections) t ts same) more,
 )
 
-database_moved : (m n : Contents) (c : Catalogue) (stores : List (List Projected)) (d : Database) → SameTables m n c.tables → AreDatabase m c stores d → AreDatabase n c stores d
+pub database_moved : (m n : Contents) (c : Catalogue) (stores : List (List Projected)) (d : Database) → SameTables m n c.tables → AreDatabase m c stores d → AreDatabase n c stores d
 database_moved m n c stores d same are = record { last = are.last; ahm = are.ahm; tables = all_moved m n c.ahm c.tables stores d.tables same are.tables }
 
 -- the files that a root lists, where only others moved
@@ -99,18 +99,24 @@ not_root version i (inl is) = omega (arith, is)
 not_root version i (inr is) = omega (arith, is)
 
 -- a catalogue was committed
+pub stands_new : (told : Option Contents) (image : Contents → Type 0) (version : ℕ) (c : Catalogue) (stores : List (List Projected)) (m : Contents) (d : Database)
+    → AreDatabase m c stores d → IsSoundDatabase d → version < c.next → IsReplaced told image version c m → (s : StandsFor c stores told image d) × (s.root ≡ Root version c)
+stands_new told image version c stores m d are sound drawn replaced =
+    let (n, quiet, new) = quiet_replaced told image version c m replaced in (
+      record {
+        files = n;
+        are = database_moved m n c stores d (tables_same m n c (λ k listed. changed_kept (RootNames version) NoName m n (data_file k) (not_root version k) (λ r. r) new.like)) are;
+        sound = sound;
+        root = Root version c;
+        is_root = (refl, refl, drawn, λ none. refl);
+        quiet = quiet;
+      },
+      refl,
+    )
+
 pub stands_committed : (told : Option Contents) (image : Contents → Type 0) (version : ℕ) (c : Catalogue) (stores : List (List Projected)) (m : Contents) (d : Database)
     → AreDatabase m c stores d → IsSoundDatabase d → version < c.next → IsReplaced told image version c m → StandsFor c stores told image d
-stands_committed told image version c stores m d are sound drawn replaced =
-    let (n, quiet, new) = quiet_replaced told image version c m replaced in
-    record {
-      files = n;
-      are = database_moved m n c stores d (tables_same m n c (λ k listed. changed_kept (RootNames version) NoName m n (data_file k) (not_root version k) (λ r. r) new.like)) are;
-      sound = sound;
-      root = Root version c;
-      is_root = (refl, refl, drawn, λ none. refl);
-      quiet = quiet;
-    }
+stands_committed told image version c stores m d are sound drawn replaced = (stands_new told image version c stores m d are sound drawn replaced).0
 
 -- ---- at any moment of a commit
 

@@ -1,0 +1,5 @@
+pub mod Pairs
+pub mod Created
+pub mod Changes
+pub mod Committed
+pub mod Moved

@@ -1,0 +1,3 @@
+pub mod Seen
+pub mod Making
+pub mod Replacing
