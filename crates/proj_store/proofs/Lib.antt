@@ -3,3 +3,9 @@ pub mod Zips
 pub mod SavedRows
 pub mod Marked
 pub mod Vectors
+pub mod Picking
+pub mod Rooms
+pub mod Inside
+pub mod Above
+pub mod Passed
+pub mod Prepared

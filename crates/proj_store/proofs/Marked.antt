@@ -26,7 +26,7 @@ use Rattle.wanted_rows.proofs.Whole.{took_takes}
 use Rattle.proj_store.specs.Marking.{marks_at, marked_beside, all_marked, Places, with_marks, PicksEach, del_of, IsPrepared}
 use Rattle.proj_store.proofs.Epochs.{epochs_join}
 
-epochs_of : (epoch : ℕ) (places : List ℕ) (i : ℕ) → epoch_at (marks_at epoch places) i ≡ cond (is_in i places) (Some epoch) None
+pub epochs_of : (epoch : ℕ) (places : List ℕ) (i : ℕ) → epoch_at (marks_at epoch places) i ≡ cond (is_in i places) (Some epoch) None
 epochs_of epoch [] i = refl
 epochs_of epoch (p ∷ ps) i = by (p == i) (epochs_of epoch ps i)
   where

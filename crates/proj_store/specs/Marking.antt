@@ -1,5 +1,6 @@
 -- Places of a projection's rows that a commit deletes.
-use Rattle.std.specs.Prelude.{ℕ, ◌≡◌, ◌++◌, List, [], ◌∷◌, map, get_or, Option, None}
+use Rattle.std.specs.Prelude.{ℕ, ◌≡◌, ◌<◌, ◌≤◌, ◌++◌, List, [], ◌∷◌, length, map, get_or, Option, None}
+use Rattle.std.specs.List.{All, AllZip}
 use Rattle.common_laws.specs.Maps.{Contents}
 use Rattle.col_value.specs.declared.kinds.Encoding.{Encoding}
 use Rattle.col_value.specs.declared.row.Asked.{Asked}
@@ -9,10 +10,11 @@ use Rattle.ros_container.specs.Encodings.{encodings_of}
 use Rattle.ros_container.specs.Held.{HoldsContainer}
 use Rattle.del_vector.specs.declared.mark.Mark.{Mark}
 use Rattle.stored_rows.specs.Stored.{Beside, Projected, mark_in}
-use Rattle.write_store.specs.Memory.{deleted_at}
+use Rattle.write_store.specs.Memory.{deleted_at, IsLive}
 use Rattle.wanted_rows.specs.Wanted.{tally}
 use Rattle.wanted_rows.specs.Picked.{Picks}
 use Rattle.wanted_rows.specs.Taking.{asked_of}
+use Rattle.proj_store.specs.Loaded.{Loaded}
 
 -- marks with an epoch at some places
 abbrev pub marks_at : ℕ → List ℕ → List Mark
@@ -64,3 +66,17 @@ pub record IsPrepared (m : Contents) (p : Projected) (wanted : List Asked) (read
   pub starts : (q : Asked) → need q ≡ tally q wanted
   pub containers : PicksEach m (encodings_of p.entry) p.entry.containers p.beside ready.each need mid
   pub unsaved : Picks (del_of p.unsaved) (map asked_of p.unsaved) ready.unsaved mid left
+
+-- positions of a container's rows
+abbrev pub ArePlaces : Container → List ℕ → Type 0
+ArePlaces k places = All (λ p. p < k.rows) places
+
+-- there is room for marks at these places
+abbrev pub HasRoom : List ℕ → ℕ → Type 0
+HasRoom places room = length places ≤ room
+
+-- there are such places, and there is room for marks at them
+pub record CanMark (ready : Places) (p : Loaded) : Type 0 where
+  pub inside : AllZip ArePlaces p.stored.entry.containers ready.each
+  pub room : AllZip HasRoom ready.each p.rooms
+  pub unsaved : All (IsLive p.stored.unsaved) ready.unsaved

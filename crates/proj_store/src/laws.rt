@@ -1,6 +1,6 @@
 //! Laws of projections.
 
-ghost use Rattle.std.specs.Prelude.{◌<◌, ◌^◌, ℕ, List};
+ghost use Rattle.std.specs.Prelude.{◌≡◌, ◌<◌, ◌^◌, ℕ, List};
 ghost use Rattle.common_laws.specs.Maps.{Contents};
 ghost use Rattle.col_value.specs.declared.row.Asked.{Asked};
 ghost use Rattle.col_value.specs.declared.row.Stamped.{Stamped};
@@ -9,10 +9,11 @@ ghost use Rattle.catalog_types.specs.declared.catalogue.Projection.{Projection};
 ghost use Rattle.catalog_types.specs.declared.catalogue.Table.{Table};
 ghost use Rattle.catalog_types.specs.Parts.{IsProjection};
 ghost use Rattle.row_history.specs.History.{Takes, Within};
-ghost use Rattle.stored_rows.specs.Stored.{Projected, Stores, IsLoaded};
+ghost use Rattle.stored_rows.specs.Stored.{Projected, Stores, IsLoaded, IsMemoryAbove, with_rows};
 ghost use Rattle.proj_store.specs.Sound.{IsLoadable};
 ghost use Rattle.proj_store.specs.Reading.{HasVectors};
-ghost use Rattle.proj_store.specs.Marking.{Places, IsPrepared, with_marks};
+ghost use Rattle.proj_store.specs.Loaded.{Loaded};
+ghost use Rattle.proj_store.specs.Marking.{Places, IsPrepared, CanMark, with_marks};
 
 /// Each projection of a valid catalogue can be loaded.
 pub fn valid_entries_load()
@@ -29,4 +30,14 @@ pub fn vectors_are_those_of_the_disk()
 pub fn wanted_rows_are_deleted()
     ensures { (m : Contents) (epoch : ℕ) (p : Projected) (wanted : List Asked) (ready : Places) (old : List Stamped) → IsPrepared m p wanted ready → Stores m p old → Within wanted old
         → (new : List Stamped) × Stores m (with_marks epoch ready p) new × Takes epoch wanted old new }
+{}
+
+/// After rows of a commit have come, the places that were prepared before can be marked still.
+pub fn rows_may_come_before_marks()
+    ensures { (p q : Loaded) (rows : List Stamped) (ready : Places) → CanMark ready p → q.stored ≡ with_rows rows p.stored → q.rooms ≡ p.rooms → CanMark ready q }
+{}
+
+/// Marks of a later epoch leave all that is in memory alone above an epoch.
+pub fn later_marks_stay_above()
+    ensures { (low epoch : ℕ) (p : Projected) (ready : Places) → IsMemoryAbove low p → low < epoch → IsMemoryAbove low (with_marks epoch ready p) }
 {}

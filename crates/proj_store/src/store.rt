@@ -12,6 +12,8 @@ ghost use Rattle.write_store.specs.Memory.{stamp};
 ghost use Rattle.proj_store.specs.Sound.{IsLoadable};
 ghost use Rattle.proj_store.specs.Reading.{BlamesLoad, BlamesRows, HasVectors};
 
+mod deletes;
+
 use crate::copies::{add_copies, visible_rows};
 use crate::kept::Kept;
 use crate::loading::load_each;
@@ -19,6 +21,8 @@ use crate::saved::saved_rows;
 use catalog_types::Projection;
 use col_disk::{Disk, StoreFault};
 use col_value::{Row, Stamped};
+use del_vector::Mark;
+pub use deletes::Marks;
 use std::alloc::{AllocError, Global};
 use std::marker::Model;
 use write_store::{Held, WriteStore};
@@ -106,6 +110,22 @@ impl ProjStore {
         ensures { IsSomeAnd (slice_get self.now.stored.beside container) (λ b. result ≡ mark_in b position) }
     {
         self.kept[container].mark_at(position)
+    }
+
+    /// The delete vector of a container, as it stands on the disk. It takes no memory.
+    pub fn vector(&self, container: usize) -> &[Mark]
+        requires { container < length self.now.stored.beside }
+        ensures { IsSomeAnd (slice_get self.now.stored.beside container) (λ b. result.now ≡ b.held) }
+    {
+        self.kept[container].held.marks()
+    }
+
+    /// The marks of a container that came since, in any order. It takes no memory.
+    pub fn fresh_marks(&self, container: usize) -> &[Mark]
+        requires { container < length self.now.stored.beside }
+        ensures { IsSomeAnd (slice_get self.now.stored.beside container) (λ b. result.now ≡ b.fresh) }
+    {
+        self.kept[container].fresh.as_slice()
     }
 
     /// All rows with their epochs: those of the containers, one container after the other, and then those in memory. `Damaged` names
