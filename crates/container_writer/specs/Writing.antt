@@ -40,7 +40,7 @@ DataFrom base q = (n : ℕ) × (base ≤ n) × (q ≡ 4 * n)
 pub record IsNumbered (columns next after : ℕ) (k : Container) : Type 0 where
   pub base : k.base ≡ next
   pub vector : IfSome k.marks (λ n. n ≡ next + file_count columns)
-  pub after : after ≡ next + container_count columns k
+  pub ends : after ≡ next + container_count columns k
   pub below : after ≤ 2 ^ 62
 
 abbrev pub AreNumbered : ℕ → ℕ → ℕ → Option Container → Type 0
