@@ -37,7 +37,8 @@ fn order_on(a: &Row, b: &Row, columns: &[usize]) -> Ordering
     Ordering::Equal
 }
 
-fn order(shape: &Projection, a: &Asked, b: &Asked) -> Ordering
+/// The order of two rows in a container. It takes no memory.
+pub fn container_order(shape: &Projection, a: &Asked, b: &Asked) -> Ordering
     ensures { result ≡ container_cmp shape.now a.now b.now }
 {
     match order_on(&a.row, &b.row, shape.sort.as_slice()) {
@@ -57,6 +58,6 @@ pub fn sort_rows(shape: &Projection, rows: Vec<Asked>) -> Result<Vec<Asked>, All
     ensures ascending { IfOk result (λ v. IsSorted (container_cmp shape.now) v.items) }
 {
     let mut rows = rows;
-    rows.sort_by(|a, b| order(shape, a, b))?;
+    rows.sort_by(|a, b| container_order(shape, a, b))?;
     Ok(rows)
 }

@@ -9,5 +9,6 @@ mod fitting;
 mod reading;
 mod writing;
 
+pub use fitting::greatest_epoch;
 pub use reading::read;
 pub use writing::write;
