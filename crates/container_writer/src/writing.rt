@@ -1,6 +1,6 @@
 //! Writing rows as a container.
 
-ghost use Rattle.std.specs.Prelude.{◌≡◌, ◌≤◌, ◌<◌, ◌+◌, ◌↔◌, ◌^◌, [], None, Some, map, length, IfOk, IfSome};
+ghost use Rattle.std.specs.Prelude.{◌≡◌, ◌≤◌, ◌<◌, ◌+◌, ◌*◌, ◌↔◌, ◌^◌, [], None, Some, map, length, IfOk, IfSome};
 ghost use Rattle.std.specs.List.{All};
 ghost use Rattle.common_laws.specs.Causes.{HasCause};
 ghost use Rattle.common_laws.specs.Maps.{Contents};
@@ -146,6 +146,7 @@ pub fn write_stamped<D: Disk>(
 ) -> Result<Written, DiskFault>
     ensures held { IfOk result (λ w. (m : Contents) → D.holds disk.new ≡ Some m → HoldsBag m (encodings_of shape.now) (listed w.container) rows.items) }
     ensures numbers { IfOk result (λ w. AreNumbered (length shape.now.columns) next w.next w.container) }
+    ensures upto { IfOk result (λ w. w.next ≤ next + 2 * (length shape.now.columns + 1) + 1) }
     ensures none { IfOk result (λ w. (w.container ≡ None) ↔ (rows.items ≡ [])) }
     ensures level { IfOk result (λ w. IfSome w.container (λ k. k.level ≡ level)) }
     ensures moved { Moved ⟦<D as Disk>⟧ (DataFrom next) NoName disk.old disk.new }
