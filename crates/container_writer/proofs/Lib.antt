@@ -1,0 +1,4 @@
+pub mod Orders
+pub mod Epochs
+pub mod Marks
+pub mod Filled
