@@ -1,7 +1,7 @@
 //! A projection in memory, and its calls.
 
 ghost use Rattle.std.specs.Prelude.{◌≡◌, ◌≤◌, ◌<◌, ◌-◌, [], Some, List, length, map, IfOk, IfErr, IsSomeAnd};
-ghost use Rattle.std.specs.List.{slice_get};
+ghost use Rattle.std.specs.List.{All, slice_get};
 ghost use Rattle.common_laws.specs.Causes.{HasCause};
 ghost use Rattle.common_laws.specs.Maps.{Contents};
 ghost use Rattle.col_disk.specs.Moved.{Looks, Moved, NoName};
@@ -88,6 +88,19 @@ impl ProjStore {
             kept,
             unsaved,
         })
+    }
+
+    /// The projection of an entry that has no containers, without rows in memory. It takes no memory.
+    pub fn bare(alloc: Global, entry: Projection) -> ProjStore
+        requires none { entry.containers ≡ [] }
+        requires sort { All (λ i. i < length entry.columns) entry.sort }
+        ensures { result.stored ≡ record { entry = entry; beside = []; unsaved = [] } }
+    {
+        ProjStore {
+            entry,
+            kept: Vec::new(alloc),
+            unsaved: WriteStore::new(alloc),
+        }
     }
 
     /// The entry in the catalogue. It takes no memory.
