@@ -9,7 +9,7 @@ ghost use Rattle.col_value.specs.declared.row.Stamped.{Stamped as AStamped};
 ghost use Rattle.row_history.specs.History.{visible, inserted_at};
 ghost use Rattle.stored_rows.specs.Stored.{Stores, IsLoaded, with_rows, mark_in};
 ghost use Rattle.write_store.specs.Memory.{stamp};
-ghost use Rattle.proj_store.specs.Sound.{IsLoadable};
+ghost use Rattle.proj_store.specs.Sound.{IsLoadable, IsSound};
 ghost use Rattle.proj_store.specs.Reading.{BlamesLoad, BlamesRows, HasVectors};
 
 use crate::copies::{add_copies, visible_rows};
@@ -19,6 +19,7 @@ use crate::saved::saved_rows;
 use catalog_types::Projection;
 use col_disk::{Disk, StoreFault};
 use col_value::{Row, Stamped};
+use del_vector::Mark;
 use std::alloc::{AllocError, Global};
 use std::marker::Model;
 use write_store::{Held, WriteStore};
@@ -88,7 +89,8 @@ impl ProjStore {
 
     /// The entry in the catalogue. It takes no memory.
     pub fn entry(&self) -> &Projection
-        ensures { result.now ≡ self.now.stored.entry }
+        ensures entry { result.now ≡ self.now.stored.entry }
+        ensures sound { IsSound self.now.stored.entry self.now.stored.beside }
     {
         &self.entry
     }
@@ -106,6 +108,22 @@ impl ProjStore {
         ensures { IsSomeAnd (slice_get self.now.stored.beside container) (λ b. result ≡ mark_in b position) }
     {
         self.kept[container].mark_at(position)
+    }
+
+    /// The delete vector of a container, as it stands on the disk. It takes no memory.
+    pub fn vector(&self, container: usize) -> &[Mark]
+        requires { container < length self.now.stored.beside }
+        ensures { IsSomeAnd (slice_get self.now.stored.beside container) (λ b. result.now ≡ b.held) }
+    {
+        self.kept[container].held.marks()
+    }
+
+    /// The marks of a container that came since, in any order. It takes no memory.
+    pub fn fresh_marks(&self, container: usize) -> &[Mark]
+        requires { container < length self.now.stored.beside }
+        ensures { IsSomeAnd (slice_get self.now.stored.beside container) (λ b. result.now ≡ b.fresh) }
+    {
+        self.kept[container].fresh.as_slice()
     }
 
     /// All rows with their epochs: those of the containers, one container after the other, and then those in memory. `Damaged` names
