@@ -10,7 +10,7 @@ ghost use Rattle.del_vector.specs.Marks.{epoch_at};
 ghost use Rattle.ros_container.specs.Encodings.{encodings_of};
 ghost use Rattle.ros_container.specs.Rows.{AreWithin};
 ghost use Rattle.stored_rows.specs.Held.{stamped_from};
-ghost use Rattle.container_writer.specs.Writing.{listed, HoldsBag, HoldsOne, DataFrom, AreNumbered, with_vector};
+ghost use Rattle.container_writer.specs.Writing.{listed, HoldsBag, HoldsOne, DataFrom, AreNumbered};
 
 use crate::marking::vector_of;
 use crate::ordering::{Keyed, ordered};

@@ -9,7 +9,7 @@ ghost use Rattle.col_value.specs.declared.row.Stamped.{Stamped as AStamped};
 ghost use Rattle.row_history.specs.History.{visible, inserted_at};
 ghost use Rattle.stored_rows.specs.Stored.{Stores, IsLoaded, with_rows, mark_in};
 ghost use Rattle.write_store.specs.Memory.{stamp};
-ghost use Rattle.proj_store.specs.Sound.{IsLoadable};
+ghost use Rattle.proj_store.specs.Sound.{IsLoadable, IsSound};
 ghost use Rattle.proj_store.specs.Reading.{BlamesLoad, BlamesRows, HasVectors};
 
 mod deletes;
@@ -105,7 +105,8 @@ impl ProjStore {
 
     /// The entry in the catalogue. It takes no memory.
     pub fn entry(&self) -> &Projection
-        ensures { result.now ≡ self.now.stored.entry }
+        ensures entry { result.now ≡ self.now.stored.entry }
+        ensures sound { IsSound self.now.stored.entry self.now.stored.beside }
     {
         &self.entry
     }

@@ -1,0 +1,79 @@
+-- A projection all of whose rows and marks are on disk.
+use Rattle.std.specs.Prelude.{ℕ, ◌≡◌, ◌⊎◌, ◌≤◌, ◌<◌, ◌+◌, ◌^◌, ◌++◌, true, List, length, Option, Some, IfSome}
+use Rattle.std.specs.List.{All, AllZip}
+use Rattle.common_laws.specs.Bags.{SameBag}
+use Rattle.common_laws.specs.Maps.{Contents}
+use Rattle.col_value.specs.declared.kinds.Encoding.{Encoding}
+use Rattle.col_value.specs.declared.row.Stamped.{Stamped}
+use Rattle.catalog_types.specs.declared.catalogue.Container.{Container}
+use Rattle.catalog_types.specs.declared.catalogue.Projection.{Projection}
+use Rattle.catalog_types.specs.Numbers.{file_count}
+use Rattle.del_vector.specs.declared.mark.Mark.{Mark}
+use Rattle.stored_rows.specs.Held.{HoldsVector, HoldsMarked, HoldsRows, Holds}
+use Rattle.stored_rows.specs.Stored.{Beside, Projected, mark_in, StoresRows, Stores}
+use Rattle.container_writer.specs.Writing.{listed, HoldsOne, AreNumbered}
+
+-- the numbers of a container of so many columns are below this one
+pub record IsBelow (columns next : ℕ) (k : Container) : Type 0 where
+  pub files : k.base + file_count columns ≤ next
+  pub vector : IfSome k.marks (λ n. n < next)
+
+-- all numbers that an entry lists are below this one
+abbrev pub IsListedBelow : ℕ → Projection → Type 0
+IsListedBelow next p = All (IsBelow (length p.columns) next) p.containers
+
+-- a number that was drawn, from `next` up to `after`
+pub record IsDrawn (next after n : ℕ) : Type 0 where
+  pub from : next ≤ n
+  pub upto : n < after
+  pub low : n < 2 ^ 62
+
+-- the entry of a container whose delete vector is the old one, or has a number that was drawn
+pub record IsRemarked (next after : ℕ) (old new : Container) : Type 0 where
+  pub base : new.base ≡ old.base
+  pub rows : new.rows ≡ old.rows
+  pub level : new.level ≡ old.level
+  pub marks : (new.marks ≡ old.marks) ⊎ IfSome new.marks (IsDrawn next after)
+
+-- the entry with these containers and one more behind them, if one was made, which has all rows up to an epoch
+abbrev pub moved_to : ℕ → List Container → Option Container → Projection → Projection
+moved_to last remarked made old = record old { fresh = true; lge = last; born = old.born + length (listed made); containers = remarked ++ listed made }
+
+-- The entry of a projection that was moved out up to an epoch, with numbers from `next` up to `after`: its containers with their
+-- delete vectors, and behind them one more, where there were rows in memory.
+pub record IsMovedOut (last next after : ℕ) (old new : Projection) : Type 0 where
+  pub remarked : List Container
+  pub made : Option Container
+  pub mid : ℕ
+  pub is : new ≡ moved_to last remarked made old
+  pub each : AllZip (IsRemarked next mid) old.containers remarked
+  pub numbers : AreNumbered (length old.columns) mid after made
+  pub level : IfSome made (λ k. k.level ≡ 0)
+  pub later : next ≤ mid
+
+-- containers that hold these rows, with numbers below this one
+pub record AreHeld (m : Contents) (encodings : List Encoding) (next : ℕ) (ks : List Container) (rows : List Stamped) : Type 0 where
+  pub held : HoldsRows m encodings ks rows
+  pub below : All (IsBelow (length encodings) next) ks
+
+-- what a container held with these marks, its new entry holds, with numbers below `after`
+abbrev pub Remarks : ℕ → ℕ → Container → Beside → Container → Option Contents → Option Contents → Type 0
+Remarks next after k b j found left =
+    (m : Contents) (encodings : List Encoding) (rows : List Stamped) → found ≡ Some m → IsBelow (length encodings) next k → HoldsVector m k b.held → HoldsMarked m encodings k (mark_in b) rows
+    → (n : Contents) × (left ≡ Some n) × HoldsOne n encodings j rows × IsBelow (length encodings) after j
+
+-- the same of some containers
+abbrev pub RemarksEach : List Encoding → ℕ → ℕ → List Container → List Beside → List Container → Option Contents → Option Contents → Type 0
+RemarksEach encodings next after ks bs js found left =
+    (m : Contents) (rows : List Stamped) → found ≡ Some m → All (IsBelow (length encodings) next) ks → StoresRows m encodings ks bs rows
+    → (n : Contents) × (left ≡ Some n) × AreHeld n encodings after js rows
+
+-- what a projection stored, its new entry holds, in some order
+abbrev pub MovesOut : ℕ → Projected → Projection → Option Contents → Option Contents → Type 0
+MovesOut next p entry found left =
+    (m n : Contents) → found ≡ Some m → left ≡ Some n → IsListedBelow next p.entry → (stored : List Stamped) → Stores m p stored
+    → (held : List Stamped) × Holds n entry held × SameBag stored held
+
+-- marks of two lists, those of the first before those of the second
+abbrev pub beside : List Mark → List Mark → Beside
+beside held fresh = record { held = held; fresh = fresh }

@@ -1,0 +1,75 @@
+//! The move.
+
+ghost use Rattle.std.specs.Prelude.{◌≡◌, ◌≤◌, ◌+◌, ◌*◌, map, length, IfOk};
+ghost use Rattle.common_laws.specs.Causes.{HasCause};
+ghost use Rattle.col_disk.specs.Moved.{Moved, NoName};
+ghost use Rattle.proj_store.specs.Sound.{IsLoadable};
+ghost use Rattle.write_store.specs.Memory.{stamp};
+ghost use Rattle.container_writer.specs.Writing.{DataFrom};
+ghost use Rattle.moveout_job.specs.OnDisk.{IsMovedOut, IsListedBelow, MovesOut};
+
+use crate::entry::moved_entry;
+use crate::remarking::mark_each;
+use catalog_types::Projection;
+use col_disk::{Disk, StoreFault};
+use col_value::Stamped;
+use container_writer::write_stamped;
+use proj_store::ProjStore;
+use std::alloc::{AllocError, Global};
+use write_store::Held;
+
+/// The entry of a projection whose rows are all on disk, and the next number that is free.
+#[derive(Drop)]
+pub struct MovedOut {
+    pub entry: Projection,
+    pub next: u64,
+}
+
+fn copies(alloc: Global, rows: &[Held]) -> Result<Vec<Stamped>, AllocError>
+    ensures { IfOk result (λ v. v.items ≡ map stamp rows.now) }
+{
+    let mut out = Vec::with_capacity(alloc, rows.len())?;
+    for row in rows {
+        out.push(row.copy(alloc)?)?;
+    }
+    Ok(out)
+}
+
+/// Writes all rows and marks of a projection that aren't on disk, with numbers from `next` on, and answers its entry with them, up to
+/// an epoch. Files that it lists already are not touched. Numbers from 2^61 on are answered as want of memory.
+pub fn moveout<D: Disk>(
+    alloc: Global,
+    p: &ProjStore,
+    last: u64,
+    next: u64,
+    disk: &mut D,
+) -> Result<MovedOut, StoreFault>
+    ensures entry { IfOk result (λ r. IsMovedOut last next r.next p.now.stored.entry r.entry) }
+    ensures held { IfOk result (λ r. MovesOut next p.now.stored r.entry (D.holds disk.old) (D.holds disk.new)) }
+    ensures below { IfOk result (λ r. IsListedBelow next p.now.stored.entry → IsListedBelow r.next r.entry) }
+    ensures upto { IfOk result (λ r. r.next ≤ next + 2 * (length p.now.stored.entry.columns + 1) + 1 + length p.now.stored.entry.containers) }
+    ensures count { IfOk result (λ r. length r.entry.containers ≤ length p.now.stored.entry.containers + 1) }
+    ensures loadable { IfOk result (λ r. IsLoadable r.entry) }
+    ensures moved { Moved ⟦<D as Disk>⟧ (DataFrom next) NoName disk.old disk.new }
+    ensures cause { HasCause StoreFault.Disk (D.faults disk.old) (D.faults disk.new) result }
+{
+    let rows = match copies(alloc, p.unsaved()) {
+        Ok(rows) => rows,
+        Err(AllocError) => return Err(StoreFault::Memory),
+    };
+    let marked = match mark_each(alloc, disk, p, next) {
+        Ok(marked) => marked,
+        Err(fault) => return Err(StoreFault::from(fault)),
+    };
+    let written = match write_stamped(alloc, disk, p.entry(), rows, 0, marked.next) {
+        Ok(written) => written,
+        Err(fault) => return Err(StoreFault::from(fault)),
+    };
+    match moved_entry(alloc, p.entry(), marked.containers, written.container, last) {
+        Ok(entry) => Ok(MovedOut {
+            entry,
+            next: written.next,
+        }),
+        Err(AllocError) => Err(StoreFault::Memory),
+    }
+}
