@@ -156,8 +156,8 @@ undone_quiet m n x y Fresh version told quiet opens like = record { opens = open
 undone_quiet m n x y (Root v r) version told quiet opens like = record {
   opens = opens;
   same = λ k listed.
-    changed_kept (RootNames version) NoName y x (data_file k) (not_root version k) (λ q. q) like ∙ quiet.same k listed
-    ∙ sym (changed_kept (RootNames version) NoName m n (data_file k) (not_root version k) (λ q. q) told);
+      changed_kept (RootNames version) NoName y x (data_file k) (not_root version k) (λ q. q) like ∙ quiet.same k listed
+      ∙ sym (changed_kept (RootNames version) NoName m n (data_file k) (not_root version k) (λ q. q) told);
 }
 
 pub stands_undone : {D : Type 0} (disk : Ghosts D) {old new : D} (version : ℕ) (c : Catalogue) (stores : List (List Projected)) (d : Database) → (stands : StandsFor c stores (disk.holds old) (ImageOf disk old) d)

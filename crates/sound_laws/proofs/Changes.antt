@@ -191,6 +191,5 @@ deletes_within d (c ∷ changes) u found fit = by (bytes_eq c.table u.name) refl
 pub all_within : (d : Database) (changes : List Changes) (us : List Table) → All (λ u. table_named u.name d.tables ≡ Some u) us → All (ChangesFit d) changes → All (λ u. Within (pending_deletes u.name changes) u.rows) us
 all_within d changes us found fit = All-weaker (λ u. table_named u.name d.tables ≡ Some u) (λ u. Within (pending_deletes u.name changes) u.rows) (λ u is. deletes_within d changes u is fit) us found
 
-
 pub all_fit : (d : Database) (changes : List Changes) (us : List Table) → All (λ u. table_named u.name d.tables ≡ Some u) us → All (ChangesFit d) changes → All (HasFitting d changes) us
 all_fit d changes us found fit = All-weaker (λ u. table_named u.name d.tables ≡ Some u) (HasFitting d changes) (λ u is. rows_fit d changes u is fit) us found

@@ -72,8 +72,8 @@ pub replaced_not : {D : Type 0} (disk : Ghosts D) {old new : D} (m : Contents) (
 replaced_not disk {old} {new} m was version c f quiet moment memory moved = record {
   done = tt;
   undone = λ short.
-    let (n, told, changed) = moved_told disk m quiet.told_is moved in
-    (n, record { told_is = told; every = λ x is. by n changed x (memory short x is) }, listed_same version m n was changed);
+      let (n, told, changed) = moved_told disk m quiet.told_is moved in
+      (n, record { told_is = told; every = λ x is. by n changed x (memory short x is) }, listed_same version m n was changed);
   any_moment = leaves_wider disk (λ x is. at_moment disk m was version c quiet x is) moment;
 }
   where
@@ -88,8 +88,8 @@ replaced_then {D} disk {old} {mid} {new} m was version c result quiet moment rep
   done = on_good result settled;
   undone = λ short. absurd (none short);
   any_moment =
-    leaves_join disk (leaves_wider disk (λ x is. at_moment disk m was version c quiet x is) moment)
-    (leaves_wider disk (λ x is. inr (from x is)) (quiet_leaves disk {W = NoName} {R = IsUnlisted version c} {old = mid} {new = new} (Root version c) there.0 (λ q no. absurd no) (λ q is. is) moved there.1));
+      leaves_join disk (leaves_wider disk (λ x is. at_moment disk m was version c quiet x is) moment)
+      (leaves_wider disk (λ x is. inr (from x is)) (quiet_leaves disk {W = NoName} {R = IsUnlisted version c} {old = mid} {new = new} (Root version c) there.0 (λ q no. absurd no) (λ q is. is) moved there.1));
 }
   where
     there : (n : Contents) × Quiet (disk.holds mid) (ImageOf disk mid) (Root version c) n × IsNew version c m n

@@ -43,7 +43,7 @@ made_nothing disk {now} was is fault d e stands = record {
   done = tt;
   undone = λ short. stands;
   any_moment = leaves_wider disk (λ x reopens. inl reopens)
-    (moved_reopens disk {W = NoName} {R = NoName} was.catalogue was.stores d stands (λ q none. absurd none) (λ q none. absurd none) (moved_none disk now));
+      (moved_reopens disk {W = NoName} {R = NoName} was.catalogue was.stores d stands (λ q none. absurd none) (λ q none. absurd none) (moved_none disk now));
 }
 
 -- the commit gave no answer
@@ -71,9 +71,9 @@ made_then {D} disk {old} {mid} {new} was version c stores result d e stands are 
   done = on_good result (stands_moved disk {W = NoName} {R = IsUnlisted version c} c stores e then (λ q no. absurd no) useless moved);
   undone = λ short. absurd (none short);
   any_moment =
-    leaves_join disk
-    (leaves_wider disk (λ x is. commit_reopens was.catalogue c was.stores stores (disk.holds old) (ImageOf disk old) version d e stands are sound drawn x is) moment)
-    (leaves_wider disk (λ x reopens. inr reopens) (moved_reopens disk {W = NoName} {R = IsUnlisted version c} c stores e then (λ q no. absurd no) useless moved));
+      leaves_join disk
+      (leaves_wider disk (λ x is. commit_reopens was.catalogue c was.stores stores (disk.holds old) (ImageOf disk old) version d e stands are sound drawn x is) moment)
+      (leaves_wider disk (λ x reopens. inr reopens) (moved_reopens disk {W = NoName} {R = IsUnlisted version c} c stores e then (λ q no. absurd no) useless moved));
 }
   where
     new_root : (s : StandsFor c stores (disk.holds mid) (ImageOf disk mid) e) × (s.root ≡ Root version c)
