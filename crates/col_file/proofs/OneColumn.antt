@@ -26,7 +26,7 @@ one_by_blocks encoding rows bytes (e ∷ es) vs ws (block, more, is, spelled, be
     all ∙ ap₂ (λ (a b : List Value). a ++ b) same rest ∙ sym all2
 
 -- the blocks of the index that stands in the file
-by_index : (encoding : Encoding) (body index rows : ℕ) (m : Contents) (vs : List Value) (at : PosIndex) → IsIndex at → Fits at → at.rows ≡ rows → get m index ≡ Some (index_spelling at) → (h : HoldsColumn encoding body index rows m vs) → HasBlocks encoding at.rows h.bytes at.entries vs
+pub by_index : (encoding : Encoding) (body index rows : ℕ) (m : Contents) (vs : List Value) (at : PosIndex) → IsIndex at → Fits at → at.rows ≡ rows → get m index ≡ Some (index_spelling at) → (h : HoldsColumn encoding body index rows m vs) → HasBlocks encoding at.rows h.bytes at.entries vs
 by_index encoding body index rows m vs at is fit so_many there h =
     let same : h.at ≡ at = one_spelling h.at at h.is_index is h.fits fit (some_is (index_spelling h.at) (index_spelling at) (sym h.index_file ∙ there)) in
     subst (λ (n : ℕ). HasBlocks encoding n h.bytes at.entries vs) (sym so_many) (subst (λ (x : PosIndex). HasBlocks encoding rows h.bytes x.entries vs) same h.blocks)

@@ -119,7 +119,7 @@ fn runs_in(
 }
 
 /// The values of the block of this entry, which ends where the next begins.
-pub fn block_values<D: Disk>(
+fn block_values<D: Disk>(
     alloc: Global,
     disk: &mut D,
     name: u64,
@@ -162,6 +162,28 @@ pub fn block_runs<D: Disk>(
         Ok(None) => Err(StoreFault::Damaged(name)),
         Err(fault) => Err(fault),
     }
+}
+
+/// The values of block k of a column. Of the file only the block's bytes are read, from its place to the next block's, of the
+/// last to the end of the file. `Damaged(body)` comes only where `read_block` answers it, too.
+pub fn read_values<D: Disk>(
+    alloc: Global,
+    disk: &mut D,
+    body: u64,
+    at: &PosIndex,
+    encoding: Encoding,
+    k: usize,
+) -> Result<Vec<Value>, StoreFault>
+    requires { k < length at.now.entries }
+    ensures found { IfSome (slice_get at.now.entries k) (λ e. IfOk result (λ v. AreValues encoding body at.now.rows e (slice_get at.now.entries (k + 1)) (D.holds disk.old) v.items)) }
+    ensures blamed { IfSome (slice_get at.now.entries k) (λ e. IfErr result (Blames body (IsNoPiece encoding body at.now.rows e (slice_get at.now.entries (k + 1)) (D.holds disk.old)))) }
+    ensures kept { D.holds disk.new ≡ D.holds disk.old }
+    ensures moved { Moved ⟦<D as Disk>⟧ NoName NoName disk.old disk.new }
+    ensures cause { HasCause StoreFault.Disk (D.faults disk.old) (D.faults disk.new) result }
+{
+    let entries = at.entries.as_slice();
+    let next = entries.get(k + 1);
+    block_values(alloc, disk, body, at.rows, &entries[k], next, encoding)
 }
 
 /// Reads block k of a column: its runs, which flatten to its values. Of the file only the block's bytes are read,

@@ -5,7 +5,7 @@
 //! first row, the place of its first byte in the body, and the least and the greatest of its values. The two files of a
 //! column are the definitions of `specs/Column.antt`, and `specs/Held.antt` says which values two files hold: at most one
 //! list, and after `write_column` the list that was written. `read_column` reads it whole; `read_index` reads an index,
-//! and `read_block` one block, of which it reads its own bytes alone.
+//! and `read_block` and `read_values` one block, as runs and as values, of which they read its own bytes alone.
 #![tactic(auto)]
 
 mod block;
@@ -15,7 +15,7 @@ mod laws;
 mod read;
 mod whole;
 
-pub use block::read_block;
+pub use block::{read_block, read_values};
 pub use column::write_column;
 pub use laws::{a_written_column_is_held, one_column};
 pub use read::read_index;

@@ -10,7 +10,7 @@ ghost use Rattle.pos_index.specs.Index.{IsIndex};
 ghost use Rattle.col_file.specs.Read.{Blames, IsNoPiece};
 ghost use Rattle.col_file.specs.Held.{HoldsColumn, BlamesColumn, HoldsBlocks, HoldsNoBlocks, GoesOn};
 
-use crate::block::block_values;
+use crate::block::read_values;
 use crate::read::read_index;
 use col_disk::{Disk, StoreFault};
 use col_value::{Encoding, Value};
@@ -34,9 +34,7 @@ fn read_on<D: Disk>(
     ensures moved { Moved ⟦<D as Disk>⟧ NoName NoName disk.old disk.new }
     ensures cause { HasCause StoreFault.Disk (D.faults disk.old) (D.faults disk.new) result }
 {
-    let entries = at.entries.as_slice();
-    let next = entries.get(k + 1);
-    match block_values(alloc, disk, body, at.rows, &entries[k], next, encoding) {
+    match read_values(alloc, disk, body, at, encoding, k) {
         Ok(block) => match add(values, block) {
             Ok(()) => Ok(()),
             Err(AllocError) => Err(StoreFault::Memory),

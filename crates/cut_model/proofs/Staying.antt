@@ -39,7 +39,7 @@ entries_stay m x mark epoch rows (p ∷ ps) same held =
     (on_same p.fresh p.fresh {P = HoldsHistory m mark epoch rows p} refl (λ h. (h.0, entry_kept m x p h.0 here h.1, h.2)) (All-head (λ q. OnTrue q.fresh (HoldsHistory m mark epoch rows q)) p ps held))
     (entries_stay m x mark epoch rows ps (All-tail (SameEntry m x) p ps same) (All-tail (λ q. OnTrue q.fresh (HoldsHistory m mark epoch rows q)) p ps held))
 
-tables_stay : (m x : Contents) (mark epoch : ℕ) (ts : List kept.Table) (us : List Table) → SameTables m x ts → AllZip (IsTableAt m mark epoch) ts us → AllZip (IsTableAt x mark epoch) ts us
+pub tables_stay : (m x : Contents) (mark epoch : ℕ) (ts : List kept.Table) (us : List Table) → SameTables m x ts → AllZip (IsTableAt m mark epoch) ts us → AllZip (IsTableAt x mark epoch) ts us
 tables_stay m x mark epoch [] [] same at = tt
 tables_stay m x mark epoch [] (u ∷ us) same at = absurd at
 tables_stay m x mark epoch (t ∷ ts) [] same at = absurd at

@@ -16,8 +16,10 @@ mod read;
 mod transpose;
 mod write;
 
-pub use fitting::are_rows;
+pub use files::{body_of, index_of};
+pub use fitting::{are_rows, encoding_of};
 pub use laws::{container_kept, one_container};
 pub use order::{container_order, sort_rows};
 pub use read::rows;
+pub use transpose::epoch_of;
 pub use write::{write_one, write_rows};

@@ -12,7 +12,7 @@ use col_value::{Asked, List, Value};
 use std::alloc::{AllocError, Global};
 
 /// The epoch that the value is, if it is one of the entry's.
-fn epoch_of(entry: &Container, value: &Value) -> Option<u64>
+pub fn epoch_of(entry: &Container, value: &Value) -> Option<u64>
     ensures found { IfSome result (λ epoch. (value.now ≡ Int (pos epoch)) × IsWithin entry.now epoch) }
     ensures none { IfNone result (IsEpochOf entry.now value.now → ⊥) }
 {

@@ -1,0 +1,4 @@
+pub mod Columns
+pub mod OneBlock
+pub mod Faults
+pub mod Numbers

@@ -1,0 +1,16 @@
+//! A container read block by block.
+//!
+//! A block holds 1,024 rows, the last one those that are left, and all columns of a container have the same blocks: block b
+//! holds the rows `rows_in b` of `specs/Blocks.antt`. `index` reads the index of a column, which says for each of its blocks
+//! the least and the greatest value. `block` reads the values of one block of a column and `epochs` the insert epochs of its
+//! rows: where the container holds rows, these are the values of the rows of that block (`AreBlock`, `AreEpochs`). A file is
+//! blamed only where the container holds no rows.
+#![tactic(auto)]
+
+mod laws;
+mod reading;
+mod stamps;
+
+pub use laws::{blocks_are_all_rows, values_lie_between};
+pub use reading::{block, index};
+pub use stamps::epochs;

@@ -1,0 +1,96 @@
+//! The index of a column, and the values of a block.
+
+ghost use Rattle.std.specs.Prelude.{◌≡◌, ◌≤◌, ◌<◌, ◌+◌, ◌*◌, ◌-◌, ◌^◌, min, length, IfOk, IfErr};
+ghost use Rattle.std.specs.List.{All};
+ghost use Rattle.common_laws.specs.Causes.{HasCause};
+ghost use Rattle.col_disk.specs.Moved.{Moved, NoName};
+ghost use Rattle.col_value.specs.Order.{IsValue};
+ghost use Rattle.pos_index.specs.Index.{blocks};
+ghost use Rattle.ros_container.specs.Encodings.{encodings_of};
+ghost use Rattle.ros_container.specs.Held.{BlamesContainer};
+ghost use Rattle.container_blocks.specs.Blocks.{IsIndexOf, HasIndex, AreBlock};
+ghost use Rattle.container_blocks.specs.Parts.{ArePart};
+
+use catalog_types::{Container, Projection};
+use col_disk::{Disk, StoreFault};
+use col_file::{read_index, read_values};
+use col_value::Value;
+use pos_index::PosIndex;
+use ros_container::{body_of, encoding_of, index_of};
+use std::alloc::Global;
+
+/// The index of a column; behind the columns stand the epochs. `Damaged` names its file, which is absent or no index of so
+/// many rows.
+pub fn index<D: Disk>(
+    alloc: Global,
+    disk: &mut D,
+    entry: &Container,
+    shape: &Projection,
+    column: usize,
+) -> Result<PosIndex, StoreFault>
+    requires numbers { entry.now.base + 2 * length shape.now.columns + 1 < 2 ^ 62 }
+    requires column { column ≤ length shape.now.columns }
+    ensures index { IfOk result (IsIndexOf entry.now.rows) }
+    ensures found { IfOk result (λ at. HasIndex entry.now column at (D.holds disk.old)) }
+    ensures blamed { IfErr result (BlamesContainer (encodings_of shape.now) entry.now (D.holds disk.old)) }
+    ensures kept { D.holds disk.new ≡ D.holds disk.old }
+    ensures moved { Moved ⟦<D as Disk>⟧ NoName NoName disk.old disk.new }
+    ensures cause { HasCause StoreFault.Disk (D.faults disk.old) (D.faults disk.new) result }
+{
+    let index = index_of(entry.base, column);
+    read_index(alloc, disk, index, entry.rows)
+}
+
+/// The values that a block of a column has where its two files hold a column.
+pub fn part<D: Disk>(
+    alloc: Global,
+    disk: &mut D,
+    entry: &Container,
+    at: &PosIndex,
+    shape: &Projection,
+    column: usize,
+    k: usize,
+) -> Result<Vec<Value>, StoreFault>
+    requires numbers { entry.now.base + 2 * length shape.now.columns + 1 < 2 ^ 62 }
+    requires column { column ≤ length shape.now.columns }
+    requires index { IsIndexOf entry.now.rows at.now }
+    requires block { k < blocks entry.now.rows }
+    ensures found { IfOk result (λ v. HasIndex entry.now column at.now (D.holds disk.old) → ArePart (D.holds disk.old) (encodings_of shape.now) entry.now column k v.items) }
+    ensures long { IfOk result (λ v. length v.items ≡ min 1024 (entry.now.rows - 1024 * k)) }
+    ensures values { IfOk result (λ v. All IsValue v.items) }
+    ensures blamed { IfErr result (λ fault. HasIndex entry.now column at.now (D.holds disk.old) → BlamesContainer (encodings_of shape.now) entry.now (D.holds disk.old) fault) }
+    ensures kept { D.holds disk.new ≡ D.holds disk.old }
+    ensures moved { Moved ⟦<D as Disk>⟧ NoName NoName disk.old disk.new }
+    ensures cause { HasCause StoreFault.Disk (D.faults disk.old) (D.faults disk.new) result }
+{
+    let body = body_of(entry.base, column);
+    let encoding = encoding_of(shape, column);
+    read_values(alloc, disk, body, at, encoding, k)
+}
+
+/// The values of block k of a column, by the index that `index` read of it; behind the columns stand the epochs. Of the body
+/// the bytes of this block are read and no other. `Damaged` names the body, which is absent or has no block of such values
+/// there.
+pub fn block<D: Disk>(
+    alloc: Global,
+    disk: &mut D,
+    entry: &Container,
+    at: &PosIndex,
+    shape: &Projection,
+    column: usize,
+    k: usize,
+) -> Result<Vec<Value>, StoreFault>
+    requires numbers { entry.now.base + 2 * length shape.now.columns + 1 < 2 ^ 62 }
+    requires column { column ≤ length shape.now.columns }
+    requires index { IsIndexOf entry.now.rows at.now }
+    requires block { k < blocks entry.now.rows }
+    ensures found { IfOk result (λ v. HasIndex entry.now column at.now (D.holds disk.old) → AreBlock (D.holds disk.old) (encodings_of shape.now) entry.now column k v.items) }
+    ensures long { IfOk result (λ v. length v.items ≡ min 1024 (entry.now.rows - 1024 * k)) }
+    ensures values { IfOk result (λ v. All IsValue v.items) }
+    ensures blamed { IfErr result (λ fault. HasIndex entry.now column at.now (D.holds disk.old) → BlamesContainer (encodings_of shape.now) entry.now (D.holds disk.old) fault) }
+    ensures kept { D.holds disk.new ≡ D.holds disk.old }
+    ensures moved { Moved ⟦<D as Disk>⟧ NoName NoName disk.old disk.new }
+    ensures cause { HasCause StoreFault.Disk (D.faults disk.old) (D.faults disk.new) result }
+{
+    part(alloc, disk, entry, at, shape, column, k)
+}

@@ -1,0 +1,74 @@
+//! The epochs of the rows of a block.
+
+ghost use Rattle.std.specs.Prelude.{◌≡◌, ◌<◌, ◌+◌, ◌*◌, ◌-◌, ◌^◌, pos, min, length, map, IfOk, IfErr, IfSome, IfNone};
+ghost use Rattle.std.specs.List.{All};
+ghost use Rattle.common_laws.specs.Causes.{HasCause};
+ghost use Rattle.col_disk.specs.Moved.{Moved, NoName};
+ghost use Rattle.col_value.specs.declared.value.Value.TheVariants.{Int};
+ghost use Rattle.pos_index.specs.Index.{blocks};
+ghost use Rattle.ros_container.specs.Encodings.{encodings_of};
+ghost use Rattle.ros_container.specs.Held.{BlamesContainer};
+ghost use Rattle.ros_container.specs.Rows.{IsWithin, IsEpochOf};
+ghost use Rattle.container_blocks.specs.Blocks.{IsIndexOf, HasIndex, AreEpochs};
+
+use crate::reading::part;
+use catalog_types::{Container, Projection};
+use col_disk::{Disk, StoreFault};
+use col_value::Value;
+use pos_index::PosIndex;
+use ros_container::{body_of, epoch_of};
+use std::alloc::{AllocError, Global};
+
+/// The epochs that some values are. None where some value is no epoch of the entry.
+fn epochs_of(
+    alloc: Global,
+    entry: &Container,
+    values: &[Value],
+) -> Result<Option<Vec<u64>>, AllocError>
+    ensures found { IfOk result (λ o. IfSome o (λ v. map (λ epoch. Int (pos epoch)) v.items ≡ values.now)) }
+    ensures within { IfOk result (λ o. IfSome o (λ v. All (IsWithin entry.now) v.items)) }
+    ensures none { IfOk result (λ o. IfNone o (All (IsEpochOf entry.now) values.now → ⊥)) }
+{
+    let mut epochs = Vec::with_capacity(alloc, values.len())?;
+    for value in values {
+        match epoch_of(entry, value) {
+            Some(epoch) => epochs.push(epoch)?,
+            None => return Ok(None),
+        }
+    }
+    Ok(Some(epochs))
+}
+
+/// The epochs that inserted the rows of block k, by the index that `index` read of the column behind the projection's
+/// columns. `Damaged` names the body of the epochs, which is absent, has no block of such values there, or has a value there
+/// that isn't from the entry's least to its greatest epoch.
+pub fn epochs<D: Disk>(
+    alloc: Global,
+    disk: &mut D,
+    entry: &Container,
+    at: &PosIndex,
+    shape: &Projection,
+    k: usize,
+) -> Result<Vec<u64>, StoreFault>
+    requires numbers { entry.now.base + 2 * length shape.now.columns + 1 < 2 ^ 62 }
+    requires index { IsIndexOf entry.now.rows at.now }
+    requires block { k < blocks entry.now.rows }
+    ensures found { IfOk result (λ v. HasIndex entry.now (length shape.now.columns) at.now (D.holds disk.old) → AreEpochs (D.holds disk.old) (encodings_of shape.now) entry.now k v.items) }
+    ensures long { IfOk result (λ v. length v.items ≡ min 1024 (entry.now.rows - 1024 * k)) }
+    ensures within { IfOk result (λ v. All (IsWithin entry.now) v.items) }
+    ensures blamed { IfErr result (λ fault. HasIndex entry.now (length shape.now.columns) at.now (D.holds disk.old) → BlamesContainer (encodings_of shape.now) entry.now (D.holds disk.old) fault) }
+    ensures kept { D.holds disk.new ≡ D.holds disk.old }
+    ensures moved { Moved ⟦<D as Disk>⟧ NoName NoName disk.old disk.new }
+    ensures cause { HasCause StoreFault.Disk (D.faults disk.old) (D.faults disk.new) result }
+{
+    let columns = shape.columns.as_slice().len();
+    let values = match part(alloc, disk, entry, at, shape, columns, k) {
+        Ok(values) => values,
+        Err(fault) => return Err(fault),
+    };
+    match epochs_of(alloc, entry, values.as_slice()) {
+        Ok(Some(epochs)) => Ok(epochs),
+        Ok(None) => Err(StoreFault::Damaged(body_of(entry.base, columns))),
+        Err(AllocError) => Err(StoreFault::Memory),
+    }
+}
