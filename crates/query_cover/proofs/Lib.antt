@@ -1,0 +1,5 @@
+pub mod Looks
+pub mod Blanked
+pub mod Same
+pub mod Permuted
+pub mod Placed

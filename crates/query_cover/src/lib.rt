@@ -1,0 +1,10 @@
+//! Laws of the columns that a query uses.
+//!
+//! A query prints the same over rows that have, in the columns that it uses, what the rows of its FROM items have, in any order
+//! (`used_columns_decide`). So it may read any projection that has these columns (`a_projection_shows_the_table`), and make rows of
+//! the table's width of what it reads, with NULL in the columns that it doesn't use (`placed_rows_are_seen`).
+#![tactic(auto)]
+
+mod laws;
+
+pub use laws::{a_projection_shows_the_table, placed_rows_are_seen, used_columns_decide};
