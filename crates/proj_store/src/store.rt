@@ -5,10 +5,11 @@ ghost use Rattle.std.specs.List.{All, slice_get};
 ghost use Rattle.common_laws.specs.Causes.{HasCause};
 ghost use Rattle.common_laws.specs.Maps.{Contents};
 ghost use Rattle.col_disk.specs.Moved.{Looks, Moved, NoName};
+ghost use Rattle.col_value.specs.Order.{IsRow};
 ghost use Rattle.col_value.specs.declared.row.Stamped.{Stamped as AStamped};
 ghost use Rattle.row_history.specs.History.{visible, inserted_at};
 ghost use Rattle.stored_rows.specs.Stored.{Stores, IsLoaded, with_rows, mark_in};
-ghost use Rattle.write_store.specs.Memory.{stamp};
+ghost use Rattle.write_store.specs.Memory.{stamp, AreHeldRows};
 ghost use Rattle.proj_store.specs.Sound.{IsLoadable, IsSound};
 ghost use Rattle.proj_store.specs.Reading.{BlamesLoad, BlamesRows, HasVectors};
 
@@ -55,11 +56,15 @@ pub struct ReadyRows {
 
 impl Model for ReadyRows {
     ghost use Rattle.std.specs.Prelude.{List};
+    ghost use Rattle.std.specs.List.{All};
+    ghost use Rattle.col_value.specs.Order.{IsRow};
     ghost use Rattle.col_value.specs.declared.value.Value.{Value as Item};
 
     ghost Value = { List (List Item) };
 
     ghost view = { λ r. r.rows.items };
+
+    ghost invariant = { λ r. All IsRow r.rows.items };
 }
 
 impl ProjStore {
@@ -113,7 +118,8 @@ impl ProjStore {
 
     /// The rows that aren't on disk. It takes no memory.
     pub fn unsaved(&self) -> &[Held]
-        ensures { map stamp result.now ≡ self.now.stored.unsaved }
+        ensures rows { map stamp result.now ≡ self.now.stored.unsaved }
+        ensures valid { AreHeldRows result.now }
     {
         self.unsaved.rows()
     }
@@ -186,6 +192,7 @@ impl ProjStore {
 
     /// Makes room for the rows of a commit; nothing else changes.
     pub fn prepare_rows(&mut self, rows: Vec<Row>) -> Result<ReadyRows, AllocError>
+        requires { All IsRow rows.items }
         ensures rows { IfOk result (λ ready. ready ≡ rows.items) }
         ensures room { IfOk result (λ ready. length ready ≤ self.new.spare) }
         ensures stored { self.new.stored ≡ self.old.stored }

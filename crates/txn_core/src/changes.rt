@@ -1,6 +1,8 @@
 //! The changes of a session in one table.
 
 ghost use Rattle.std.specs.Prelude.{◌≡◌, ◌++◌, true, IfOk, OnOk, OnErr};
+ghost use Rattle.std.specs.List.{All};
+ghost use Rattle.col_value.specs.Order.{IsRow};
 ghost use Rattle.db_model.specs.State.{joined};
 ghost use Rattle.db_model.specs.Events.{untouched};
 ghost use Rattle.txn_core.specs.Marking.{marked};
@@ -19,11 +21,15 @@ pub struct Changes {
 }
 
 impl Model for Changes {
+    ghost use Rattle.std.specs.List.{All};
+    ghost use Rattle.col_value.specs.Order.{IsRow};
     ghost use Rattle.db_model.specs.State as state;
 
     ghost Value = { state.Changes };
 
     ghost view = { λ c. record { table = c.table; exclusive = c.exclusive; rows = c.rows.items; deletes = c.deletes.items } };
+
+    ghost invariant = { λ c. All IsRow c.rows.items };
 }
 
 impl Changes {
@@ -56,7 +62,8 @@ impl Changes {
 
     /// The pending rows.
     pub fn rows(&self) -> &[Row]
-        ensures { result.now ≡ self.now.rows }
+        ensures rows { result.now ≡ self.now.rows }
+        ensures valid { All IsRow result.now }
     {
         self.rows.as_slice()
     }
@@ -71,6 +78,7 @@ impl Changes {
     /// The pending rows and the pending deletes themselves.
     pub fn into_parts(self) -> (Vec<Row>, Vec<Asked>)
         ensures rows { result.0.items ≡ self.rows }
+        ensures valid { All IsRow result.0.items }
         ensures deletes { result.1.items ≡ self.deletes }
     {
         let Changes { rows, deletes, .. } = self;
@@ -79,6 +87,7 @@ impl Changes {
 
     /// Rows join the pending ones.
     pub(crate) fn join(&mut self, mut rows: Vec<Row>) -> Result<(), AllocError>
+        requires { All IsRow rows.items }
         ensures joined { OnOk result (self.new ≡ joined self.old rows.items) }
         ensures kept { OnErr result (self.new ≡ self.old) }
     {
@@ -87,6 +96,7 @@ impl Changes {
 
     /// These are the pending rows from now on, these deletes join the others, and the table is held against all.
     pub(crate) fn mark(&mut self, rows: Vec<Row>, mut deletes: Vec<Asked>) -> Result<(), AllocError>
+        requires { All IsRow rows.items }
         ensures marked { OnOk result (self.new ≡ marked rows.items deletes.items self.old) }
         ensures kept { OnErr result (self.new ≡ self.old) }
     {

@@ -1,7 +1,9 @@
 //! The changes of one session.
 
 ghost use Rattle.std.specs.Prelude.{◌≡◌, [], filter, IfSome, IfNone, OnOk, OnErr};
+ghost use Rattle.std.specs.List.{All};
 ghost use Rattle.std.specs.Option.{option_copied};
+ghost use Rattle.col_value.specs.Order.{IsRow};
 ghost use Rattle.db_model.specs.State.{has_changes, with_rows};
 ghost use Rattle.db_model.specs.Locks.{changes_on, excludes};
 ghost use Rattle.db_model.specs.Events.{change_of, is_not_named};
@@ -104,6 +106,7 @@ impl Session {
         table: &[u8],
         rows: Vec<Row>,
     ) -> Result<(), AllocError>
+        requires { All IsRow rows.items }
         ensures pending { OnOk result (self.new ≡ with_rows table.now rows.items self.old) }
         ensures kept { OnErr result (self.new ≡ self.old) }
     {
@@ -126,6 +129,7 @@ impl Session {
         rows: Vec<Row>,
         deletes: Vec<Asked>,
     ) -> Result<(), AllocError>
+        requires { All IsRow rows.items }
         ensures marked { OnOk result (self.new ≡ change_of table.now (marked rows.items deletes.items) self.old) }
         ensures kept { OnErr result (self.new ≡ self.old) }
     {

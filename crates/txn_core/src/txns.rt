@@ -1,7 +1,8 @@
 //! The eight sessions.
 
 ghost use Rattle.std.specs.Prelude.{◌≡◌, ◌≤◌, ◌-◌, [], filter, slice_set, IfOk, OnOk, OnErr};
-ghost use Rattle.std.specs.List.{slice_index_or};
+ghost use Rattle.std.specs.List.{All, slice_index_or};
+ghost use Rattle.col_value.specs.Order.{IsRow};
 ghost use Rattle.db_model.specs.State.{idle_sessions, with_rows};
 ghost use Rattle.db_model.specs.Events.{change_of, is_not_named};
 ghost use Rattle.txn_core.specs.Marking.{marked, holder};
@@ -74,6 +75,7 @@ impl Txns {
     ) -> Result<(), AllocError>
         requires first { 1 ≤ session }
         requires last { session ≤ 8 }
+        requires rows { All IsRow rows.items }
         ensures pending { OnOk result (self.new ≡ slice_set self.old (session - 1) (with_rows table.now rows.items (slice_index_or self.old (session - 1) []))) }
         ensures kept { OnErr result (self.new ≡ self.old) }
     {
@@ -91,6 +93,7 @@ impl Txns {
     ) -> Result<(), AllocError>
         requires first { 1 ≤ session }
         requires last { session ≤ 8 }
+        requires rows { All IsRow rows.items }
         ensures marked { OnOk result (self.new ≡ slice_set self.old (session - 1) (change_of table.now (marked rows.items deletes.items) (slice_index_or self.old (session - 1) []))) }
         ensures kept { OnErr result (self.new ≡ self.old) }
     {

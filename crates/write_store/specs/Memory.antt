@@ -1,8 +1,9 @@
 -- Rows in memory, and which of them are deleted.
 use Rattle.std.specs.Prelude.{ℕ, ◌≡◌, ◌==◌, ◌+◌, if◌then◌else◌, Bool, List, [], ◌∷◌, map, IsSomeAnd, Option, Some, None}
-use Rattle.std.specs.List.{slice_get, list_any}
+use Rattle.std.specs.List.{All, slice_get, list_any}
 use Rattle.col_value.specs.declared.row.Asked.{Asked}
 use Rattle.col_value.specs.declared.row.Stamped.{Stamped}
+use Rattle.col_value.specs.Order.{IsRow}
 use Rattle.write_store.specs.declared.held.Held.{Held}
 
 -- a row in memory is a row with its epochs
@@ -11,6 +12,10 @@ stamp h = record { row = h.inserted.row; ins = h.inserted.ins; del = h.del }
 
 abbrev pub held_of : Option ℕ → Asked → Held
 held_of del a = record { inserted = record { ins = a.ins; row = a.row }; del = del }
+
+-- rows of values of a table
+abbrev pub AreHeldRows : List Held → Type 0
+AreHeldRows rows = All (λ h. IsRow h.inserted.row) rows
 
 -- the rows in the order in which they came, and for how many more there is room
 pub record Memory : Type 0 where

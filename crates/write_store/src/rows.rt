@@ -2,7 +2,7 @@
 
 ghost use Rattle.std.specs.Prelude.{◌≡◌, ◌≤◌, ◌<◌, [], ◌∷◌, map, length, filter, nat_le, nat_lt, IfOk, vec_len, vec_capacity};
 ghost use Rattle.std.specs.List.{All};
-ghost use Rattle.write_store.specs.Memory.{stamp, deleted_at};
+ghost use Rattle.write_store.specs.Memory.{stamp, AreHeldRows, deleted_at};
 
 use crate::held::Held;
 use col_value::Stamped;
@@ -13,6 +13,7 @@ pub fn delete(rows: &mut [Held], place: usize, epoch: u64)
     requires { place < length rows.old }
     ensures rows { map stamp rows.new ≡ deleted_at epoch (place ∷ []) (map stamp rows.old) }
     ensures long { length rows.new ≡ length rows.old }
+    ensures valid { AreHeldRows rows.old → AreHeldRows rows.new }
 {
     rows[place].del = Some(epoch);
 }
@@ -22,6 +23,7 @@ pub fn delete_each(rows: &mut [Held], places: &[usize], epoch: u64)
     requires { All (λ p. p < length rows.old) places.now }
     ensures rows { map stamp rows.new ≡ deleted_at epoch places.now (map stamp rows.old) }
     ensures long { length rows.new ≡ length rows.old }
+    ensures valid { AreHeldRows rows.old → AreHeldRows rows.new }
 {
     for place in places {
         delete(rows, *place, epoch);
@@ -33,6 +35,7 @@ pub fn keep_after(rows: &mut Vec<Held>, epoch: u64)
     ensures rows { map stamp rows.new.items ≡ filter (λ s. nat_lt epoch s.ins) (map stamp rows.old.items) }
     ensures fewer { vec_len rows.new ≤ vec_len rows.old }
     ensures room { vec_capacity rows.new ≡ vec_capacity rows.old }
+    ensures valid { AreHeldRows rows.old.items → AreHeldRows rows.new.items }
 {
     rows.retain(|row| row.inserted.ins > epoch);
 }

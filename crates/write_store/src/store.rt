@@ -2,8 +2,9 @@
 
 ghost use Rattle.std.specs.Prelude.{◌≡◌, ◌≤◌, ◌<◌, ◌-◌, ◌++◌, [], ◌∷◌, map, length, filter, nat_le, nat_lt, IfOk, OnOk};
 ghost use Rattle.std.specs.List.{All};
+ghost use Rattle.col_value.specs.Order.{IsRow};
 ghost use Rattle.row_history.specs.History.{inserted_at};
-ghost use Rattle.write_store.specs.Memory.{stamp, IsLive, deleted_at};
+ghost use Rattle.write_store.specs.Memory.{stamp, AreHeldRows, IsLive, deleted_at};
 
 use crate::held::{Held, Inserted};
 use crate::rows::{copies_upto, delete, delete_each, keep_after};
@@ -19,11 +20,13 @@ pub struct WriteStore {
 
 impl Model for WriteStore {
     ghost use Rattle.std.specs.Prelude.{◌-◌, vec_len, vec_capacity};
-    ghost use Rattle.write_store.specs.Memory.{Memory, seen};
+    ghost use Rattle.write_store.specs.Memory.{AreHeldRows, Memory, seen};
 
     ghost Value = { Memory };
 
     ghost view = { λ w. seen w.rows.items (vec_capacity w.rows - vec_len w.rows) };
+
+    ghost invariant = { λ w. AreHeldRows w.rows.items };
 }
 
 impl WriteStore {
@@ -38,7 +41,8 @@ impl WriteStore {
 
     /// The rows. It takes no memory.
     pub fn rows(&self) -> &[Held]
-        ensures { map stamp result.now ≡ self.now.rows }
+        ensures rows { map stamp result.now ≡ self.now.rows }
+        ensures valid { AreHeldRows result.now }
     {
         self.rows.as_slice()
     }
@@ -54,7 +58,8 @@ impl WriteStore {
 
     /// A row that an epoch inserted joins the others, for which there is room. It takes no memory.
     pub fn append(&mut self, row: Row, ins: u64)
-        requires { 0 < self.old.spare }
+        requires room { 0 < self.old.spare }
+        requires row { IsRow row }
         ensures rows { self.new.rows ≡ self.old.rows ++ inserted_at ins row ∷ [] }
         ensures spare { self.new.spare ≡ self.old.spare - 1 }
     {
@@ -66,7 +71,8 @@ impl WriteStore {
 
     /// Rows that an epoch inserted join the others, for which there is room. It takes no memory.
     pub fn append_all(&mut self, rows: Vec<Row>, ins: u64)
-        requires { length rows.items ≤ self.old.spare }
+        requires room { length rows.items ≤ self.old.spare }
+        requires rows { All IsRow rows.items }
         ensures rows { self.new.rows ≡ self.old.rows ++ map (inserted_at ins) rows.items }
         ensures spare { self.new.spare ≡ self.old.spare - length rows.items }
     {

@@ -10,4 +10,4 @@ returns-in-Err-clause-blamed g c = subst (λ (p : Loaded). BlamesRows p.stored.e
 pub returns-in-Ok-add_copies-clause-found : goal.returns-in-Ok-add_copies-clause-found
 returns-in-Ok-add_copies-clause-found g c = λ m told vectors.
     stored_seen m c.self.inside.entry c.as_slice.result.now c.self.inside.kept.items c.self.inside.unsaved c.args.self.now c.in-Ok.rows.items c.rows.result.now c.add_copies.new.out.items
-    c.as_slice.ensures.value c.self.view_is vectors (c.in-Ok.ensures.found m told) c.rows.ensures c.in-Ok-add_copies.ensures
+    c.as_slice.ensures.value c.self.view_is vectors (c.in-Ok.ensures.found m told) c.rows.ensures.rows c.in-Ok-add_copies.ensures
