@@ -1,0 +1,10 @@
+pub mod Columns
+pub mod Created
+pub mod Dropped
+pub mod Loops
+pub mod Committed
+pub mod Changes
+pub mod Readied
+pub mod Standing
+pub mod Moved
+pub mod Makes

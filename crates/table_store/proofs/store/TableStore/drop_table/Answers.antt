@@ -1,0 +1,25 @@
+use Rattle.col_disk.specs.declared.disk.DiskFault.TheVariants as disk_fault
+use Rattle.store_commit.proofs.Settled.{made_nothing}
+use Rattle.table_store.specs.Creating.{dropped}
+use Rattle.table_store.proofs.Makes.{settled_not, settled_done, drop_makes, drop_seen, drop_held}
+use Rattle.table_store.proofs.store.TableStore.drop_table.Goals as goal
+
+pub returns-in-Err-clause-made : goal.returns-in-Err-clause-made
+returns-in-Err-clause-made g c = λ d name stands there. made_nothing g.D.Disk c.args.self.now c.args.self.now disk_fault.Memory d (dropped name d) stands
+
+pub returns-in-Err-settle-clause-made : goal.returns-in-Err-settle-clause-made
+returns-in-Err-settle-clause-made g c = λ d name stands there.
+    settled_not g.D.Disk c.args.self.now _ _ c.in-Err-settle.fault d (dropped name d)
+    (drop_makes g.D.Disk c.self.inside.root c.self.inside.last c.self.inside.tables.items c.args.self.now name c.args.table c.in-Ok.catalogue _ d c.in-Err-settle.ensures.made
+    c.self.view_is c.in-Ok.ensures there stands)
+
+pub invariant_of-self : goal.invariant_of-self
+invariant_of-self g c =
+    drop_held c.self.inside.root c.self.inside.last c.self.inside.tables.items c.remove.new.self.items c.args.table c.in-Ok.catalogue c.remove.ensures.items c.in-Ok.ensures c.self.invariant c.in-Ok-settle.ensures.valid
+
+pub returns-clause-made : goal.returns-clause-made
+returns-clause-made g c = λ d name stands there.
+    settled_done g.D.Disk c.args.self.now _ _ d (dropped name d)
+    (drop_seen c.self.inside.root c.self.inside.last c.self.inside.tables.items c.remove.new.self.items c.args.table c.in-Ok.catalogue c.remove.ensures.items c.in-Ok.ensures)
+    (drop_makes g.D.Disk c.self.inside.root c.self.inside.last c.self.inside.tables.items c.args.self.now name c.args.table c.in-Ok.catalogue _ d c.in-Ok-settle.ensures.made
+    c.self.view_is c.in-Ok.ensures there stands)

@@ -1,0 +1,31 @@
+use Rattle.std.proofs.Common.{◌≡◌, List, map, get_or, ◌∙◌, ap}
+use Rattle.col_disk.proofs.Moving.{moved_join, moved_read}
+use Rattle.proj_store.specs.Loaded.{Loaded}
+use Rattle.table_store.specs.Held.{projections_of}
+use Rattle.table_store.proofs.Moved.{entry_there, fresh_table, fresh_place, rewritten}
+use Rattle.table_store.proofs.store.prepare_move.Goals as goal
+
+pub returns-in-Err-load-clause-moved : goal.returns-in-Err-load-clause-moved
+returns-in-Err-load-clause-moved g c = moved_join g.D.Disk c.moveout.ensures.moved (moved_read g.D.Disk c.load.ensures.looks)
+
+pub with_entry_at-requires-clause-there : goal.with_entry_at-requires-clause-there
+with_entry_at-requires-clause-there g c = entry_there c.args.root.now (map projections_of c.args.tables.now) c.args.table c.args.place c.requires.held.entries c.requires.fresh
+
+pub returns-in-Ok-with_entry_at-clause-moved_out : goal.returns-in-Ok-with_entry_at-clause-moved_out
+returns-in-Ok-with_entry_at-clause-moved_out g c =
+    let tables = c.args.tables.now in
+    let i = c.args.table in
+    let j = c.args.place in
+    let ps = c.index-tables-table.result in
+    let p = c.index-as_slice-place.result in
+    let p_is : p ≡ get_or ps j p = c.index-as_slice-place.is ∙ ap (λ (qs : List Loaded). get_or qs j p) c.as_slice.ensures in
+    rewritten c.args.last c.args.root.now c.in-Ok-with_entry_at.catalogue tables i j c.in-Ok.out.next ps p c.in-Ok-load.store.stored c.in-Ok.out.entry c.in-Ok-entry_copy.copy
+    (g.D.Disk.holds c.args.disk.now) (g.D.Disk.holds c.moveout.new.disk) (g.D.Disk.holds c.load.new.disk)
+    (fresh_table tables i j c.requires.fresh) c.index-tables-table.is (fresh_place tables i j ps c.index-tables-table.is c.requires.fresh) p_is
+    c.in-Ok.ensures.entry c.in-Ok.ensures.held c.in-Ok-entry_copy.ensures c.in-Ok-load.ensures.entry c.in-Ok-load.ensures.loaded c.load.ensures.looks.contents c.in-Ok-with_entry_at.ensures
+
+pub returns-in-Ok-with_entry_at-clause-moved : goal.returns-in-Ok-with_entry_at-clause-moved
+returns-in-Ok-with_entry_at-clause-moved g c = moved_join g.D.Disk c.moveout.ensures.moved (moved_read g.D.Disk c.load.ensures.looks)
+
+pub returns-in-Err-with_entry_at-clause-moved : goal.returns-in-Err-with_entry_at-clause-moved
+returns-in-Err-with_entry_at-clause-moved g c = moved_join g.D.Disk c.moveout.ensures.moved (moved_read g.D.Disk c.load.ensures.looks)
