@@ -1,4 +1,4 @@
-ghost use Rattle.std.specs.Prelude.{◌≡◌, IfOk, IfErr};
+ghost use Rattle.std.specs.Prelude.{IfOk, IfErr};
 ghost use Rattle.name_binder.specs.Refusing.{RefusesBy};
 ghost use Rattle.sql_binding.specs.Changes.{delete_refusal};
 ghost use Rattle.change_binder.specs.Answers.{IsBoundDelete, columns_in};

@@ -1,4 +1,4 @@
-ghost use Rattle.std.specs.Prelude.{◌≡◌, length, option_map, find, zip};
+ghost use Rattle.std.specs.Prelude.{◌≡◌, length, option_map, zip};
 ghost use Rattle.std.specs.List.{list_all};
 ghost use Rattle.change_binder.specs.Flaws.{has_flaw};
 ghost use Rattle.sql_binding.specs.Inserts.{pairs, wrong_count, is_of_column, first_such};

@@ -1,0 +1,4 @@
+pub mod Equal
+pub mod Leaves
+pub mod Walked
+pub mod Scopes

@@ -1,0 +1,156 @@
+-- What is collected, and the groups as their expressions see them.
+use Rattle.std.proofs.Common.{◌≡◌, ℕ, zero, suc, ◌+◌, ◌<◌, ◌≤◌, ◌++◌, Bool, true, false, cond, if◌then◌else◌, List, [], ◌∷◌, length, get_or, drop, map, filter, refl, sym, ap, ap₂, ◌∙◌, arith, append_assoc, subst, add-one, drop-cons}
+use Rattle.std.proofs.lemmas.List.{drop_all, length-append, map-append}
+use Rattle.std.proofs.lemmas.List.Elements.{All-get_or, All-contains_itself, filter-append}
+use Rattle.std.specs.List.{All, Contains}
+use Rattle.col_value.specs.Order.{IsRow}
+use Rattle.col_value.specs.declared.value.Value.{Value}
+use Rattle.col_value.specs.declared.wide.Wide.{Wide}
+use Rattle.exec_group.specs.Groups.{AreGroups, HasGreatSum, HoldsGroups}
+use Rattle.exec_group.specs.declared.groups.Grouped.{Grouped}
+use Rattle.plain_query.proofs.AtMost.{group_fits, group_is_row, members_are_rows}
+use Rattle.plain_query.specs.Scopes.{IsGroupOf, is_shown}
+use Rattle.sql_bound.specs.declared.query.BoundQuery.{BoundQuery}
+use Rattle.sql_bound.specs.Bounds.{column_bound}
+use Rattle.sql_bound.specs.Outputs.{aggregate_over, group_keys, group_scope, group_scopes, keys_of, kept, members, output, same_keys}
+use Rattle.sql_bound.specs.Values.{Scope, of_row}
+use Rattle.query_run.specs.Outputs.{HoldsOutput, items_in, scope_of, scopes_of, shown}
+use Rattle.query_run.specs.declared.collected.Collected.{Collected}
+
+pub next_scope : (keys : List (List Value)) (aggs : List (List Wide)) (i : ℕ) (k : List Value) (a : List Wide) → i < length keys → k ≡ get_or keys i k → i < length aggs → a ≡ get_or aggs i a
+    → scopes_of (drop i keys) (drop i aggs) ≡ scope_of k a ∷ scopes_of (drop (i + 1) keys) (drop (i + 1) aggs)
+next_scope keys aggs i k a h is g are =
+    ap₂ scopes_of (drop-cons keys i k h ∙ ap (λ (x : List Value). x ∷ drop (suc i) keys) (sym is)) (drop-cons aggs i a g ∙ ap (λ (x : List Wide). x ∷ drop (suc i) aggs) (sym are))
+    ∙ ap (λ (j : ℕ). scope_of k a ∷ scopes_of (drop j keys) (drop j aggs)) (sym (add-one i))
+
+pub scopes_end : (keys : List (List Value)) (aggs : List (List Wide)) (i : ℕ) → length aggs ≤ i → scopes_of (drop i keys) (drop i aggs) ≡ []
+scopes_end keys aggs i past = ap (scopes_of (drop i keys)) (drop_all i aggs past) ∙ none (drop i keys)
+  where
+    none : (ks : List (List Value)) → scopes_of ks [] ≡ []
+    none [] = refl
+    none (k ∷ ks) = refl
+
+pub keys_end : (keys : List (List Value)) (aggs : List (List Wide)) (i : ℕ) → length keys ≤ i → scopes_of (drop i keys) (drop i aggs) ≡ []
+keys_end keys aggs i past = ap (λ (ks : List (List Value)). scopes_of ks (drop i aggs)) (drop_all i keys past)
+
+shown_parts : (q : BoundQuery) (xs ys : List Scope) → shown q (xs ++ ys) ≡ shown q xs ++ shown q ys
+shown_parts q xs ys = ap (map (items_in q)) (filter-append (is_shown q) xs ys) ∙ map-append (items_in q) (filter (is_shown q) xs) (filter (is_shown q) ys)
+
+-- a group more
+pub group_more : (q : BoundQuery) (keys : List (List Value)) (aggs : List (List Wide)) (i : ℕ) (k : List Value) (a : List Wide) (out next all : List (List Wide)) → i < length keys → k ≡ get_or keys i k → i < length aggs → a ≡ get_or aggs i a
+    → next ≡ out ++ shown q (scope_of k a ∷ []) → out ++ shown q (scopes_of (drop i keys) (drop i aggs)) ≡ all → next ++ shown q (scopes_of (drop (i + 1) keys) (drop (i + 1) aggs)) ≡ all
+group_more q keys aggs i k a out next all h is g are more before =
+    let rest = scopes_of (drop (i + 1) keys) (drop (i + 1) aggs) in
+    ap (λ (l : List (List Wide)). l ++ shown q rest) more ∙ append_assoc out (shown q (scope_of k a ∷ [])) (shown q rest)
+    ∙ ap (λ (l : List (List Wide)). out ++ l) (sym (shown_parts q (scope_of k a ∷ []) rest))
+    ∙ ap (λ (ss : List Scope). out ++ shown q ss) (sym (next_scope keys aggs i k a h is g are)) ∙ before
+
+pub group_here : (q : BoundQuery) (keys : List (List Value)) (aggs : List (List Wide)) (i : ℕ) (k : List Value) (a : List Wide) → i < length keys → k ≡ get_or keys i k → i < length aggs → a ≡ get_or aggs i a
+    → All (IsGroupOf q) (scopes_of (drop i keys) (drop i aggs)) → IsGroupOf q (scope_of k a)
+group_here q keys aggs i k a h is g are fit =
+    let here : All (IsGroupOf q) (scope_of k a ∷ scopes_of (drop (i + 1) keys) (drop (i + 1) aggs)) = subst (All (IsGroupOf q)) (next_scope keys aggs i k a h is g are) fit in
+    here 0 (scope_of k a) (omega arith)
+
+pub groups_behind : (q : BoundQuery) (keys : List (List Value)) (aggs : List (List Wide)) (i : ℕ) (k : List Value) (a : List Wide) → i < length keys → k ≡ get_or keys i k → i < length aggs → a ≡ get_or aggs i a
+    → All (IsGroupOf q) (scopes_of (drop i keys) (drop i aggs)) → All (IsGroupOf q) (scopes_of (drop (i + 1) keys) (drop (i + 1) aggs))
+groups_behind q keys aggs i k a h is g are fit =
+    let here : All (IsGroupOf q) (scope_of k a ∷ scopes_of (drop (i + 1) keys) (drop (i + 1) aggs)) = subst (All (IsGroupOf q)) (next_scope keys aggs i k a h is g are) fit in
+    λ j d l. here (suc j) d (omega arith)
+
+pub none_collected : (q : BoundQuery) (c : Collected) → c.taken ≡ 0 → c.rows.items ≡ [] → HoldsGroups q [] c.groups → HoldsOutput q [] c
+none_collected q c taken rows groups = record {
+  taken = taken;
+  few = omega arith;
+  rows = λ e. rows;
+  groups = λ e. groups;
+}
+
+pub held_few : (q : BoundQuery) (rows : List (List Value)) (c : Collected) → HoldsOutput q rows c → length rows ≤ column_bound
+held_few q rows c held = subst (λ (n : ℕ). n ≤ column_bound) held.taken held.few
+
+pub row_collected : (q : BoundQuery) (old new : Collected) (tuple : List Value) (row : List Wide) (rows : List (List Value)) → HoldsOutput q rows old → q.grouped ≡ false → old.taken < column_bound → new.taken ≡ old.taken + 1
+    → new.rows.items ≡ old.rows.items ++ row ∷ [] → row ≡ items_in q (of_row tuple) → HoldsOutput q (rows ++ tuple ∷ []) new
+row_collected q old new tuple row rows held plain few more pushed is =
+    let all = length-append rows (tuple ∷ []) in record {
+      taken = more ∙ omega (arith, all, held.taken);
+      few = omega arith;
+      rows = λ e.
+          pushed ∙ ap₂ (λ (l : List (List Wide)) (r : List Wide). l ++ r ∷ []) (held.rows plain) is
+          ∙ sym (ap (map (items_in q)) (map-append of_row rows (tuple ∷ [])) ∙ map-append (items_in q) (map of_row rows) (of_row tuple ∷ []));
+      groups = λ e. absurd (no (sym e ∙ plain));
+    }
+  where
+    no : true ≡ false → ⊥
+    no h = cc
+
+pub group_collected : (q : BoundQuery) (old new : Collected) (tuple : List Value) (rows : List (List Value)) → HoldsOutput q rows old → q.grouped ≡ true → old.taken < column_bound → new.taken ≡ old.taken + 1
+    → HoldsGroups q (rows ++ tuple ∷ []) new.groups → HoldsOutput q (rows ++ tuple ∷ []) new
+group_collected q old new tuple rows held grouped few more groups =
+    let all = length-append rows (tuple ∷ []) in record {
+      taken = more ∙ omega (arith, all, held.taken);
+      few = omega arith;
+      rows = λ e. absurd (no (sym grouped ∙ e));
+      groups = λ e. groups;
+    }
+  where
+    no : true ≡ false → ⊥
+    no h = cc
+
+made_scopes : {X : Type 0} (keys : X → List Value) (aggs : X → List Wide) (xs : List X) → scopes_of (map keys xs) (map aggs xs) ≡ map (λ x. scope_of (keys x) (aggs x)) xs
+made_scopes keys aggs [] = refl
+made_scopes keys aggs (x ∷ xs) = ap (λ (l : List Scope). scope_of (keys x) (aggs x) ∷ l) (made_scopes keys aggs xs)
+
+same_list : {X : Type 0} (xs : List X) → map (λ x. x) xs ≡ xs
+same_list [] = refl
+same_list {X} (x ∷ xs) = ap (λ (l : List X). x ∷ l) (same_list xs)
+
+module _ (q : BoundQuery) (rows : List (List Value)) (g : Grouped) (are : AreGroups q rows g) where
+  abbrev aggs_of : List Value → List Wide
+  aggs_of group = map (aggregate_over (members q.keys group rows)) q.aggs
+
+  pub scopes_are : scopes_of g.keys g.aggs ≡ map (group_scope q rows) (group_keys q.keys rows)
+  scopes_are = ap₂ scopes_of (are.keys ∙ sym (same_list (group_keys q.keys rows))) are.aggs ∙ made_scopes (λ k. k) aggs_of (group_keys q.keys rows)
+
+  all_mapped : {X Y : Type 0} (f : X → Y) (P : Y → Type 0) (xs : List X) → All (λ x. P (f x)) xs → All P (map f xs)
+  all_mapped f P [] p = λ k d h. absurd (omega arith)
+  all_mapped f P (x ∷ xs) p = cons (p 0 x (omega arith)) (all_mapped f P xs (λ k d h. p (suc k) d (omega arith)))
+    where
+      cons : P (f x) → All P (map f xs) → All P (f x ∷ map f xs)
+      cons a b zero d h = a
+      cons a b (suc k) d h = b k d (omega arith)
+
+  pub scopes_fit : All IsRow rows → length rows ≤ column_bound → (HasGreatSum q rows → ⊥) → All (IsGroupOf q) (scopes_of g.keys g.aggs)
+  scopes_fit values few fits =
+      subst (All (IsGroupOf q)) (sym scopes_are)
+      (all_mapped (group_scope q rows) (IsGroupOf q) (group_keys q.keys rows) (λ k d h.
+      let group = get_or (group_keys q.keys rows) k d in
+      let there = All-get_or (Contains (group_keys q.keys rows)) (group_keys q.keys rows) k d h (All-contains_itself (group_keys q.keys rows)) in
+      group_fits q group (members q.keys group rows) (aggs_of group)
+      (group_is_row q.keys rows (group_keys q.keys rows) k group group refl values h (default (group_keys q.keys rows) k d h) refl)
+      (members_are_rows q.keys group rows (members q.keys group rows) refl values)
+      (shorter q.keys group rows few) (λ great. fits (group, great.0, there, great.1, great.2)) refl))
+    where
+      default : (xs : List (List Value)) (i : ℕ) (d : List Value) → i < length xs → get_or xs i d ≡ get_or xs i (get_or xs i d)
+      default [] i d h = absurd (omega arith)
+      default (x ∷ xs) zero d h = refl
+      default (x ∷ xs) (suc i) d h = default xs i d (omega arith)
+
+      shorter : (keys : List ℕ) (group : List Value) (rs : List (List Value)) → length rs ≤ column_bound → length (members keys group rs) ≤ column_bound
+      shorter keys group rs l = omega (arith, at_most (λ r. same_keys group (keys_of keys r)) rs)
+        where
+          at_most : (p : List Value → Bool) (xs : List (List Value)) → length (filter p xs) ≤ length xs
+          at_most p [] = omega arith
+          at_most p (x ∷ xs) =
+              elim (p x) as (λ b. length (cond b (x ∷ filter p xs) (filter p xs)) ≤ length (x ∷ xs)) [
+                | true ↦ omega (arith, at_most p xs)
+                | false ↦ omega (arith, at_most p xs)
+              ]
+
+pub groups_put_out : (q : BoundQuery) (inputs : List (List (List Value))) (g : Grouped) → q.grouped ≡ true → AreGroups q (kept q inputs) g → shown q (scopes_of g.keys g.aggs) ≡ output q inputs
+groups_put_out q inputs g grouped are =
+    ap (shown q) (scopes_are q (kept q inputs) g are)
+    ∙ ap (λ (t : Bool). map (items_in q) (if t then group_scopes q (kept q inputs) else map of_row (kept q inputs))) (sym grouped)
+
+pub rows_put_out : (q : BoundQuery) (inputs : List (List (List Value))) (c : Collected) → q.grouped ≡ false → HoldsOutput q (kept q inputs) c → c.rows.items ≡ output q inputs
+rows_put_out q inputs c plain held =
+    held.rows plain ∙ ap (λ (t : Bool). map (items_in q) (if t then group_scopes q (kept q inputs) else map of_row (kept q inputs))) (sym plain)

@@ -1,0 +1,35 @@
+-- What is collected of the tuples that are kept.
+use Rattle.std.specs.Prelude.{◌≡◌, ◌≤◌, true, false, List, [], ◌∷◌, filter, length, map}
+use Rattle.col_value.specs.declared.value.Value.{Value}
+use Rattle.col_value.specs.declared.wide.Wide.{Wide}
+use Rattle.exec_group.specs.Groups.{HoldsGroups}
+use Rattle.plain_query.specs.Scopes.{is_shown}
+use Rattle.sql_bound.specs.declared.query.BoundQuery.{BoundQuery}
+use Rattle.sql_bound.specs.Bounds.{column_bound}
+use Rattle.sql_bound.specs.Values.{Scope, of_row, value_of}
+use Rattle.query_run.specs.declared.collected.Collected.{Collected}
+
+-- the items' values
+abbrev pub items_in : BoundQuery → Scope → List Wide
+items_in q s = map (value_of s) q.items
+
+-- the output rows of some tuples, or else their groups, and how many there are
+pub record HoldsOutput (q : BoundQuery) (tuples : List (List Value)) (c : Collected) : Type 0 where
+  pub taken : c.taken ≡ length tuples
+  pub few : c.taken ≤ column_bound
+  pub rows : q.grouped ≡ false → c.rows.items ≡ map (items_in q) (map of_row tuples)
+  pub groups : q.grouped ≡ true → HoldsGroups q tuples c.groups
+
+-- a group as its expressions see it
+abbrev pub scope_of : List Value → List Wide → Scope
+scope_of keys aggs = record { row = []; keys = keys; aggs = aggs }
+
+-- groups as their expressions see them, of their keys and their aggregates
+abbrev pub scopes_of : List (List Value) → List (List Wide) → List Scope
+scopes_of [] aggs = []
+scopes_of (k ∷ keys) [] = []
+scopes_of (k ∷ keys) (a ∷ aggs) = scope_of k a ∷ scopes_of keys aggs
+
+-- the items of the groups that HAVING keeps
+abbrev pub shown : BoundQuery → List Scope → List (List Wide)
+shown q scopes = map (items_in q) (filter (is_shown q) scopes)

@@ -1,0 +1,111 @@
+//! The output rows of a query.
+
+ghost use Rattle.std.specs.Prelude.{◌≡◌, ◌++◌, ◌∷◌, true, [], map, IfOk, OnOk, IsErrOf};
+ghost use Rattle.std.specs.List.{All};
+ghost use Rattle.std.specs.Option.{option_map_or};
+ghost use Rattle.col_value.specs.Order.{IsRow};
+ghost use Rattle.sql_bound.specs.Bounds.{bound_of_aggregate, is_narrow};
+ghost use Rattle.sql_bound.specs.Outputs.{output, IsSumTooGreat};
+ghost use Rattle.plain_query.specs.Bounded.{IsBoundedQuery};
+ghost use Rattle.plain_query.specs.Scopes.{is_shown, IsGroupOf};
+ghost use Rattle.plain_query.specs.declared.fault.QueryFault.{QueryFault};
+ghost use Rattle.query_run.specs.Outputs.{items_in, scope_of, scopes_of, shown};
+
+use crate::collected::Collected;
+use crate::walk::collected;
+use col_value::{List, Row, Value, Wide, WideRow};
+use exec_group::{GroupFault, Grouped};
+use expr_value::{Sight, is_true, items_at};
+use plain_query::QueryFault;
+use sql_bound::BoundQuery;
+use std::alloc::{AllocError, Global};
+
+/// The output rows, and a fault where a SUM passes what a result holds in some group.
+pub fn output(
+    alloc: Global,
+    query: &BoundQuery,
+    inputs: &[List<Row>],
+) -> Result<Vec<WideRow>, QueryFault>
+    requires bounded { IsBoundedQuery query.now }
+    requires rows { All (All IsRow) inputs.now }
+    ensures rows { IfOk result (λ v. v.items ≡ output query.now inputs.now) }
+    ensures in_range { OnOk result (IsSumTooGreat query.now inputs.now → ⊥) }
+    ensures great { IsErrOf result QueryFault.SumOutOfRange → IsSumTooGreat query.now inputs.now }
+{
+    let Collected { rows, groups, .. } = collected(alloc, query, inputs)?;
+    if !query.grouped {
+        return Ok(rows);
+    }
+    match groups.finish(alloc) {
+        Ok(grouped) => Ok(of_groups(alloc, query, &grouped)?),
+        Err(GroupFault::SumOutOfRange) => Err(QueryFault::SumOutOfRange),
+        Err(GroupFault::Memory) => Err(QueryFault::Memory),
+    }
+}
+
+/// The items' values in each group that HAVING keeps.
+fn of_groups(
+    alloc: Global,
+    query: &BoundQuery,
+    groups: &Grouped,
+) -> Result<Vec<WideRow>, AllocError>
+    requires narrow { All (λ e. is_narrow (map bound_of_aggregate query.now.aggs) e ≡ true) query.now.items }
+    requires having { option_map_or (is_narrow (map bound_of_aggregate query.now.aggs)) query.now.having true ≡ true }
+    requires groups { All (IsGroupOf query.now) (scopes_of groups.now.keys groups.now.aggs) }
+    ensures { IfOk result (λ v. v.items ≡ shown query.now (scopes_of groups.now.keys groups.now.aggs)) }
+{
+    let mut out = Vec::new(alloc);
+    for (i, keys) in groups.keys.as_slice().iter().enumerate() {
+        let Some(aggs) = groups.aggs.as_slice().get(i) else {
+            return Ok(out);
+        };
+        push_shown(alloc, query, keys.as_slice(), aggs.as_slice(), &mut out)?;
+    }
+    Ok(out)
+}
+
+/// Appends the items' values in the group with these keys and aggregates, if HAVING keeps it.
+fn push_shown(
+    alloc: Global,
+    query: &BoundQuery,
+    keys: &[Value],
+    aggs: &[Wide],
+    out: &mut Vec<WideRow>,
+) -> Result<(), AllocError>
+    requires narrow { All (λ e. is_narrow (map bound_of_aggregate query.now.aggs) e ≡ true) query.now.items }
+    requires having { option_map_or (is_narrow (map bound_of_aggregate query.now.aggs)) query.now.having true ≡ true }
+    requires group { IsGroupOf query.now (scope_of keys.now aggs.now) }
+    ensures { OnOk result (out.new.items ≡ out.old.items ++ shown query.now (scope_of keys.now aggs.now ∷ [])) }
+{
+    if !is_shown(query, keys, aggs) {
+        return Ok(());
+    }
+    out.push(items_in(alloc, query, keys, aggs)?)?;
+    Ok(())
+}
+
+/// Whether HAVING is true of the group with these keys and aggregates.
+fn is_shown(query: &BoundQuery, keys: &[Value], aggs: &[Wide]) -> bool
+    requires having { option_map_or (is_narrow (map bound_of_aggregate query.now.aggs)) query.now.having true ≡ true }
+    requires group { IsGroupOf query.now (scope_of keys.now aggs.now) }
+    ensures { result ≡ is_shown query.now (scope_of keys.now aggs.now) }
+{
+    match &query.having {
+        Some(having) => is_true(having, &Sight::of_group(keys, aggs)),
+        None => true,
+    }
+}
+
+/// The items' values in the group with these keys and aggregates.
+fn items_in(
+    alloc: Global,
+    query: &BoundQuery,
+    keys: &[Value],
+    aggs: &[Wide],
+) -> Result<WideRow, AllocError>
+    requires narrow { All (λ e. is_narrow (map bound_of_aggregate query.now.aggs) e ≡ true) query.now.items }
+    requires group { IsGroupOf query.now (scope_of keys.now aggs.now) }
+    ensures { IfOk result (λ r. r ≡ items_in query.now (scope_of keys.now aggs.now)) }
+{
+    items_at(alloc, query.items.as_slice(), &Sight::of_group(keys, aggs))
+}

@@ -1,0 +1,35 @@
+//! The printed list of a query.
+
+ghost use Rattle.std.specs.Prelude.{IfOk, OnOk, IsErrOf};
+ghost use Rattle.std.specs.List.{All};
+ghost use Rattle.col_value.specs.Order.{IsRow};
+ghost use Rattle.sql_bound.specs.Outputs.{output, IsSumTooGreat};
+ghost use Rattle.sql_bound.specs.Printed.{IsPrinted};
+ghost use Rattle.plain_query.specs.Bounded.{IsBoundedQuery};
+ghost use Rattle.plain_query.specs.declared.fault.QueryFault.{QueryFault};
+
+use crate::output::output;
+use col_value::{List, Row, WideRow};
+use plain_query::QueryFault;
+use query_order::order_rows;
+use sql_bound::BoundQuery;
+use std::alloc::Global;
+
+/// The rows that a query prints over these rows of its FROM items, in their order. `SumOutOfRange` comes exactly where in some
+/// group, also in one that HAVING drops, the magnitudes of the values of one SUM add to more than 2^127 - 1.
+pub fn printed(
+    alloc: Global,
+    query: &BoundQuery,
+    inputs: &[List<Row>],
+) -> Result<Vec<WideRow>, QueryFault>
+    requires bounded { IsBoundedQuery query.now }
+    requires rows { All (All IsRow) inputs.now }
+    ensures printed { IfOk result (λ v. IsPrinted query.now.order query.now.limit (output query.now inputs.now) v.items) }
+    ensures in_range { OnOk result (IsSumTooGreat query.now inputs.now → ⊥) }
+    ensures great { IsErrOf result QueryFault.SumOutOfRange → IsSumTooGreat query.now inputs.now }
+{
+    match output(alloc, query, inputs) {
+        Ok(rows) => Ok(order_rows(rows, query.order.as_slice(), query.limit)?),
+        Err(fault) => Err(fault),
+    }
+}

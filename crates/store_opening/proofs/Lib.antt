@@ -1,0 +1,4 @@
+mod Readings
+mod Blames
+mod Quieted
+mod Recovered
