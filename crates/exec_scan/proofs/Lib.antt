@@ -1,0 +1,10 @@
+pub mod Batched
+pub mod Blocks
+pub mod Cells
+pub mod Deleted
+pub mod Handed
+pub mod Indexed
+pub mod Laid
+pub mod Long
+pub mod Shows
+pub mod Stepping

@@ -1,0 +1,4 @@
+pub mod Batches
+pub mod Opened
+pub mod Reading
+pub mod Scanning

@@ -1,0 +1,18 @@
+//! A projection scanned batch by batch.
+//!
+//! A `Scan` hands over the rows that are visible at an epoch, as rows of the table's columns with NULL in those that aren't needed:
+//! `next` gives those of the next block of a container, or of the next rows in memory (`Gives` of `specs/Scanning.antt`), until no row is
+//! left. Of a container only the columns that are needed are read, block by block; its epochs only where some of them are later than
+//! the epoch that is asked for. A `Batch` holds up to 1,024 rows; none of them is a vector of its own.
+#![tactic(auto)]
+
+mod batch;
+mod columns;
+mod deletes;
+mod opened;
+mod reading;
+mod scan;
+mod shown;
+
+pub use batch::Batch;
+pub use scan::Scan;

@@ -1,0 +1,258 @@
+//! The scan.
+
+ghost use Rattle.std.specs.Prelude.{◌≡◌, ◌<◌, ◌++◌, ◌∷◌, [], if◌then◌else◌, List, length, map, IfOk, IfErr, OnOk, Some, OnSome, IsSomeAnd};
+ghost use Rattle.std.specs.List.{All, slice_get};
+ghost use Rattle.std.specs.Option.{IfSome};
+ghost use Rattle.common_laws.specs.Causes.{HasCause};
+ghost use Rattle.common_laws.specs.Maps.{Contents};
+ghost use Rattle.col_disk.specs.Moved.{Moved, NoName};
+ghost use Rattle.col_value.specs.declared.row.Stamped.{Stamped};
+ghost use Rattle.row_history.specs.History.{is_visible, visible};
+ghost use Rattle.write_store.specs.Memory.{stamp, AreHeldRows};
+ghost use Rattle.col_value.specs.Order.{IsRow};
+ghost use Rattle.query_cover.specs.Seen.{placed};
+ghost use Rattle.exec_scan.specs.Batches.{IsBatch, rows_at};
+ghost use Rattle.exec_scan.specs.Opened.{IsOpening};
+ghost use Rattle.exec_scan.specs.Scanning.{AreLeft, AreOwn, BlamesContainerAt, Gives, HasOpenedAt, IsScanOf, IsUnblamed, start, steps_left};
+
+use crate::batch::{Batch, put_row};
+use crate::opened::{Opened, open};
+use crate::reading::read_block;
+use col_disk::{Disk, StoreFault};
+use col_value::Value;
+use pos_index::blocks_of;
+use proj_store::ProjStore;
+use std::alloc::{AllocError, Global};
+use std::marker::Model;
+use write_store::Held;
+
+// How many rows in memory a batch has at most.
+const ROWS: usize = 1024;
+
+/// A scan of a projection at an epoch: which columns it reads, and how far it is.
+#[derive(Drop)]
+pub struct Scan {
+    epoch: u64,
+    places: Vec<Option<usize>>,
+    container: usize,
+    block: usize,
+    opened: Option<Opened>,
+    taken: usize,
+}
+
+impl Model for Scan {
+    ghost use Rattle.exec_scan.specs.Scanning.{Place};
+
+    ghost Value = { Place };
+
+    ghost view = { λ s. record { epoch = s.epoch; places = s.places.items; container = s.container; block = s.block; opened = s.opened; taken = s.taken } };
+}
+
+fn is_visible(epoch: u64, row: &Held) -> bool
+    ensures { result ≡ is_visible epoch (stamp row.now) }
+{
+    row.inserted.ins <= epoch
+        && match row.del {
+            Some(del) => del > epoch,
+            None => true,
+        }
+}
+
+/// Appends the values of a row and where they begin, if it is shown.
+fn put_shown(
+    alloc: Global,
+    values: &mut Vec<Value>,
+    starts: &mut Vec<usize>,
+    shown: bool,
+    row: &[Value],
+    places: &[Option<usize>],
+) -> Result<(), AllocError>
+    requires row { IsRow row.now }
+    requires batch { IsBatch (length places.now) values.old.items starts.old.items }
+    ensures rows { OnOk result (rows_at (length places.now) values.new.items starts.new.items ≡ rows_at (length places.now) values.old.items starts.old.items ++ (if shown then placed places.now row.now ∷ [] else [])) }
+    ensures batch { OnOk result (IsBatch (length places.now) values.new.items starts.new.items) }
+{
+    if shown {
+        starts.push(values.len())?;
+        put_row(alloc, values, row, places)?;
+        return Ok(());
+    }
+    Ok(())
+}
+
+/// The visible ones of some rows in memory, made for the table's columns.
+fn from_memory(
+    alloc: Global,
+    epoch: u64,
+    rows: &[Held],
+    places: &[Option<usize>],
+) -> Result<Batch, AllocError>
+    requires { AreHeldRows rows.now }
+    ensures { IfOk result (λ b. b ≡ map (placed places.now) (visible epoch (map stamp rows.now))) }
+{
+    let mut values = Vec::new(alloc);
+    let mut starts = Vec::new(alloc);
+    for row in rows {
+        let shown = is_visible(epoch, row);
+        put_shown(
+            alloc,
+            &mut values,
+            &mut starts,
+            shown,
+            row.inserted.row.as_slice(),
+            places,
+        )?;
+    }
+    Ok(Batch::of(places.len(), values, starts))
+}
+
+/// The container at hand: it is opened where that wasn't done.
+fn at_hand<D: Disk>(
+    alloc: Global,
+    store: &ProjStore,
+    container: usize,
+    opened: Option<Opened>,
+    places: &[Option<usize>],
+    disk: &mut D,
+) -> Result<Opened, StoreFault>
+    requires there { container < length store.now.stored.entry.containers }
+    requires own { AreOwn store.now.stored.entry places.now }
+    requires opened { IfSome opened (λ o. IsSomeAnd (slice_get store.now.stored.entry.containers container) (λ k. IsOpening k.rows places.now o)) }
+    ensures opening { IfOk result (λ o. IsSomeAnd (slice_get store.now.stored.entry.containers container) (λ k. IsOpening k.rows places.now o)) }
+    ensures held { IfOk result (λ o. IfSome opened (HasOpenedAt store.now.stored container places.now (D.holds disk.old)) → HasOpenedAt store.now.stored container places.now (D.holds disk.old) o) }
+    ensures blamed { IfErr result (BlamesContainerAt store.now.stored.entry container (D.holds disk.old)) }
+    ensures kept { D.holds disk.new ≡ D.holds disk.old }
+    ensures moved { Moved ⟦<D as Disk>⟧ NoName NoName disk.old disk.new }
+    ensures cause { HasCause StoreFault.Disk (D.faults disk.old) (D.faults disk.new) result }
+{
+    match opened {
+        Some(opened) => Ok(opened),
+        None => {
+            let shape = store.entry();
+            let entry = &shape.containers.as_slice()[container];
+            open(
+                alloc,
+                disk,
+                entry,
+                shape,
+                store.vector(container),
+                store.fresh_marks(container),
+                places,
+            )
+        },
+    }
+}
+
+impl Scan {
+    /// A scan from the beginning. For each column of the table `places` has its place in the projection, if it is needed.
+    pub fn new(epoch: u64, places: Vec<Option<usize>>) -> Scan
+        ensures { result ≡ start epoch places.items }
+    {
+        Scan {
+            epoch,
+            places,
+            container: 0,
+            block: 0,
+            opened: None,
+            taken: 0,
+        }
+    }
+
+    /// The next rows that are visible, perhaps none; None where no row is left. A file of the projection is blamed only where it stores no
+    /// rows.
+    pub fn next<D: Disk>(
+        &mut self,
+        alloc: Global,
+        store: &ProjStore,
+        disk: &mut D,
+    ) -> Result<Option<Batch>, StoreFault>
+        requires { IsScanOf store.now.stored.entry self.old }
+        ensures scan { IfOk result (λ o. IsScanOf store.now.stored.entry self.new) }
+        ensures gives { IfOk result (λ o. (m : Contents) → D.holds disk.old ≡ Some m → (left : List Stamped) → AreLeft m store.now.stored self.old left → Gives m store.now.stored self.old self.new left o) }
+        ensures same { IfOk result (λ o. (self.new.epoch ≡ self.old.epoch) × (self.new.places ≡ self.old.places)) }
+        ensures fewer { IfOk result (λ o. OnSome o (steps_left store.now.stored.entry (length store.now.stored.unsaved) self.new < steps_left store.now.stored.entry (length store.now.stored.unsaved) self.old)) }
+        ensures unblamed { IfErr result (λ fault. (m : Contents) → D.holds disk.old ≡ Some m → (left : List Stamped) → AreLeft m store.now.stored self.old left → IsUnblamed fault) }
+        ensures kept { D.holds disk.new ≡ D.holds disk.old }
+        ensures moved { Moved ⟦<D as Disk>⟧ NoName NoName disk.old disk.new }
+        ensures cause { HasCause StoreFault.Disk (D.faults disk.old) (D.faults disk.new) result }
+    {
+        if self.container < store.entry().containers.as_slice().len() {
+            return match self.next_block(alloc, store, disk) {
+                Ok(batch) => Ok(Some(batch)),
+                Err(fault) => Err(fault),
+            };
+        }
+        let rows = store.unsaved();
+        if self.taken >= rows.len() {
+            return Ok(None);
+        }
+        let upto = rows.len().min(self.taken.saturating_add(ROWS));
+        match from_memory(
+            alloc,
+            self.epoch,
+            &rows[self.taken..upto],
+            self.places.as_slice(),
+        ) {
+            Ok(batch) => {
+                self.taken = upto;
+                Ok(Some(batch))
+            },
+            Err(AllocError) => Err(StoreFault::Memory),
+        }
+    }
+
+    /// The visible rows of the next block of the container at hand; none behind its last one, where the scan goes on to the next container.
+    fn next_block<D: Disk>(
+        &mut self,
+        alloc: Global,
+        store: &ProjStore,
+        disk: &mut D,
+    ) -> Result<Batch, StoreFault>
+        requires there { self.old.container < length store.now.stored.entry.containers }
+        requires scan { IsScanOf store.now.stored.entry self.old }
+        ensures scan { IfOk result (λ b. IsScanOf store.now.stored.entry self.new) }
+        ensures gives { IfOk result (λ b. (m : Contents) → D.holds disk.old ≡ Some m → (left : List Stamped) → AreLeft m store.now.stored self.old left → Gives m store.now.stored self.old self.new left (Some b)) }
+        ensures same { IfOk result (λ b. (self.new.epoch ≡ self.old.epoch) × (self.new.places ≡ self.old.places)) }
+        ensures fewer { IfOk result (λ b. steps_left store.now.stored.entry (length store.now.stored.unsaved) self.new < steps_left store.now.stored.entry (length store.now.stored.unsaved) self.old) }
+        ensures unblamed { IfErr result (λ fault. (m : Contents) → D.holds disk.old ≡ Some m → (left : List Stamped) → AreLeft m store.now.stored self.old left → IsUnblamed fault) }
+        ensures kept { D.holds disk.new ≡ D.holds disk.old }
+        ensures moved { Moved ⟦<D as Disk>⟧ NoName NoName disk.old disk.new }
+        ensures cause { HasCause StoreFault.Disk (D.faults disk.old) (D.faults disk.new) result }
+    {
+        let opened = self.opened.take();
+        let opened = match at_hand(
+            alloc,
+            store,
+            self.container,
+            opened,
+            self.places.as_slice(),
+            disk,
+        ) {
+            Ok(opened) => opened,
+            Err(fault) => return Err(fault),
+        };
+        let shape = store.entry();
+        let entry = &shape.containers.as_slice()[self.container];
+        if self.block as u64 >= blocks_of(entry.rows) {
+            self.container += 1;
+            self.block = 0;
+            return Ok(Batch::empty(alloc));
+        }
+        let batch = match read_block(
+            alloc,
+            disk,
+            entry,
+            shape,
+            &opened,
+            self.places.as_slice(),
+            self.block,
+            self.epoch,
+        ) {
+            Ok(batch) => batch,
+            Err(fault) => return Err(fault),
+        };
+        self.opened = Some(opened);
+        self.block += 1;
+        Ok(batch)
+    }
+}
