@@ -4,7 +4,8 @@ ghost use Rattle.std.specs.Prelude.{◌≡◌, IfErr, IfOk, None, option_map};
 ghost use Rattle.std.specs.List.{All};
 ghost use Rattle.col_value.specs.Order.{IsRow};
 ghost use Rattle.sql_binding.specs.Inserts.{inserted_rows};
-ghost use Rattle.db_model.specs.Refusals.{rows_inserted_refusal};
+ghost use Rattle.db_model.specs.Refusals.{joining_limit, locked, rows_inserted_refusal};
+ghost use Rattle.sql_binding.specs.Firsts.{first_of};
 ghost use Rattle.name_binder.specs.Refusing.{RefusesBy};
 ghost use Rattle.statement_plan.specs.Inserting.{is_late, in_order, inserted_refusal};
 
@@ -36,6 +37,16 @@ fn in_order(found: Refusal, other: Option<Refusal>) -> Refusal
         }
     } else {
         found
+    }
+}
+
+/// Why so many rows more can't join a table's pending ones, whatever they hold.
+fn other_reason(frame: &Frame<'_>, name: &[u8], more: usize) -> Option<Refusal>
+    ensures { result ≡ first_of (joining_limit frame.now name.now more) (locked frame.now name.now false) }
+{
+    match frame.joining(name, more) {
+        Some(limit) => Some(limit),
+        None => frame.locked(name, false),
     }
 }
 
@@ -71,10 +82,6 @@ pub fn plan_insert(
     ensures refused { IfErr result (RefusesBy (rows_inserted_refusal frame.now insert.now)) }
 {
     let name = insert.table.as_slice();
-    let limit = frame.joining(name, insert.rows.as_slice().len());
-    let other = match limit {
-        Some(limit) => Some(limit),
-        None => frame.locked(name, false),
-    };
+    let other = other_reason(frame, name, insert.rows.as_slice().len());
     bound_rows(alloc, insert, &frame.found(name), other)
 }

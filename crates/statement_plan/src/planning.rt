@@ -54,7 +54,7 @@ fn plan_drop(alloc: Global, frame: &Frame<'_>, name: &Name) -> Result<usize, Bin
 }
 
 /// What a statement of a form that is planned does, or why it is refused whatever the rows are.
-pub fn plan(alloc: Global, frame: &Frame<'_>, statement: &Statement) -> Result<Plan, BindFault>
+pub fn make_plan(alloc: Global, frame: &Frame<'_>, statement: &Statement) -> Result<Plan, BindFault>
     requires { is_planned statement.now ≡ true }
     ensures planned { IfOk result (IsPlanned frame.now statement.now) }
     ensures refused { IfErr result (RefusesBy (early_refusal frame.now statement.now)) }

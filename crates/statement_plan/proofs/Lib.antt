@@ -1,0 +1,5 @@
+mod Taken
+mod Joining
+mod Sources
+mod Alike
+mod Dropping
