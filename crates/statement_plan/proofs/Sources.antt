@@ -1,6 +1,6 @@
 -- The tables of a query's FROM items, and the bounds of a query that isn't refused.
-use Rattle.std.proofs.Common.{◌≡◌, ℕ, List, [], ◌∷◌, ◌++◌, Bool, true, false, cond, map, refl, sym, ◌∙◌, ap, ap₂, subst}
-use Rattle.std.specs.Prelude.{Option, Some, None, option_map, option_and_then, not, Result, IfErr}
+use Rattle.std.proofs.Common.{◌≡◌, ℕ, List, [], ◌∷◌, ◌++◌, Bool, true, false, cond, map, refl, sym, ◌∙◌, ap, ap₂, subst, true≢false}
+use Rattle.std.specs.Prelude.{Option, Some, None, option_map, option_and_then, not, ◌&&◌, Result, IfErr}
 use Rattle.std.specs.List.{All, list_all, flat_map}
 use Rattle.std.specs.Option.{option_map_or}
 use Rattle.std.proofs.lemmas.Bool.{and_parts}
@@ -10,6 +10,7 @@ use Rattle.col_value.specs.declared.column.Column.{Column}
 use Rattle.sql_tree.specs.declared.query.Query.{Query}
 use Rattle.sql_tree.specs.declared.query.Source.{Source}
 use Rattle.sql_tree.specs.declared.refusal.Refusal.{Refusal}
+use Rattle.sql_bound.specs.declared.expr.Expr.{Expr}
 use Rattle.sql_bound.specs.declared.query.Aggregate.{Aggregate}
 use Rattle.sql_bound.specs.declared.query.BoundQuery.{BoundQuery}
 use Rattle.sql_bound.specs.Bounds.{bound_of_aggregate, is_narrow}
@@ -96,31 +97,32 @@ columns_all (Some t ∷ rest) ts is = with_all t (all_there rest) (all_there (th
 -- a query that isn't refused has static bounds
 bounds_are : (grouped : Bool) (aggs : List Aggregate) → (grouped ≡ false → aggs ≡ []) → cond grouped (map bound_of_aggregate aggs) [] ≡ map bound_of_aggregate aggs
 bounds_are true aggs none = refl
-bounds_are false aggs none = ap (λ (as : List Aggregate). map bound_of_aggregate as) (sym (none refl))
+bounds_are false aggs none = ap (λ (l : List Aggregate). map bound_of_aggregate l) (sym (none refl))
 
 bounded_by : (b : BoundQuery) → (b.grouped ≡ false → b.aggs ≡ []) → is_narrow_query b ≡ true → IsBoundedQuery b
 bounded_by b none narrow =
     let bounds : List ℕ = map bound_of_aggregate b.aggs in
     let same : bounds ≡ seen_bounds b = sym (bounds_are b.grouped b.aggs none) in
-    let last = option_map_or (is_narrow bounds) b.having true in
-    let one = and_parts (list_all (is_narrow []) b.keep) _ narrow in
-    let two = and_parts (list_all is_narrow_aggregate b.aggs) _ one.1 in
+    let last : Bool = option_map_or (is_narrow bounds) b.having true in
+    let shown : Bool = list_all (is_narrow bounds) b.items && last in
+    let one = and_parts (list_all (is_narrow []) b.keep) (list_all is_narrow_aggregate b.aggs && shown) narrow in
+    let two = and_parts (list_all is_narrow_aggregate b.aggs) shown one.1 in
     let three = and_parts (list_all (is_narrow bounds) b.items) last two.1 in
     record {
       keep = each_passes (is_narrow []) b.keep one.0;
       aggs = each_passes is_narrow_aggregate b.aggs two.0;
-      items = subst (λ (ns : List ℕ). All (λ e. is_narrow ns e ≡ true) b.items) same (each_passes (is_narrow bounds) b.items three.0);
+      items = subst (λ (ns : List ℕ). All (λ (e : Expr). is_narrow ns e ≡ true) b.items) same (each_passes (is_narrow bounds) b.items three.0);
       having = subst (λ (ns : List ℕ). option_map_or (is_narrow ns) b.having true ≡ true) same three.1;
     }
 
 no_aggregates : (tables : List (ℕ × List Column)) (q : Query) → (bound_query tables q).grouped ≡ false → (bound_query tables q).aggs ≡ []
 no_aggregates tables q = by (is_grouped q)
   where
-    seen : List Seen
-    seen = sight q.sources (columns_of tables)
+    over : Bool → BoundQuery
+    over so = cond so (over_groups tables (sight q.sources (columns_of tables)) q) (over_rows tables (sight q.sources (columns_of tables)) q)
 
-    by : (so : Bool) → (cond so (over_groups tables seen q) (over_rows tables seen q)).grouped ≡ false → (cond so (over_groups tables seen q) (over_rows tables seen q)).aggs ≡ []
-    by true is = cc
+    by : (so : Bool) → (over so).grouped ≡ false → (over so).aggs ≡ []
+    by true is = absurd (true≢false is)
     by false is = refl
 
 narrow_over : (tables : List (ℕ × List Column)) (q : Query) → refusal_over (columns_of tables) q ≡ None → is_narrow_query (bound_query tables q) ≡ true

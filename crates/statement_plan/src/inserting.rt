@@ -1,6 +1,6 @@
 //! The rows of an INSERT, and why they can't join the pending ones.
 
-ghost use Rattle.std.specs.Prelude.{◌≡◌, IfErr, IfOk, None, option_map};
+ghost use Rattle.std.specs.Prelude.{◌≡◌, false, IfErr, IfOk, None, option_map};
 ghost use Rattle.std.specs.List.{All};
 ghost use Rattle.col_value.specs.Order.{IsRow};
 ghost use Rattle.sql_binding.specs.Inserts.{inserted_rows};
