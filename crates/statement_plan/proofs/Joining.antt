@@ -88,13 +88,15 @@ first_chained : (a b c : Option Refusal) → first_of (first_of a b) c ≡ first
 first_chained None b c = refl
 first_chained (Some x) b c = refl
 
-one_column : (o : Option (ℕ × Table)) → option_map (λ (t : ℕ × List Column). t.1) (option_map (λ (e : ℕ × Table). (e.0, e.1.columns)) o) ≡ option_map (λ (e : ℕ × Table). e.1.columns) o
+abbrev pair : ℕ × Table → ℕ × List Column
+pair e = (e.0, e.1.columns)
+
+one_column : (o : Option (ℕ × Table)) → option_map (λ (t : ℕ × List Column). t.1) (option_map pair o) ≡ option_map (λ (e : ℕ × Table). e.1.columns) o
 one_column None = refl
 one_column (Some e) = refl
 
--- why the INSERT is refused over what was found
-pub reasons_are : (state : State) (i : Insert) (found : Option (ℕ × List Column)) (other : Option Refusal)
-    → found ≡ option_map (λ (e : ℕ × Table). (e.0, e.1.columns)) (table_found i.table state.database.tables)
+reasons_are : (state : State) (i : Insert) (found : Option (ℕ × List Column)) (other : Option Refusal)
+    → found ≡ option_map pair (table_found i.table state.database.tables)
     → other ≡ first_of (joining_limit state i.table (length i.rows)) (locked state i.table false)
     → inserted_refusal (option_map (λ (t : ℕ × List Column). t.1) found) other i ≡ rows_inserted_refusal state i
 reasons_are state i found other there held =
@@ -104,3 +106,12 @@ reasons_are state i found other there held =
     ∙ ap (λ (o : Option Refusal). first_of (insert_refusal (columns_found state.database.tables i.table) i) o)
     (first_chained (joining_limit state i.table (length i.rows)) (locked state i.table false) (option_map_or (λ cs. stored_refusal cs i) (columns_found state.database.tables i.table) None)
     ∙ ap (λ (o : Option Refusal). first_of (joining_limit state i.table (length i.rows)) (first_of (locked state i.table false) o)) (stored_by (columns_found state.database.tables i.table) i))
+
+-- why the INSERT is refused over what was found
+pub reasons_at : (state : State) (i : Insert) (found : Option (ℕ × List Column)) (other : Option Refusal) (name : List ℕ) (more : ℕ)
+    → name ≡ i.table → more ≡ length i.rows → found ≡ option_map pair (table_found name state.database.tables)
+    → other ≡ first_of (joining_limit state name more) (locked state name false)
+    → inserted_refusal (option_map (λ (t : ℕ × List Column). t.1) found) other i ≡ rows_inserted_refusal state i
+reasons_at state i found other name more called many there held =
+    reasons_are state i found other (there ∙ ap (λ (n : List ℕ). option_map pair (table_found n state.database.tables)) called)
+    (held ∙ ap₂ (λ (n : List ℕ) (m : ℕ). first_of (joining_limit state n m) (locked state n false)) called many)

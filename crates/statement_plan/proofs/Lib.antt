@@ -2,4 +2,3 @@ mod Taken
 mod Joining
 mod Sources
 mod Alike
-mod Dropping
