@@ -128,8 +128,8 @@ own_same bare state is = ap₂ (λ (sessions : List (List Changes)) (current : �
 locked_same : (bare state : State) (name : List ℕ) (want : Bool) → IsBare bare state → locked bare name want ≡ locked state name want
 locked_same bare state name want is =
     ap₂ (λ (sessions : List (List Changes)) (current : ℕ).
-        option_map Refusal.Locked (option_map (λ (e : ℕ × List Changes). e.0)
-        (find (λ (e : ℕ × List Changes). not (e.0 == current) && excludes name want e.1) (enumerate_from 1 sessions))))
+    option_map Refusal.Locked (option_map (λ (e : ℕ × List Changes). e.0)
+    (find (λ (e : ℕ × List Changes). not (e.0 == current) && excludes name want e.1) (enumerate_from 1 sessions))))
     is.sessions is.current
 
 joining_same : (bare state : State) (name : List ℕ) (more : ℕ) → IsBare bare state → joining_limit bare name more ≡ joining_limit state name more

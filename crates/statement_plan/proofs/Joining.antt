@@ -64,22 +64,6 @@ pub refused_rows : (columns : Option (List Column)) (limit : Option Refusal) (i 
 refused_rows columns limit i r is =
     joined_by (insert_refusal columns i) limit (option_map_or (λ cs. stored_refusal cs i) columns None) r (early columns i) (late columns i) is
 
-limited_by : (first limit stored : Option Refusal) (l : Refusal) → first_of first stored ≡ None → limit ≡ Some l → first_of first (first_of limit stored) ≡ Some l
-limited_by (Some x) limit stored l none is = cc
-limited_by None (Some x) stored l none is = is
-limited_by None None stored l none is = cc
-
--- the limit alone
-pub limited_rows : (columns : Option (List Column)) (limit : Option Refusal) (i : Insert) (l : Refusal)
-    → whole_refusal columns i ≡ None → limit ≡ Some l → inserted_refusal columns limit i ≡ Some l
-limited_rows columns limit i l none is = limited_by (insert_refusal columns i) limit (option_map_or (λ cs. stored_refusal cs i) columns None) l none is
-
--- neither
-pub accepted_rows : (columns : Option (List Column)) (limit : Option Refusal) (i : Insert)
-    → whole_refusal columns i ≡ None → limit ≡ None → inserted_refusal columns limit i ≡ None
-accepted_rows columns limit i none is =
-    ap (λ (l : Option Refusal). inserted_refusal columns l i) is ∙ none
-
 stored_by : (columns : Option (List Column)) (i : Insert) → option_map_or (λ cs. stored_refusal cs i) columns None ≡ option_and_then (λ cs. stored_refusal cs i) columns
 stored_by None i = refl
 stored_by (Some cs) i = refl

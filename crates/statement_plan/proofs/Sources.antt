@@ -152,8 +152,7 @@ bound_by : (found : List (Option (ℕ × List Column))) (q : Query) (b : BoundQu
     → option_map (λ (ts : List (ℕ × List Column)). bound_query ts q) o ≡ Some b → (b ≡ bound_query us q) × IsBoundedQuery b
 bound_by found q b us None all same accepted is = cc
 bound_by found q b us (Some vs) all same accepted is =
-    let this : bound_query vs q ≡ b = same_Some (bound_query vs q) b is in
-    (
+    let this : bound_query vs q ≡ b = same_Some (bound_query vs q) b is in (
       sym this ∙ ap (λ (l : List (ℕ × List Column)). bound_query l q) (sym (same vs refl)),
       subst (λ (c : BoundQuery). IsBoundedQuery c) this (bounded_over found vs q all accepted),
     )

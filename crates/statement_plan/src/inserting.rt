@@ -72,11 +72,7 @@ fn bound_rows(
 }
 
 /// The rows of an INSERT, or why they can't join the pending ones.
-pub fn plan_insert(
-    alloc: Global,
-    frame: &Frame<'_>,
-    insert: &Insert,
-) -> Result<Vec<Row>, BindFault>
+pub fn plan_insert(alloc: Global, frame: &Frame<'_>, insert: &Insert) -> Result<Vec<Row>, BindFault>
     ensures bound { IfOk result (λ v. (v.items ≡ inserted_rows insert.now) × (rows_inserted_refusal frame.now insert.now ≡ None)) }
     ensures values { IfOk result (λ v. All IsRow v.items) }
     ensures refused { IfErr result (RefusesBy (rows_inserted_refusal frame.now insert.now)) }

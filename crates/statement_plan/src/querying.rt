@@ -31,11 +31,7 @@ fn tables_of<'a>(
 }
 
 /// The bound tree of a query, or why it is refused whatever the rows are.
-pub fn plan_query(
-    alloc: Global,
-    frame: &Frame<'_>,
-    query: &Query,
-) -> Result<BoundQuery, BindFault>
+pub fn plan_query(alloc: Global, frame: &Frame<'_>, query: &Query) -> Result<BoundQuery, BindFault>
     ensures bound { IfOk result (λ b. IsBoundIn frame.now query.now b × (query_refusal_in frame.now query.now ≡ None)) }
     ensures refused { IfErr result (RefusesBy (query_refusal_in frame.now query.now)) }
 {
