@@ -1,6 +1,6 @@
 //! Why a new table is refused.
 
-ghost use Rattle.std.specs.Prelude.{◌≡◌, [], IfErr, IfOk, OnOk, None, option_map};
+ghost use Rattle.std.specs.Prelude.{◌≡◌, [], IfErr, IfOk, OnOk, None};
 ghost use Rattle.std.specs.Option.{option_copied};
 ghost use Rattle.db_model.specs.Database.{super_name};
 ghost use Rattle.db_model.specs.Refusing as rule;

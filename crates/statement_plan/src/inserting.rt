@@ -3,9 +3,9 @@
 ghost use Rattle.std.specs.Prelude.{◌≡◌, false, IfErr, IfOk, None, option_map};
 ghost use Rattle.std.specs.List.{All};
 ghost use Rattle.col_value.specs.Order.{IsRow};
+ghost use Rattle.sql_binding.specs.Firsts.{first_of};
 ghost use Rattle.sql_binding.specs.Inserts.{inserted_rows};
 ghost use Rattle.db_model.specs.Refusals.{joining_limit, locked, rows_inserted_refusal};
-ghost use Rattle.sql_binding.specs.Firsts.{first_of};
 ghost use Rattle.name_binder.specs.Refusing.{RefusesBy};
 ghost use Rattle.statement_plan.specs.Inserting.{is_late, in_order, inserted_refusal};
 

@@ -1,9 +1,7 @@
 //! The bound tree of a query.
 
-ghost use Rattle.std.specs.Prelude.{◌≡◌, ◌++◌, ◌∷◌, [], length, map, take, IfErr, IfOk, None, option_map};
-ghost use Rattle.std.specs.List.{All};
+ghost use Rattle.std.specs.Prelude.{◌≡◌, map, IfErr, IfOk, None};
 ghost use Rattle.db_model.specs.Refusals.{query_refusal_in};
-ghost use Rattle.db_model.specs.Views.{table_found};
 ghost use Rattle.name_binder.specs.Refusing.{RefusesBy};
 ghost use Rattle.statement_plan.specs.Planned.{IsBoundIn, select_refusal};
 ghost use Rattle.statement_plan.specs.Querying.{found_of};
