@@ -1,0 +1,12 @@
+//! Opening a folder as its tables.
+//!
+//! A folder reopens to the database of `Reopens` of `folder_model/specs/Reopening.antt`: its tables, cut at the one epoch up to which every
+//! up-to-date projection has all its rows on disk. `open` answers a `TableStore` that stands for it. Where files hold later rows or
+//! deletes it writes the cut containers under new numbers and commits a catalogue that lists them; whatever a crash leaves of that, the
+//! folder reopens to the same database. No row is read but of containers that are cut.
+#![tactic(auto)]
+
+mod loading;
+mod opening;
+
+pub use opening::open;

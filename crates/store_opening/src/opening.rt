@@ -1,0 +1,137 @@
+//! The opening.
+
+ghost use Rattle.std.specs.Prelude.{◌≡◌, ◌&&◌, nat_lt, Some, false, IfOk, IfErr};
+ghost use Rattle.std.specs.List.{list_any};
+ghost use Rattle.common_laws.specs.Causes.{HasCause};
+ghost use Rattle.common_laws.specs.Maps.{Contents};
+ghost use Rattle.col_disk.specs.Moved.{Leaves, ImageOf};
+ghost use Rattle.catalog_types.specs.Reached.{least_lge, is_past};
+ghost use Rattle.catalog_root.specs.Root.{IsBody};
+ghost use Rattle.db_model.specs.Database.{Database};
+ghost use Rattle.folder_model.specs.Reopening.{Reopens};
+ghost use Rattle.store_commit.specs.Seen.{Stands};
+ghost use Rattle.store_opening.specs.Opening.{BlamesListed, BlamesOpening, IsQuietFor};
+
+use crate::loading::load_tables;
+use catalog_root::Found;
+use catalog_types::{Catalogue, Projection, Table};
+use col_disk::{Disk, StoreFault};
+use cut_job::cut_catalogue;
+use cut_model::{a_cut_reopens, a_loaded_cut_is_the_database, a_loaded_folder_is_the_database, other_files_stay};
+use std::alloc::Global;
+use store_commit::{settle, tidy};
+use table_store::TableStore;
+
+/// The tables of a folder. `Damaged` names a file that keeps it from opening: the body of the greatest open gate, a data file where no gate
+/// is open, or a listed file that is absent or not what it has to be.
+pub fn open<D: Disk>(alloc: Global, disk: &mut D) -> Result<TableStore, StoreFault>
+    ensures stands { IfOk result (λ s. (m : Contents) (d : Database) → D.holds disk.old ≡ Some m → Reopens m d → Stands ⟦<D as Disk>⟧ s disk.new d) }
+    ensures any_moment { (m : Contents) (d : Database) → D.holds disk.old ≡ Some m → ((x : Contents) → ImageOf ⟦<D as Disk>⟧ disk.old x → Reopens x d) → Leaves ⟦<D as Disk>⟧ (λ x. Reopens x d) disk.old disk.new }
+    ensures blamed { IfErr result (BlamesOpening (D.holds disk.old)) }
+    ensures cause { HasCause StoreFault.Disk (D.faults disk.old) (D.faults disk.new) result }
+{
+    match catalog_root::open(alloc, disk) {
+        Ok(Found::Fresh) => Ok(TableStore::empty(alloc)),
+        Ok(Found::Root { version, catalogue }) => open_root(alloc, disk, version, catalogue),
+        Err(fault) => Err(fault),
+    }
+}
+
+fn are_past(projections: &[Projection], epoch: u64) -> bool
+    ensures { result ≡ list_any (λ p. p.fresh && nat_lt epoch p.lge) projections.now }
+{
+    projections.iter().any(|p| p.fresh && epoch < p.lge)
+}
+
+/// Whether a catalogue goes past an epoch.
+fn is_past(c: &Catalogue, epoch: u64) -> bool
+    ensures { result ≡ is_past c.now epoch }
+{
+    epoch < c.last
+        || c.tables
+            .as_slice()
+            .iter()
+            .any(|t| are_past(t.projections.as_slice(), epoch))
+}
+
+/// The tables of a catalogue that the disk opens to.
+fn open_root<D: Disk>(
+    alloc: Global,
+    disk: &mut D,
+    version: u64,
+    catalogue: Catalogue,
+) -> Result<TableStore, StoreFault>
+    requires { IsBody version catalogue }
+    ensures stands { IfOk result (λ s. (m : Contents) (d : Database) → IsQuietFor ⟦<D as Disk>⟧ disk.old version catalogue d m → Stands ⟦<D as Disk>⟧ s disk.new d) }
+    ensures any_moment { (m : Contents) (d : Database) → IsQuietFor ⟦<D as Disk>⟧ disk.old version catalogue d m → Leaves ⟦<D as Disk>⟧ (λ x. Reopens x d) disk.old disk.new }
+    ensures blamed { IfErr result (BlamesListed catalogue (D.holds disk.old)) }
+    ensures cause { HasCause StoreFault.Disk (D.faults disk.old) (D.faults disk.new) result }
+{
+    if is_past(&catalogue, catalogue.least_lge()) {
+        recover(alloc, disk, version, catalogue)
+    } else {
+        keep(alloc, disk, version, catalogue)
+    }
+}
+
+/// The tables of a catalogue that needs no cut: its delete vectors are read, and what it doesn't list is removed.
+fn keep<D: Disk>(
+    alloc: Global,
+    disk: &mut D,
+    version: u64,
+    catalogue: Catalogue,
+) -> Result<TableStore, StoreFault>
+    requires body { IsBody version catalogue }
+    requires whole { is_past catalogue (least_lge catalogue) ≡ false }
+    ensures stands { IfOk result (λ s. (m : Contents) (d : Database) → IsQuietFor ⟦<D as Disk>⟧ disk.old version catalogue d m → Stands ⟦<D as Disk>⟧ s disk.new d) }
+    ensures any_moment { (m : Contents) (d : Database) → IsQuietFor ⟦<D as Disk>⟧ disk.old version catalogue d m → Leaves ⟦<D as Disk>⟧ (λ x. Reopens x d) disk.old disk.new }
+    ensures blamed { IfErr result (BlamesListed catalogue (D.holds disk.old)) }
+    ensures cause { HasCause StoreFault.Disk (D.faults disk.old) (D.faults disk.new) result }
+{
+    a_loaded_folder_is_the_database();
+    let tables = match load_tables(alloc, disk, catalogue.tables.as_slice()) {
+        Ok(tables) => tables,
+        Err(fault) => return Err(fault),
+    };
+    match tidy(alloc, disk, version, &catalogue) {
+        Ok(()) => Ok(TableStore::of(catalogue, tables)),
+        Err(fault) => Err(StoreFault::from(fault)),
+    }
+}
+
+/// The tables of a catalogue that is cut first. Its new files can be read: where they can't, that is answered as want of memory.
+fn recover<D: Disk>(
+    alloc: Global,
+    disk: &mut D,
+    version: u64,
+    catalogue: Catalogue,
+) -> Result<TableStore, StoreFault>
+    requires { IsBody version catalogue }
+    ensures stands { IfOk result (λ s. (m : Contents) (d : Database) → IsQuietFor ⟦<D as Disk>⟧ disk.old version catalogue d m → Stands ⟦<D as Disk>⟧ s disk.new d) }
+    ensures any_moment { (m : Contents) (d : Database) → IsQuietFor ⟦<D as Disk>⟧ disk.old version catalogue d m → Leaves ⟦<D as Disk>⟧ (λ x. Reopens x d) disk.old disk.new }
+    ensures blamed { IfErr result (BlamesListed catalogue (D.holds disk.old)) }
+    ensures cause { HasCause StoreFault.Disk (D.faults disk.old) (D.faults disk.new) result }
+{
+    a_cut_reopens();
+    a_loaded_cut_is_the_database();
+    let cut = match cut_catalogue(alloc, &catalogue, disk) {
+        Ok(cut) => cut,
+        Err(fault) => return Err(fault),
+    };
+    let root = Catalogue {
+        next: cut.next.saturating_add(1),
+        ..cut
+    };
+    if !root.valid() {
+        return Err(StoreFault::Memory);
+    }
+    let tables = match load_tables(alloc, disk, root.tables.as_slice()) {
+        Ok(tables) => tables,
+        Err(StoreFault::Disk) => return Err(StoreFault::Disk),
+        Err(_) => return Err(StoreFault::Memory),
+    };
+    match settle(alloc, disk, root.next - 1, &root) {
+        Ok(()) => Ok(TableStore::of(root, tables)),
+        Err(fault) => Err(StoreFault::from(fault)),
+    }
+}

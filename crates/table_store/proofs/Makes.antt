@@ -1,0 +1,154 @@
+-- What the calls of a store make of it.
+use Rattle.std.proofs.Common.{◌≡◌, ℕ, ◌+◌, ◌<◌, ◌≤◌, List, [], ◌∷◌, length, map, get_or, true, refl, sym, ◌∙◌, ap, ap₂, subst, inl, arith}
+use Rattle.std.specs.Prelude.{Option, Some, None, Result, Ok, Err, IsErrOf}
+use Rattle.std.specs.List.{Any, flat_map, insert}
+use Rattle.common_laws.specs.Maps.{Contents}
+use Rattle.col_disk.specs.Moved.{Moved, NoName, ImageOf}
+use Rattle.col_disk.specs.Faults.{store_fault}
+use Rattle.col_disk.specs.declared.disk.Disk.{Ghosts}
+use Rattle.col_disk.specs.declared.disk.DiskFault.{DiskFault}
+use Rattle.col_disk.specs.declared.disk.DiskFault.TheVariants as disk_fault
+use Rattle.col_disk.specs.declared.disk.StoreFault.{StoreFault}
+use Rattle.col_disk.specs.declared.disk.StoreFault.TheVariants as fault
+use Rattle.col_disk.proofs.Moving.{leaves_join, leaves_wider}
+use Rattle.col_value.specs.declared.column.Column.{Column}
+use Rattle.catalog_types.specs.declared.catalogue.Projection.{Projection}
+use Rattle.catalog_types.specs.declared.catalogue.Table as kept
+use Rattle.catalog_types.specs.declared.catalogue.Catalogue.{Catalogue}
+use Rattle.catalog_types.specs.Numbers.{table_spans}
+use Rattle.catalog_types.specs.Valid.{IsValid}
+use Rattle.catalog_root.specs.declared.found.Found.{Found}
+use Rattle.catalog_root.specs.declared.found.Found.TheVariants.{Fresh, Root}
+use Rattle.catalog_root.specs.Listed.{IsIn}
+use Rattle.catalog_root.specs.Quiet.{IsSpare}
+use Rattle.container_writer.specs.Writing.{DataFrom}
+use Rattle.cut_model.proofs.Staying.{undrawn_unlisted}
+use Rattle.db_model.specs.Database.{Database, super_name}
+use Rattle.db_model.specs.Epochs.{last_good, cut}
+use Rattle.db_model.specs.Sound.{IsSoundDatabase}
+use Rattle.stored_rows.specs.Stored.{Projected}
+use Rattle.proj_store.specs.Loaded.{Loaded}
+use Rattle.folder_model.specs.Tables.{AreDatabase}
+use Rattle.folder_model.specs.Standing.{IsRootOf}
+use Rattle.folder_model.specs.Reopening.{Reopens}
+use Rattle.folder_model.proofs.Committing.{stands_moved, moved_reopens}
+use Rattle.store_commit.specs.Seen.{Seen, Stands, seen}
+use Rattle.store_commit.specs.Making.{Makes}
+use Rattle.store_commit.proofs.Settled.{failed}
+use Rattle.sound_laws.specs.Moves.{change_at, moved_at}
+use Rattle.sound_laws.proofs.Moved.{moved_sound}
+use Rattle.table_store.specs.Held.{at_epoch, projections_of, seen_of, IsHeld}
+use Rattle.table_store.specs.Creating.{first_entry, first_table, bare, place_of, with_table, created}
+use Rattle.table_store.specs.Moving.{IsRewrittenFrom, with_entry_at}
+use Rattle.table_store.proofs.Created.{map_insert, created_are}
+use Rattle.table_store.proofs.Standing.{all_entries}
+use Rattle.table_store.proofs.Moved.{ReadIsStored, moved_are, entry_below}
+
+-- numbers that weren't drawn are those of spare files
+pub undrawn : (root : Catalogue) (last : ℕ) (f : Found) → IsRootOf (at_epoch last root) f → (root.tables ≡ [] → ⊥) → IsValid root → (q : ℕ) → DataFrom root.next q → IsSpare f q
+undrawn root last Fresh (tables, none, ahm) some valid q is = absurd (some tables)
+undrawn root last (Root v r) (tables, ahm, below, reached) some valid q (n, from, is) = (n, is, λ listed. undrawn_unlisted n root valid from (subst (λ (ts : List kept.Table). Any (IsIn n) (flat_map table_spans ts)) tables listed))
+
+some_parts : (stores : List (List Projected)) (i : ℕ) → i < length stores → stores ≡ [] → ⊥
+some_parts stores i lt none = let zero : length stores ≡ 0 = ap length none in omega (arith, lt, zero)
+
+-- ---- while files were written that nothing lists
+
+pub wrote_only : {D F : Type 0} (disk : Ghosts D) (short : F) {W : ℕ → Type 0} {old new : D} (was is : Seen) (f : F) (d e : Database) → (stands : Stands disk was old d) → ((q : ℕ) → W q → IsSpare stands.root q) → Moved disk W NoName old new
+    → Makes disk short was is old new (Err f) d e
+wrote_only disk short {W} {old} {new} was is f d e stands spare moved = record {
+  done = tt;
+  undone = λ s. stands_moved disk {W = W} {R = NoName} was.catalogue was.stores d stands spare (λ q no. absurd no) moved;
+  any_moment = leaves_wider disk (λ x reopens. inl reopens) (moved_reopens disk {W = W} {R = NoName} was.catalogue was.stores d stands spare (λ q no. absurd no) moved);
+}
+
+abbrev told : StoreFault → Result (Unit {0}) StoreFault
+told f = Err f
+
+short_is : (f : DiskFault) → IsErrOf (told (store_fault f)) fault.Memory → IsErrOf (failed f) disk_fault.Memory
+short_is disk_fault.Failed is = absurd (cc)
+short_is disk_fault.Memory is = refl
+
+-- ---- a new table
+
+pub settled_not : {D : Type 0} (disk : Ghosts D) {old new : D} (was is other : Seen) (f : DiskFault) (d e : Database) → Makes disk disk_fault.Memory was is old new (Err f) d e → Makes disk disk_fault.Memory was other old new (Err f) d e
+settled_not disk was is other f d e made = record { done = tt; undone = made.undone; any_moment = made.any_moment }
+
+pub create_makes : {D : Type 0} (disk : Ghosts D) {old new : D} (root : Catalogue) (last : ℕ) (tables : List (List Loaded)) (now : Seen) (name : List ℕ) (columns : List Column) (place : ℕ) (catalogue : Catalogue) (result : Result (Unit {0}) DiskFault) (d : Database)
+    → ((was : Seen) (stores : List (List Projected)) (d e : Database) → (stands : Stands disk was old d) → was.catalogue.next ≤ root.next → AreDatabase stands.files catalogue stores e → IsSoundDatabase e → Makes disk disk_fault.Memory was (seen catalogue stores) old new result d e)
+    → seen_of root last tables ≡ now → place ≡ place_of name (map (λ t. t.name) root.tables) → catalogue ≡ with_table last place (first_table name columns last) root
+    → Stands disk now old d → IsSoundDatabase (created name columns d)
+    → Makes disk disk_fault.Memory now (seen catalogue (insert (map projections_of tables) place (bare (first_entry (super_name name) columns last) ∷ []))) old new result d (created name columns d)
+create_makes {D} disk {old} {new} root last tables now name columns place catalogue result d made view place_is is stands sound =
+    let here : Stands disk (seen_of root last tables) old d = subst (λ (s : Seen). Stands disk s old d) (sym view) stands in
+    let are = created_are here.files (at_epoch last root) (map projections_of tables) d name columns place place_is here.are in
+    subst (λ (s : Seen). Makes disk disk_fault.Memory s (seen catalogue (insert (map projections_of tables) place (bare (first_entry (super_name name) columns last) ∷ []))) old new result d (created name columns d)) view
+    (made (seen_of root last tables) (insert (map projections_of tables) place (bare (first_entry (super_name name) columns last) ∷ [])) d (created name columns d) here (omega arith)
+    (subst (λ (k : Catalogue). AreDatabase here.files k (insert (map projections_of tables) place (bare (first_entry (super_name name) columns last) ∷ [])) (created name columns d)) (sym is) are) sound)
+
+new_stores : (tables after : List (List Loaded)) (place : ℕ) (parts : List Loaded) (one : List Projected) → after ≡ insert tables place parts → projections_of parts ≡ one → insert (map projections_of tables) place one ≡ map projections_of after
+new_stores tables after place parts one is same =
+    sym (ap (map projections_of) is ∙ map_insert projections_of tables place parts ∙ ap (insert (map projections_of tables) place) same)
+
+pub create_seen : (root : Catalogue) (last : ℕ) (tables after : List (List Loaded)) (name : List ℕ) (columns : List Column) (place : ℕ) (catalogue : Catalogue) (parts : List Loaded)
+    → after ≡ insert tables place parts → projections_of parts ≡ bare (first_entry (super_name name) columns last) ∷ [] → catalogue ≡ with_table last place (first_table name columns last) root
+    → seen catalogue (insert (map projections_of tables) place (bare (first_entry (super_name name) columns last) ∷ [])) ≡ seen_of catalogue last after
+create_seen root last tables after name columns place catalogue parts is same catalogue_is =
+    ap₂ (λ (c : Catalogue) (pss : List (List Projected)). seen c pss) (at_own catalogue last (sym (ap (λ (c : Catalogue). c.last) catalogue_is))) (new_stores tables after place parts (bare (first_entry (super_name name) columns last) ∷ []) is same)
+  where
+    at_own : (c : Catalogue) (n : ℕ) → n ≡ c.last → c ≡ at_epoch n c
+    at_own c n same = ap (λ (k : ℕ). at_epoch k c) (sym same)
+
+pub create_held : (root : Catalogue) (last : ℕ) (tables after : List (List Loaded)) (name : List ℕ) (columns : List Column) (place : ℕ) (catalogue : Catalogue) (parts : List Loaded)
+    → after ≡ insert tables place parts → projections_of parts ≡ bare (first_entry (super_name name) columns last) ∷ [] → catalogue ≡ with_table last place (first_table name columns last) root
+    → IsHeld root tables → IsValid catalogue → IsHeld catalogue after
+create_held root last tables after name columns place catalogue parts is same catalogue_is held valid = record {
+  valid = valid;
+  entries =
+      sym (ap all_entries (new_stores tables after place parts (bare (first_entry (super_name name) columns last) ∷ []) is same))
+      ∙ map_insert (λ (ps : List Projected). map (λ p. p.entry) ps) (map projections_of tables) place (bare (first_entry (super_name name) columns last) ∷ [])
+      ∙ ap (λ (ess : List (List Projection)). insert ess place (first_entry (super_name name) columns last ∷ [])) held.entries
+      ∙ sym (map_insert (λ (t : kept.Table). t.projections) root.tables place (first_table name columns last))
+      ∙ sym (ap (λ (c : Catalogue). map (λ t. t.projections) c.tables) catalogue_is);
+}
+
+pub settled_done : {D : Type 0} (disk : Ghosts D) {old new : D} (was is other : Seen) (d e : Database) → is ≡ other → Makes disk disk_fault.Memory was is old new (Ok tt) d e → Makes disk disk_fault.Memory was other old new (Ok tt) d e
+settled_done disk {old} {new} was is other d e same made = subst (λ (s : Seen). Makes disk disk_fault.Memory was s old new (Ok tt) d e) same made
+
+-- ---- a moveout
+
+pub moved_stands : {D : Type 0} (disk : Ghosts D) {old mid : D} (root : Catalogue) (last : ℕ) (stores : List (List Projected)) (i : ℕ) (d : Database) → i < length stores → map (λ ps. map (λ p. p.entry) ps) stores ≡ map (λ t. t.projections) root.tables
+    → IsValid root → (stands : Stands disk (seen (at_epoch last root) stores) old d) → Moved disk (DataFrom root.next) NoName old mid
+    → ((q : ℕ) → DataFrom root.next q → IsSpare stands.root q)
+moved_stands disk root last stores i d lt entries valid stands moved =
+    undrawn root last stands.root stands.is_root (λ none. some_parts stores i lt (no_tables stores root.tables entries none)) valid
+  where
+    no_tables : (pss : List (List Projected)) (ts : List kept.Table) → map (λ ps. map (λ p. p.entry) ps) pss ≡ map (λ t. t.projections) ts → ts ≡ [] → pss ≡ []
+    no_tables [] ts same none = refl
+    no_tables (ps ∷ pss) [] same none = absurd (cc)
+    no_tables (ps ∷ pss) (t ∷ ts) same none = absurd (cc)
+
+pub rewritten_are : ReadIsStored → {D : Type 0} (disk : Ghosts D) {old mid : D} (root c : Catalogue) (last : ℕ) (stores : List (List Projected)) (d : Database) (version i j : ℕ) (parts : List Projected) (p new : Projected)
+    → i < length stores → parts ≡ get_or stores i parts → j < length parts → p ≡ get_or parts j p → p.entry.fresh ≡ true
+    → map (λ ps. map (λ x. x.entry) ps) stores ≡ map (λ t. t.projections) root.tables → IsValid root
+    → (stands : Stands disk (seen (at_epoch last root) stores) old d) → (then : Stands disk (seen (at_epoch last root) stores) mid d)
+    → IsRewrittenFrom last root i j version c p new (disk.holds old) (disk.holds mid)
+    → AreDatabase then.files c (change_at i (change_at j (λ x. new)) stores) (moved_at i j d)
+rewritten_are read {D} disk {old} {mid} root c last stores d version i j parts p new lt parts_are below p_is fresh entries valid stands then is =
+    subst (λ (k : Catalogue). AreDatabase then.files k (change_at i (change_at j (λ x. new)) stores) (moved_at i j d)) (sym is.catalogue)
+    (moved_are read stands.files then.files (at_epoch last root) stores d version root.next version i j parts p new lt parts_are below p_is fresh is.entry (is.loaded then.files then.quiet.told_is)
+    (is.rows stands.files then.files stands.quiet.told_is then.quiet.told_is (entry_below root stores i j parts p valid entries lt parts_are below p_is)) stands.are then.are)
+
+pub move_makes : {D : Type 0} (disk : Ghosts D) {old mid new : D} (was is : Seen) (result : Result (Unit {0}) DiskFault) (d e : Database) → (stands : Stands disk was old d) → {W : ℕ → Type 0} → ((q : ℕ) → W q → IsSpare stands.root q)
+    → Moved disk W NoName old mid → Makes disk disk_fault.Memory was is mid new result d e → Makes disk disk_fault.Memory was is old new result d e
+move_makes disk {old} {mid} {new} was is result d e stands {W} spare moved made = record {
+  done = made.done;
+  undone = made.undone;
+  any_moment = leaves_join disk (leaves_wider disk (λ x reopens. inl reopens) (moved_reopens disk {W = W} {R = NoName} was.catalogue was.stores d stands spare (λ q no. absurd no) moved)) made.any_moment;
+}
+
+pub store_makes : {D : Type 0} (disk : Ghosts D) {old new : D} (was is other : Seen) (f : DiskFault) (d e : Database) → Makes disk disk_fault.Memory was is old new (Err f) d e → Makes disk fault.Memory was other old new (Err (store_fault f)) d e
+store_makes disk was is other f d e made = record { done = tt; undone = λ s. made.undone (short_is f s); any_moment = made.any_moment }
+
+pub store_done : {D : Type 0} (disk : Ghosts D) {old new : D} (was is other : Seen) (d e : Database) → is ≡ other → Makes disk disk_fault.Memory was is old new (Ok tt) d e → Makes disk fault.Memory was other old new (Ok tt) d e
+store_done disk {old} {new} was is other d e same made = record { done = subst (λ (s : Seen). Stands disk s new e) same made.done; undone = λ s. absurd (cc); any_moment = made.any_moment }

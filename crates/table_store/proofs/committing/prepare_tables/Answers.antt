@@ -1,0 +1,71 @@
+use Rattle.std.proofs.Common.{◌≡◌, ◌<◌, ◌+◌, ◌++◌, List, [], ◌∷◌, length, map, set, take, get_or, refl, rules, sym, ◌∙◌, ap, subst, arith}
+use Rattle.std.specs.Prelude.{Option}
+use Rattle.std.specs.List.{AllZip}
+use Rattle.std.proofs.lemmas.List.{length-set}
+use Rattle.col_disk.proofs.Moving.{moved_join, moved_none}
+use Rattle.col_value.specs.declared.value.Value.{Value}
+use Rattle.col_value.specs.declared.row.Asked.{Asked}
+use Rattle.db_model.specs.State.{pending_rows, pending_deletes}
+use Rattle.stored_rows.specs.Stored.{Projected}
+use Rattle.proj_store.specs.Loaded.{Loaded}
+use Rattle.table_store.specs.Held.{projections_of}
+use Rattle.table_store.specs.Changing.{Ready, CanApply, IsReady}
+use Rattle.table_store.specs.Committing.{AreReady}
+use Rattle.table_store.proofs.Loops.{fits_more, map_kept}
+use Rattle.table_store.proofs.Readied.{ready_more}
+use Rattle.table_store.proofs.committing.prepare_tables.Goals as goal
+
+pub loop-i-init : goal.loop-i-init
+loop-i-init g c = record {
+  long = refl;
+  prepared = λ m told. subst (λ (os : List (List (Option Ready))). AreReady m c.args.changes.now [] [] os) (sym c.new-ready.ensures.items) tt;
+  ready = subst (λ (os : List (List (Option Ready))). AllZip (AllZip CanApply) os []) (sym c.new-ready.ensures.items) tt;
+  stored = refl;
+  kept = refl;
+  moved = moved_none g.D.Disk c.args.disk.now;
+}
+
+pub returns-in-Err-clause-stored : goal.returns-in-Err-clause-stored
+returns-in-Err-clause-stored g c =
+    let lt : c.loop-i.i < length c.loop-i.tables = omega (arith, c.loop-i-test.true, c.loop-i.invariant.long, c.requires) in
+    map_kept projections_of c.loop-i.tables c.loop-i.i c.prepare.new.self c.index-tables-i.result lt c.index-tables-i.is (c.prepare.ensures.stored ∙ ap projections_of (sym c.index-tables-i.is)) ∙ c.loop-i.invariant.stored
+
+pub returns-in-Err-clause-moved : goal.returns-in-Err-clause-moved
+returns-in-Err-clause-moved g c = moved_join g.D.Disk c.loop-i.invariant.moved c.prepare.ensures.moved
+
+pub returns-in-Err-push-clause-stored : goal.returns-in-Err-push-clause-stored
+returns-in-Err-push-clause-stored g c =
+    let lt : c.loop-i.i < length c.loop-i.tables = omega (arith, c.loop-i-test.true, c.loop-i.invariant.long, c.requires) in
+    map_kept projections_of c.loop-i.tables c.loop-i.i c.prepare.new.self c.index-tables-i.result lt c.index-tables-i.is (c.prepare.ensures.stored ∙ ap projections_of (sym c.index-tables-i.is)) ∙ c.loop-i.invariant.stored
+
+pub returns-in-Err-push-clause-moved : goal.returns-in-Err-push-clause-moved
+returns-in-Err-push-clause-moved g c = moved_join g.D.Disk c.loop-i.invariant.moved c.prepare.ensures.moved
+
+pub loop-i-preserved : goal.loop-i-preserved
+loop-i-preserved g c =
+    let xs = c.loop-i.tables in
+    let i = c.loop-i.i in
+    let lt : i < length xs = omega (arith, c.loop-i-test.true, c.loop-i.invariant.long, c.requires) in
+    let old = c.index-tables-i.result in
+    let new = c.prepare.new.self in
+    let entry = c.index-entries-i.result in
+    let same = map_kept projections_of xs i new old lt c.index-tables-i.is (c.prepare.ensures.stored ∙ ap projections_of (sym c.index-tables-i.is)) in
+    let rows : c.pending.result.0.now ≡ pending_rows entry.name c.args.changes.now = c.pending.ensures.rows in
+    let deletes : c.pending.result.1.now ≡ pending_deletes entry.name c.args.changes.now = c.pending.ensures.deletes in
+    record {
+      long = length-set xs i new ∙ c.loop-i.invariant.long;
+      prepared = λ m told.
+          subst (λ (os : List (List (Option Ready))). AreReady m c.args.changes.now (take (i + 1) c.args.entries.now) (take (i + 1) (map projections_of c.args.tables.now)) os) (sym c.in-Ok-push.ensures.items)
+          (subst (λ (ps : List (List Projected)). AreReady m c.args.changes.now (take (i + 1) c.args.entries.now) (take (i + 1) ps) (c.loop-i.ready.items ++ c.in-Ok.parts ∷ [])) c.loop-i.invariant.stored
+          (ready_more m c.args.changes.now projections_of c.args.entries.now xs i entry old c.loop-i.ready.items c.in-Ok.parts c.loop-i-test.true lt c.index-entries-i.is c.index-tables-i.is
+          (subst (λ (ps : List (List Projected)). AreReady m c.args.changes.now (take i c.args.entries.now) (take i ps) c.loop-i.ready.items) (sym c.loop-i.invariant.stored) (c.loop-i.invariant.prepared m told))
+          (subst (λ (ps : List Loaded). AllZip (IsReady m (pending_rows entry.name c.args.changes.now) (pending_deletes entry.name c.args.changes.now)) (projections_of ps) c.in-Ok.parts) (sym c.index-tables-i.is)
+          (subst (λ (ds : List Asked). AllZip (IsReady m (pending_rows entry.name c.args.changes.now) ds) (projections_of (get_or xs i old)) c.in-Ok.parts) deletes
+          (subst (λ (rs : List (List Value)). AllZip (IsReady m rs c.pending.result.1.now) (projections_of (get_or xs i old)) c.in-Ok.parts) rows (c.in-Ok.ensures.prepared m (c.loop-i.invariant.kept ∙ told)))))));
+      ready =
+          subst (λ (os : List (List (Option Ready))). AllZip (AllZip CanApply) os (take (i + 1) (set xs i new))) (sym c.in-Ok-push.ensures.items)
+          (fits_more (AllZip CanApply) xs i new c.loop-i.ready.items c.in-Ok.parts lt c.loop-i.invariant.ready c.in-Ok.ensures.ready);
+      stored = same ∙ c.loop-i.invariant.stored;
+      kept = c.prepare.ensures.kept ∙ c.loop-i.invariant.kept;
+      moved = moved_join g.D.Disk c.loop-i.invariant.moved c.prepare.ensures.moved;
+    }

@@ -1,0 +1,61 @@
+use Rattle.std.proofs.Common.{◌≡◌, ◌<◌, ◌+◌, ◌++◌, List, [], ◌∷◌, length, set, take, refl, rules, sym, ◌∙◌, ap, subst, arith}
+use Rattle.std.specs.Prelude.{Option}
+use Rattle.std.specs.List.{AllZip}
+use Rattle.std.proofs.lemmas.List.{length-set}
+use Rattle.col_disk.proofs.Moving.{moved_join, moved_none}
+use Rattle.stored_rows.specs.Stored.{Projected}
+use Rattle.proj_store.specs.Loaded.{Loaded}
+use Rattle.table_store.specs.Held.{projections_of}
+use Rattle.table_store.specs.Changing.{Ready, CanApply, IsReady}
+use Rattle.table_store.proofs.Loops.{made_more, fits_more, map_kept}
+use Rattle.table_store.proofs.parts.prepare_each.Goals as goal
+
+pub loop-i-init : goal.loop-i-init
+loop-i-init g c = record {
+  long = refl;
+  prepared = λ m told. subst (λ (os : List (Option Ready)). AllZip (IsReady m c.args.rows.now c.args.deletes.now) [] os) (sym c.new-ready.ensures.items) tt;
+  ready = subst (λ (os : List (Option Ready)). AllZip CanApply os []) (sym c.new-ready.ensures.items) tt;
+  stored = refl;
+  kept = refl;
+  moved = moved_none g.D.Disk c.args.disk.now;
+}
+
+pub returns-in-Err-clause-stored : goal.returns-in-Err-clause-stored
+returns-in-Err-clause-stored g c =
+    let lt : c.loop-i.i < length c.loop-i.stores = omega (arith, c.loop-i-test.true, c.loop-i.invariant.long) in
+    map_kept (λ (p : Loaded). p.stored) c.loop-i.stores c.loop-i.i c.prepare_part.new.store c.index-stores-i.result lt c.index-stores-i.is (c.prepare_part.ensures.stored ∙ ap (λ (p : Loaded). p.stored) (sym c.index-stores-i.is)) ∙ c.loop-i.invariant.stored
+
+pub returns-in-Err-clause-moved : goal.returns-in-Err-clause-moved
+returns-in-Err-clause-moved g c = moved_join g.D.Disk c.loop-i.invariant.moved c.prepare_part.ensures.moved
+
+pub returns-in-Err-push-clause-stored : goal.returns-in-Err-push-clause-stored
+returns-in-Err-push-clause-stored g c =
+    let lt : c.loop-i.i < length c.loop-i.stores = omega (arith, c.loop-i-test.true, c.loop-i.invariant.long) in
+    map_kept (λ (p : Loaded). p.stored) c.loop-i.stores c.loop-i.i c.prepare_part.new.store c.index-stores-i.result lt c.index-stores-i.is (c.prepare_part.ensures.stored ∙ ap (λ (p : Loaded). p.stored) (sym c.index-stores-i.is)) ∙ c.loop-i.invariant.stored
+
+pub returns-in-Err-push-clause-moved : goal.returns-in-Err-push-clause-moved
+returns-in-Err-push-clause-moved g c = moved_join g.D.Disk c.loop-i.invariant.moved c.prepare_part.ensures.moved
+
+pub loop-i-preserved : goal.loop-i-preserved
+loop-i-preserved g c =
+    let xs = c.loop-i.stores in
+    let i = c.loop-i.i in
+    let lt : i < length xs = omega (arith, c.loop-i-test.true, c.loop-i.invariant.long) in
+    let old = c.index-stores-i.result in
+    let new = c.prepare_part.new.store in
+    let kept = map_kept (λ (p : Loaded). p.stored) xs i new old lt c.index-stores-i.is (c.prepare_part.ensures.stored ∙ ap (λ (p : Loaded). p.stored) (sym c.index-stores-i.is)) in
+    record {
+      long = length-set xs i new ∙ c.loop-i.invariant.long;
+      prepared = λ m told.
+          subst (λ (os : List (Option Ready)). AllZip (IsReady m c.args.rows.now c.args.deletes.now) (take (i + 1) (projections_of c.args.stores.now)) os) (sym c.in-Ok-push.ensures.items)
+          (subst (λ (ps : List Projected). AllZip (IsReady m c.args.rows.now c.args.deletes.now) (take (i + 1) ps) (c.loop-i.ready.items ++ c.in-Ok.part ∷ [])) c.loop-i.invariant.stored
+          (made_more (λ (p : Loaded). p.stored) (IsReady m c.args.rows.now c.args.deletes.now) xs i old c.loop-i.ready.items c.in-Ok.part lt c.index-stores-i.is
+          (subst (λ (ps : List Projected). AllZip (IsReady m c.args.rows.now c.args.deletes.now) (take i ps) c.loop-i.ready.items) (sym c.loop-i.invariant.stored) (c.loop-i.invariant.prepared m told))
+          (subst (λ (p : Loaded). IsReady m c.args.rows.now c.args.deletes.now p.stored c.in-Ok.part) (sym c.index-stores-i.is) (c.in-Ok.ensures.prepared m (c.loop-i.invariant.kept ∙ told)))));
+      ready =
+          subst (λ (os : List (Option Ready)). AllZip CanApply os (take (i + 1) (set xs i new))) (sym c.in-Ok-push.ensures.items)
+          (fits_more CanApply xs i new c.loop-i.ready.items c.in-Ok.part lt c.loop-i.invariant.ready c.in-Ok.ensures.ready);
+      stored = kept ∙ c.loop-i.invariant.stored;
+      kept = c.prepare_part.ensures.kept ∙ c.loop-i.invariant.kept;
+      moved = moved_join g.D.Disk c.loop-i.invariant.moved c.prepare_part.ensures.moved;
+    }

@@ -1,0 +1,24 @@
+use Rattle.std.proofs.Common.{◌+◌}
+use Rattle.col_disk.specs.declared.disk.StoreFault.TheVariants as fault
+use Rattle.col_disk.proofs.Moving.{moved_none}
+use Rattle.db_model.specs.State.{committed}
+use Rattle.table_store.proofs.Standing.{reads_only, held_still, held_applied, commit_done}
+use Rattle.table_store.proofs.store.TableStore.commit.Goals as goal
+
+pub returns-then-self-ge-MOST_EPOCHS-clause-made : goal.returns-then-self-ge-MOST_EPOCHS-clause-made
+returns-then-self-ge-MOST_EPOCHS-clause-made g c = λ d stands session has sound. reads_only g.D.Disk c.args.self.now c.args.self.now fault.Memory d (committed c.args.changes.now d) stands (moved_none g.D.Disk c.args.disk.now)
+
+pub invariant_of-self : goal.invariant_of-self
+invariant_of-self g c = held_still c.self.inside.root c.self.inside.tables.items c.prepare_all.new.tables.items c.prepare_all.ensures.stored c.self.invariant
+
+pub returns-in-Err-clause-made : goal.returns-in-Err-clause-made
+returns-in-Err-clause-made g c = λ d stands session has sound. reads_only g.D.Disk c.args.self.now _ c.in-Err.fault d (committed c.args.changes.now d) stands c.prepare_all.ensures.moved
+
+pub invariant_of-self-2 : goal.invariant_of-self-2
+invariant_of-self-2 g c =
+    held_applied c.self.inside.root (c.self.inside.last + 1) c.in-Ok.ready.items c.self.inside.tables.items c.prepare_all.new.tables.items c.apply_all.new.tables.items c.prepare_all.ensures.stored c.apply_all.ensures c.self.invariant
+
+pub returns-clause-made : goal.returns-clause-made
+returns-clause-made g c = λ d stands session has sound.
+    commit_done g.D.Disk c.self.inside.root c.self.inside.last c.self.inside.tables.items c.prepare_all.new.tables.items c.apply_all.new.tables.items c.as_slice.result.now c.in-Ok.ready.items c.args.self.now d c.args.changes.now
+    c.self.view_is c.as_slice.ensures c.prepare_all.ensures.stored c.apply_all.ensures stands session has sound c.prepare_all.ensures.kept c.prepare_all.ensures.moved c.in-Ok.ensures.prepared

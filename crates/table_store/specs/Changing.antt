@@ -1,0 +1,49 @@
+-- What a commit does to projections.
+use Rattle.std.specs.Prelude.{ℕ, ◌≡◌, ◌≤◌, List, [], ◌∷◌, length, map, Option, Some, None, IsSomeAnd}
+use Rattle.std.specs.Bool.{OnTrue, OnFalse}
+use Rattle.common_laws.specs.Maps.{Contents}
+use Rattle.col_value.specs.declared.value.Value.{Value}
+use Rattle.col_value.specs.declared.row.Asked.{Asked}
+use Rattle.col_value.specs.Order.{projected}
+use Rattle.row_history.specs.History.{inserted_at, asked_on}
+use Rattle.stored_rows.specs.Stored.{Projected, with_rows}
+use Rattle.proj_store.specs.Loaded.{Loaded}
+use Rattle.proj_store.specs.Marking.{Places, IsPrepared, CanMark, with_marks}
+use Rattle.folder_model.specs.Projections.{ordinals}
+
+-- rows that come, and the places of rows that are deleted
+pub record Ready : Type 0 where
+  pub rows : List (List Value)
+  pub marks : Places
+
+-- a projection after a commit; nothing is done to one that isn't up to date
+abbrev pub applied : ℕ → Option Ready → Projected → Projected
+applied epoch None p = p
+applied epoch (Some r) p = with_rows (map (inserted_at epoch) r.rows) (with_marks epoch r.marks p)
+
+-- there is room for the rows and the marks
+abbrev pub CanApply : Option Ready → Loaded → Type 0
+CanApply None p = Unit {0}
+CanApply (Some r) p = CanMark r.marks p × (length r.rows ≤ p.spare)
+
+-- for these rows and deletes of the table, with the projection's columns
+pub record IsReadyWith (m : Contents) (rows : List (List Value)) (deletes : List Asked) (p : Projected) (r : Ready) : Type 0 where
+  pub rows_are : r.rows ≡ map (λ row. projected row (ordinals p.entry)) rows
+  pub marks_are : IsPrepared m p (map (asked_on (ordinals p.entry)) deletes) r.marks
+
+pub record IsReady (m : Contents) (rows : List (List Value)) (deletes : List Asked) (p : Projected) (o : Option Ready) : Type 0 where
+  pub fresh : OnTrue p.entry.fresh (IsSomeAnd o (IsReadyWith m rows deletes p))
+  pub stale : OnFalse p.entry.fresh (o ≡ None)
+
+-- each beside the one that it belongs to; the others stay
+abbrev pub zipped : {Y P : Type 0} → (Y → P → P) → List Y → List P → List P
+zipped g [] ps = ps
+zipped g (y ∷ ys) [] = []
+zipped g (y ∷ ys) (p ∷ ps) = g y p ∷ zipped g ys ps
+
+-- what is made ready beside each projection of a table, and that beside each table
+abbrev pub all_applied : ℕ → List (Option Ready) → List Projected → List Projected
+all_applied epoch ready ps = zipped (applied epoch) ready ps
+
+abbrev pub tables_applied : ℕ → List (List (Option Ready)) → List (List Projected) → List (List Projected)
+tables_applied epoch ready pss = zipped (all_applied epoch) ready pss

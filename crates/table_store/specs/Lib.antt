@@ -1,0 +1,5 @@
+pub mod Held
+pub mod Creating
+pub mod Changing
+pub mod Committing
+pub mod Moving

@@ -1,0 +1,98 @@
+//! A session's changes, made ready for all tables and then done.
+
+ghost use Rattle.std.specs.Prelude.{◌≡◌, Some, length, map, IfOk};
+ghost use Rattle.std.specs.List.{AllZip};
+ghost use Rattle.common_laws.specs.Causes.{HasCause};
+ghost use Rattle.common_laws.specs.Maps.{Contents};
+ghost use Rattle.col_disk.specs.Moved.{Moved, NoName};
+ghost use Rattle.db_model.specs.State.{pending_rows, pending_deletes};
+ghost use Rattle.table_store.specs.Held.{projections_of};
+ghost use Rattle.table_store.specs.Changing.{CanApply, tables_applied};
+ghost use Rattle.table_store.specs.Committing.{AreReady};
+
+use crate::part::ReadyPart;
+use crate::parts::Parts;
+use catalog_types::Table;
+use col_disk::{Disk, StoreFault};
+use col_value::{Asked, List, Name, Row};
+use std::alloc::Global;
+use txn_core::Session;
+
+/// The rows and the deletes that are pending in the table of a name.
+fn pending<'a>(changes: &'a Session, name: &Name) -> (&'a [Row], &'a [Asked])
+    ensures rows { result.0.now ≡ pending_rows name.now changes.now }
+    ensures deletes { result.1.now ≡ pending_deletes name.now changes.now }
+{
+    match changes.on(name.as_slice()) {
+        Some(changes) => (changes.rows(), changes.deletes()),
+        None => (&[], &[]),
+    }
+}
+
+/// Makes ready what a commit of a session's changes does to each projection of each table; nothing changes but the room.
+fn prepare_tables<D: Disk>(
+    alloc: Global,
+    disk: &mut D,
+    tables: &mut [Parts],
+    entries: &[Table],
+    changes: &Session,
+) -> Result<Vec<List<Option<ReadyPart>>>, StoreFault>
+    requires { length entries.now ≡ length tables.old }
+    ensures prepared { IfOk result (λ v. (m : Contents) → D.holds disk.old ≡ Some m → AreReady m changes.now entries.now (map projections_of tables.old) v.items) }
+    ensures ready { IfOk result (λ v. AllZip (AllZip CanApply) v.items tables.new) }
+    ensures stored { map projections_of tables.new ≡ map projections_of tables.old }
+    ensures kept { D.holds disk.new ≡ D.holds disk.old }
+    ensures moved { Moved ⟦<D as Disk>⟧ NoName NoName disk.old disk.new }
+    ensures cause { HasCause StoreFault.Disk (D.faults disk.old) (D.faults disk.new) result }
+{
+    let mut ready = Vec::new(alloc);
+    for (i, entry) in entries.iter().enumerate() {
+        let (rows, deletes) = pending(changes, &entry.name);
+        let parts = match tables[i].prepare(alloc, disk, rows, deletes) {
+            Ok(parts) => parts,
+            Err(fault) => return Err(fault),
+        };
+        match ready.push(parts) {
+            Ok(()) => {}
+            Err(_) => return Err(StoreFault::Memory),
+        }
+    }
+    Ok(ready)
+}
+
+/// Does to each table what was made ready, at an epoch. It takes no memory.
+fn apply_tables(tables: &mut [Parts], ready: Vec<List<Option<ReadyPart>>>, epoch: u64)
+    requires { AllZip (AllZip CanApply) ready.items tables.old }
+    ensures { map projections_of tables.new ≡ tables_applied epoch ready.items (map projections_of tables.old) }
+{
+    let mut rest = ready;
+    while let Some(parts) = rest.pop() {
+        tables[rest.len()].apply(parts, epoch);
+    }
+}
+
+/// The same over the tables of a store.
+pub fn prepare_all<D: Disk>(
+    alloc: Global,
+    disk: &mut D,
+    tables: &mut Vec<Parts>,
+    entries: &[Table],
+    changes: &Session,
+) -> Result<Vec<List<Option<ReadyPart>>>, StoreFault>
+    requires { length entries.now ≡ length tables.old.items }
+    ensures prepared { IfOk result (λ v. (m : Contents) → D.holds disk.old ≡ Some m → AreReady m changes.now entries.now (map projections_of tables.old.items) v.items) }
+    ensures ready { IfOk result (λ v. AllZip (AllZip CanApply) v.items tables.new.items) }
+    ensures stored { map projections_of tables.new.items ≡ map projections_of tables.old.items }
+    ensures kept { D.holds disk.new ≡ D.holds disk.old }
+    ensures moved { Moved ⟦<D as Disk>⟧ NoName NoName disk.old disk.new }
+    ensures cause { HasCause StoreFault.Disk (D.faults disk.old) (D.faults disk.new) result }
+{
+    prepare_tables(alloc, disk, tables.as_mut_slice(), entries, changes)
+}
+
+pub fn apply_all(tables: &mut Vec<Parts>, ready: Vec<List<Option<ReadyPart>>>, epoch: u64)
+    requires { AllZip (AllZip CanApply) ready.items tables.old.items }
+    ensures { map projections_of tables.new.items ≡ tables_applied epoch ready.items (map projections_of tables.old.items) }
+{
+    apply_tables(tables.as_mut_slice(), ready, epoch);
+}

@@ -1,0 +1,17 @@
+//! Tables as their projections, over a disk.
+//!
+//! A `TableStore` is seen as the catalogue that the disk opens to, with the newest closed epoch, and the projections of each table with
+//! what is in memory of them. Over a disk it stands for a database (`Stands` of `store_commit`); each call says which database it makes of
+//! that (`Makes`): then, where memory was short, and whatever a crash left at any moment of it.
+#![tactic(auto)]
+
+mod committing;
+mod creating;
+mod moving;
+mod part;
+mod parts;
+mod store;
+
+pub use moving::entry_copy;
+pub use parts::Parts;
+pub use store::TableStore;

@@ -1,0 +1,135 @@
+//! The projections of a table.
+
+ghost use Rattle.std.specs.Prelude.{◌≡◌, ◌<◌, ◌∷◌, [], Some, length, slice_set, IfOk};
+ghost use Rattle.std.specs.List.{All, AllZip};
+ghost use Rattle.common_laws.specs.Causes.{HasCause};
+ghost use Rattle.common_laws.specs.Maps.{Contents};
+ghost use Rattle.col_disk.specs.Moved.{Moved, NoName};
+ghost use Rattle.table_store.specs.Held.{projections_of};
+ghost use Rattle.table_store.specs.Creating.{bare};
+ghost use Rattle.table_store.specs.Changing.{all_applied, CanApply, IsReady};
+
+use crate::part::{ReadyPart, apply_part, prepare_part};
+use catalog_types::Projection;
+use col_disk::{Disk, StoreFault};
+use col_value::{Asked, List, Row};
+use proj_store::ProjStore;
+use std::alloc::{AllocError, Global};
+use std::marker::Model;
+
+/// The projections of a table, in the catalogue's order.
+#[derive(Drop)]
+pub struct Parts {
+    projections: Vec<ProjStore>,
+}
+
+impl Model for Parts {
+    ghost use Rattle.std.specs.Prelude.{List};
+    ghost use Rattle.proj_store.specs.Loaded.{Loaded};
+
+    ghost Value = { List Loaded };
+
+    ghost view = { λ t. t.projections.items };
+}
+
+impl Parts {
+    /// These projections. It takes no memory.
+    pub fn new(projections: Vec<ProjStore>) -> Parts
+        ensures { result ≡ projections.items }
+    {
+        Parts { projections }
+    }
+
+    /// The one projection of an entry without containers, without rows in memory.
+    pub fn bare(alloc: Global, entry: Projection) -> Result<Parts, AllocError>
+        requires none { entry.containers ≡ [] }
+        requires sort { All (λ i. i < length entry.columns) entry.sort }
+        ensures { IfOk result (λ t. projections_of t ≡ bare entry ∷ []) }
+    {
+        let mut projections = Vec::with_capacity(alloc, 1)?;
+        projections.push(ProjStore::bare(alloc, entry))?;
+        Ok(Parts { projections })
+    }
+
+    /// The projections.
+    pub fn as_slice(&self) -> &[ProjStore]
+        ensures { result.now ≡ self.now }
+    {
+        self.projections.as_slice()
+    }
+
+    /// The projection at a place is another one from now on. It takes no memory.
+    pub fn replace(&mut self, place: usize, projection: ProjStore)
+        requires { place < length self.old }
+        ensures { self.new ≡ slice_set self.old place projection }
+    {
+        self.projections[place] = projection;
+    }
+
+    /// Makes ready what a commit of these rows and deletes of the table does to each projection; nothing changes but the room.
+    pub fn prepare<D: Disk>(
+        &mut self,
+        alloc: Global,
+        disk: &mut D,
+        rows: &[Row],
+        deletes: &[Asked],
+    ) -> Result<List<Option<ReadyPart>>, StoreFault>
+        ensures prepared { IfOk result (λ v. (m : Contents) → D.holds disk.old ≡ Some m → AllZip (IsReady m rows.now deletes.now) (projections_of self.old) v) }
+        ensures ready { IfOk result (λ v. AllZip CanApply v self.new) }
+        ensures stored { projections_of self.new ≡ projections_of self.old }
+        ensures kept { D.holds disk.new ≡ D.holds disk.old }
+        ensures moved { Moved ⟦<D as Disk>⟧ NoName NoName disk.old disk.new }
+        ensures cause { HasCause StoreFault.Disk (D.faults disk.old) (D.faults disk.new) result }
+    {
+        match prepare_each(alloc, disk, self.projections.as_mut_slice(), rows, deletes) {
+            Ok(ready) => Ok(List::new(ready)),
+            Err(fault) => Err(fault),
+        }
+    }
+
+    /// Does to each projection what was made ready, at an epoch. It takes no memory.
+    pub fn apply(&mut self, ready: List<Option<ReadyPart>>, epoch: u64)
+        requires { AllZip CanApply ready self.old }
+        ensures { projections_of self.new ≡ all_applied epoch ready (projections_of self.old) }
+    {
+        apply_each(self.projections.as_mut_slice(), ready.into_vec(), epoch);
+    }
+}
+
+fn prepare_each<D: Disk>(
+    alloc: Global,
+    disk: &mut D,
+    stores: &mut [ProjStore],
+    rows: &[Row],
+    deletes: &[Asked],
+) -> Result<Vec<Option<ReadyPart>>, StoreFault>
+    ensures prepared { IfOk result (λ v. (m : Contents) → D.holds disk.old ≡ Some m → AllZip (IsReady m rows.now deletes.now) (projections_of stores.old) v.items) }
+    ensures ready { IfOk result (λ v. AllZip CanApply v.items stores.new) }
+    ensures stored { projections_of stores.new ≡ projections_of stores.old }
+    ensures kept { D.holds disk.new ≡ D.holds disk.old }
+    ensures moved { Moved ⟦<D as Disk>⟧ NoName NoName disk.old disk.new }
+    ensures cause { HasCause StoreFault.Disk (D.faults disk.old) (D.faults disk.new) result }
+{
+    let mut ready = Vec::new(alloc);
+    for i in 0..stores.len() {
+        let part = match prepare_part(alloc, disk, &mut stores[i], rows, deletes) {
+            Ok(part) => part,
+            Err(fault) => return Err(fault),
+        };
+        match ready.push(part) {
+            Ok(()) => {}
+            Err(_) => return Err(StoreFault::Memory),
+        }
+    }
+    Ok(ready)
+}
+
+fn apply_each(stores: &mut [ProjStore], ready: Vec<Option<ReadyPart>>, epoch: u64)
+    requires { AllZip CanApply ready.items stores.old }
+    ensures { projections_of stores.new ≡ all_applied epoch ready.items (projections_of stores.old) }
+{
+    let mut rest = ready;
+    while let Some(part) = rest.pop() {
+        apply_part(&mut stores[rest.len()], part, epoch);
+    }
+}

@@ -1,0 +1,304 @@
+//! The store, and its calls.
+
+ghost use Rattle.std.specs.Prelude.{◌≡◌, ◌≤◌, ◌<◌, ◌^◌, ◌∷◌, [], true, map, length, vec_len, vec_capacity, IfOk};
+ghost use Rattle.std.specs.List.{insert};
+ghost use Rattle.common_laws.specs.Causes.{HasCause};
+ghost use Rattle.col_disk.specs.Moved.{Moved, NoName};
+ghost use Rattle.col_disk.specs.declared.disk.DiskFault.TheVariants.{Memory};
+ghost use Rattle.col_disk.specs.declared.disk.StoreFault.TheVariants.{Memory as no_memory};
+ghost use Rattle.db_model.specs.Database.{Database, super_name};
+ghost use Rattle.db_model.specs.State.{committed, has_changes};
+ghost use Rattle.db_model.specs.Sound.{IsSoundDatabase, IsSoundSession};
+ghost use Rattle.store_commit.specs.Seen.{Stands, seen};
+ghost use Rattle.store_commit.specs.Making.{Makes};
+ghost use Rattle.container_writer.specs.Writing.{DataFrom};
+ghost use Rattle.sound_laws.specs.Moves.{moved_at};
+ghost use Rattle.table_store.specs.Held.{at_epoch, projections_of, IsHeld};
+ghost use Rattle.table_store.specs.Moving.{IsFreshAt, IsRewritten};
+ghost use Rattle.table_store.specs.Creating.{bare, created, first_entry, first_table, place_of, with_table};
+
+use crate::committing::{apply_all, prepare_all};
+use crate::moving::{entry_copy, with_entry_at};
+use crate::creating::{first_entry, first_table, place_for, projection_name, with_table};
+use crate::parts::Parts;
+use catalog_types::Catalogue;
+use col_disk::{Disk, DiskFault, StoreFault};
+use col_value::{Column, List, Name};
+use moveout_job::{MovedOut, moveout};
+use proj_store::ProjStore;
+use std::alloc::{AllocError, Global};
+use std::marker::Model;
+use store_commit::settle;
+use stored_rows::what_is_read_is_stored;
+use txn_core::Session;
+
+// The last epoch that can be closed.
+const MOST_EPOCHS: u64 = i64::MAX as u64;
+
+// Numbers are drawn below this one.
+const MOST_NUMBERS: u64 = 1 << 61;
+
+/// The tables of a folder: the catalogue that it opens to, the newest closed epoch, and the projections of each table.
+#[derive(Drop)]
+pub struct TableStore {
+    root: Catalogue,
+    last: u64,
+    tables: Vec<Parts>,
+}
+
+impl Model for TableStore {
+    ghost use Rattle.store_commit.specs.Seen.{Seen};
+    ghost use Rattle.table_store.specs.Held.{seen_of, IsHeld};
+
+    ghost Value = { Seen };
+
+    ghost view = { λ t. seen_of t.root t.last t.tables.items };
+
+    ghost invariant = { λ t. IsHeld t.root t.tables.items };
+}
+
+/// A new table before it is committed: the catalogue with it, its place there, and its projection.
+#[derive(Drop)]
+struct Ready {
+    catalogue: Catalogue,
+    place: usize,
+    parts: Parts,
+}
+
+fn prepare_table(
+    alloc: Global,
+    root: &Catalogue,
+    last: u64,
+    name: Name,
+    columns: List<Column>,
+) -> Result<Ready, AllocError>
+    requires next { root.now.next < 2 ^ 62 }
+    ensures place { IfOk result (λ r. r.place ≡ place_of name (map (λ t. t.name) root.now.tables)) }
+    ensures within { IfOk result (λ r. r.place ≤ length root.now.tables) }
+    ensures catalogue { IfOk result (λ r. r.catalogue ≡ with_table last r.place (first_table name columns last) root.now) }
+    ensures parts { IfOk result (λ r. projections_of r.parts ≡ bare (first_entry (super_name name) columns last) ∷ []) }
+{
+    let place = place_for(root.tables.as_slice(), &name);
+    let projection = projection_name(alloc, &name)?;
+    let parts = Parts::bare(
+        alloc,
+        first_entry(alloc, projection, columns.as_slice(), last)?,
+    )?;
+    let table = first_table(alloc, name, columns, last)?;
+    let catalogue = with_table(alloc, root, last, place, table)?;
+    Ok(Ready {
+        catalogue,
+        place,
+        parts,
+    })
+}
+
+/// The projections of a table take their place, for which there is room.
+fn put_parts(tables: &mut Vec<Parts>, place: usize, parts: Parts)
+    requires place { place ≤ length tables.old.items }
+    requires room { vec_len tables.old < vec_capacity tables.old }
+    ensures { tables.new.items ≡ insert tables.old.items place parts }
+{
+    match tables.insert(place, parts) {
+        Ok(()) => {}
+        Err(_) => {}
+    }
+}
+
+/// A projection that was moved out, before it is committed: the catalogue with its new entry, the version of that, and the projection.
+#[derive(Drop)]
+struct Rewritten {
+    catalogue: Catalogue,
+    version: u64,
+    store: ProjStore,
+}
+
+fn prepare_move<D: Disk>(
+    alloc: Global,
+    root: &Catalogue,
+    last: u64,
+    tables: &[Parts],
+    table: usize,
+    place: usize,
+    disk: &mut D,
+) -> Result<Rewritten, StoreFault>
+    requires held { IsHeld root.now tables.now }
+    requires fresh { IsFreshAt (map projections_of tables.now) table place }
+    ensures moved_out { IfOk result (λ r. IsRewritten last root.now (map projections_of tables.now) table place r.version r.catalogue r.store.stored (D.holds disk.old) (D.holds disk.new)) }
+    ensures moved { Moved ⟦<D as Disk>⟧ (DataFrom root.now.next) NoName disk.old disk.new }
+    ensures cause { HasCause StoreFault.Disk (D.faults disk.old) (D.faults disk.new) result }
+{
+    let store = &tables[table].as_slice()[place];
+    let MovedOut { entry, next } = match moveout(alloc, store, last, root.next, disk) {
+        Ok(out) => out,
+        Err(fault) => return Err(fault),
+    };
+    if next >= MOST_NUMBERS {
+        return Err(StoreFault::Memory);
+    }
+    let copy = match entry_copy(alloc, &entry) {
+        Ok(copy) => copy,
+        Err(AllocError) => return Err(StoreFault::Memory),
+    };
+    let store = match ProjStore::load(alloc, copy, disk) {
+        Ok(store) => store,
+        Err(StoreFault::Disk) => return Err(StoreFault::Disk),
+        Err(_) => return Err(StoreFault::Memory),
+    };
+    match with_entry_at(alloc, root, last, next, table, place, entry) {
+        Ok(catalogue) => Ok(Rewritten {
+            catalogue,
+            version: next,
+            store,
+        }),
+        Err(AllocError) => Err(StoreFault::Memory),
+    }
+}
+
+impl TableStore {
+    /// No tables, and nothing on the disk.
+    pub fn empty(alloc: Global) -> TableStore
+        ensures { result ≡ seen (record { last = 0; ahm = 0; next = 1; tables = [] }) [] }
+    {
+        TableStore {
+            root: Catalogue {
+                last: 0,
+                ahm: 0,
+                next: 1,
+                tables: List::new(Vec::new(alloc)),
+            },
+            last: 0,
+            tables: Vec::new(alloc),
+        }
+    }
+
+    /// The tables of a catalogue, with the projections of each; no epoch after its last one is closed. It takes no memory.
+    pub fn of(root: Catalogue, tables: Vec<Parts>) -> TableStore
+        requires { IsHeld root tables.items }
+        ensures { result ≡ seen root (map projections_of tables.items) }
+    {
+        TableStore {
+            last: root.last,
+            root,
+            tables,
+        }
+    }
+
+    /// The catalogue that the disk opens to. It takes no memory.
+    pub fn root(&self) -> &Catalogue
+        ensures { self.now.catalogue ≡ at_epoch self.now.catalogue.last result.now }
+    {
+        &self.root
+    }
+
+    /// The newest closed epoch. It takes no memory.
+    pub fn last(&self) -> u64
+        ensures { result ≡ self.now.catalogue.last }
+    {
+        self.last
+    }
+
+    /// The projections of each table, in the catalogue's order. It takes no memory.
+    pub fn tables(&self) -> &[Parts]
+        ensures { map projections_of result.now ≡ self.now.stores }
+    {
+        self.tables.as_slice()
+    }
+
+    /// A table without rows joins the others, with its projection of all columns; it is there after a stop once this has answered Ok. A
+    /// name or columns that a catalogue can't have are answered as want of memory.
+    pub fn create_table<D: Disk>(
+        &mut self,
+        alloc: Global,
+        name: Name,
+        columns: List<Column>,
+        disk: &mut D,
+    ) -> Result<(), DiskFault>
+        ensures made { (d : Database) → Stands ⟦<D as Disk>⟧ self.old disk.old d → IsSoundDatabase (created name columns d) → Makes ⟦<D as Disk>⟧ Memory self.old self.new disk.old disk.new result d (created name columns d) }
+        ensures cause { HasCause DiskFault.Failed (D.faults disk.old) (D.faults disk.new) result }
+    {
+        let ready = match prepare_table(alloc, &self.root, self.last, name, columns) {
+            Ok(ready) => ready,
+            Err(AllocError) => return Err(DiskFault::Memory),
+        };
+        match self.tables.reserve(1) {
+            Ok(()) => {}
+            Err(AllocError) => return Err(DiskFault::Memory),
+        }
+        let Ready {
+            catalogue,
+            place,
+            parts,
+        } = ready;
+        match settle(alloc, disk, self.root.next, &catalogue) {
+            Ok(()) => {}
+            Err(fault) => return Err(fault),
+        }
+        self.root = catalogue;
+        put_parts(&mut self.tables, place, parts);
+        Ok(())
+    }
+
+    /// Closes the next epoch with a session's changes: its pending rows join their tables, and its pending deletes are marked, in every
+    /// projection that is up to date. Nothing is written. Where no epoch is left it is answered as want of memory.
+    pub fn commit<D: Disk>(
+        &mut self,
+        alloc: Global,
+        changes: &Session,
+        disk: &mut D,
+    ) -> Result<(), StoreFault>
+        ensures made { (d : Database) → Stands ⟦<D as Disk>⟧ self.old disk.old d → IsSoundSession d changes.now → has_changes changes.now ≡ true → IsSoundDatabase (committed changes.now d)
+            → Makes ⟦<D as Disk>⟧ no_memory self.old self.new disk.old disk.new result d (committed changes.now d) }
+        ensures cause { HasCause StoreFault.Disk (D.faults disk.old) (D.faults disk.new) result }
+    {
+        if self.last >= MOST_EPOCHS {
+            return Err(StoreFault::Memory);
+        }
+        let ready = match prepare_all(
+            alloc,
+            disk,
+            &mut self.tables,
+            self.root.tables.as_slice(),
+            changes,
+        ) {
+            Ok(ready) => ready,
+            Err(fault) => return Err(fault),
+        };
+        let epoch = self.last + 1;
+        apply_all(&mut self.tables, ready, epoch);
+        self.last = epoch;
+        Ok(())
+    }
+
+    /// All data of a projection goes to disk: its rows and marks in memory are written behind what it has there, and then a catalogue
+    /// that lists them becomes the one that the disk opens to. Numbers from 2^61 on are answered as want of memory.
+    pub fn move_out<D: Disk>(
+        &mut self,
+        alloc: Global,
+        table: usize,
+        place: usize,
+        disk: &mut D,
+    ) -> Result<(), StoreFault>
+        requires { IsFreshAt self.old.stores table place }
+        ensures made { (d : Database) → Stands ⟦<D as Disk>⟧ self.old disk.old d → Makes ⟦<D as Disk>⟧ no_memory self.old self.new disk.old disk.new result d (moved_at table place d) }
+        ensures cause { HasCause StoreFault.Disk (D.faults disk.old) (D.faults disk.new) result }
+    {
+        what_is_read_is_stored();
+        let ready = match prepare_move(alloc, &self.root, self.last, self.tables.as_slice(), table, place, disk) {
+            Ok(ready) => ready,
+            Err(fault) => return Err(fault),
+        };
+        let Rewritten {
+            catalogue,
+            version,
+            store,
+        } = ready;
+        match settle(alloc, disk, version, &catalogue) {
+            Ok(()) => {}
+            Err(fault) => return Err(StoreFault::from(fault)),
+        }
+        self.root = catalogue;
+        self.tables[table].replace(place, store);
+        Ok(())
+    }
+}
