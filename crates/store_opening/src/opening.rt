@@ -1,26 +1,35 @@
 //! The opening.
 
-ghost use Rattle.std.specs.Prelude.{◌≡◌, ◌&&◌, nat_lt, Some, false, IfOk, IfErr};
-ghost use Rattle.std.specs.List.{list_any};
+ghost use Rattle.std.specs.Prelude.{◌≡◌, ◌&&◌, ◌<◌, nat_lt, Some, false, map, IfOk, IfErr};
+ghost use Rattle.std.specs.List.{All, list_any};
 ghost use Rattle.common_laws.specs.Causes.{HasCause};
 ghost use Rattle.common_laws.specs.Maps.{Contents};
-ghost use Rattle.col_disk.specs.Moved.{Leaves, ImageOf};
+ghost use Rattle.col_disk.specs.Moved.{Moved, Looks, Leaves, ImageOf, NoName};
 ghost use Rattle.catalog_types.specs.Reached.{least_lge, is_past};
+ghost use Rattle.catalog_types.specs.Valid.{IsValid};
 ghost use Rattle.catalog_root.specs.Root.{IsBody};
+ghost use Rattle.container_writer.specs.Writing.{DataFrom};
+ghost use Rattle.container_cut.specs.Cutting.{Between};
+ghost use Rattle.cut_job.specs.Blamed as damage;
+ghost use Rattle.cut_job.specs.Cutting.{CutsCatalogue};
+ghost use Rattle.cut_job.specs.Listed.{HasLoadable};
+ghost use Rattle.cut_model.specs.Loaded.{LoadedStores};
 ghost use Rattle.db_model.specs.Database.{Database};
 ghost use Rattle.folder_model.specs.Reopening.{Reopens};
 ghost use Rattle.store_commit.specs.Seen.{Stands};
+ghost use Rattle.table_store.specs.Held.{projections_of};
+ghost use Rattle.store_opening.specs.Loading.{AreEntriesOf, BlamesTables};
 ghost use Rattle.store_opening.specs.Opening.{BlamesListed, BlamesOpening, IsQuietFor};
 
 use crate::loading::load_tables;
 use catalog_root::Found;
-use catalog_types::{Catalogue, Projection, Table};
+use catalog_types::{Catalogue, Projection};
 use col_disk::{Disk, StoreFault};
 use cut_job::cut_catalogue;
-use cut_model::{a_cut_reopens, a_loaded_cut_is_the_database, a_loaded_folder_is_the_database, other_files_stay};
+use cut_model::{a_cut_reopens, a_loaded_cut_is_the_database, a_loaded_folder_is_the_database};
 use std::alloc::Global;
 use store_commit::{settle, tidy};
-use table_store::TableStore;
+use table_store::{Parts, TableStore};
 
 /// The tables of a folder. `Damaged` names a file that keeps it from opening: the body of the greatest open gate, a data file where no gate
 /// is open, or a listed file that is absent or not what it has to be.
@@ -89,7 +98,7 @@ fn keep<D: Disk>(
     ensures cause { HasCause StoreFault.Disk (D.faults disk.old) (D.faults disk.new) result }
 {
     a_loaded_folder_is_the_database();
-    let tables = match load_tables(alloc, disk, catalogue.tables.as_slice()) {
+    let tables = match load_root(alloc, disk, &catalogue) {
         Ok(tables) => tables,
         Err(fault) => return Err(fault),
     };
@@ -99,7 +108,47 @@ fn keep<D: Disk>(
     }
 }
 
-/// The tables of a catalogue that is cut first. Its new files can be read: where they can't, that is answered as want of memory.
+/// The projections of a catalogue.
+fn load_root<D: Disk>(
+    alloc: Global,
+    disk: &mut D,
+    root: &Catalogue,
+) -> Result<Vec<Parts>, StoreFault>
+    requires { All HasLoadable root.now.tables }
+    ensures entries { IfOk result (λ v. AreEntriesOf root.now v.items) }
+    ensures loaded { IfOk result (λ v. (m : Contents) → D.holds disk.old ≡ Some m → LoadedStores m root.now (map projections_of v.items)) }
+    ensures blamed { IfErr result (BlamesTables root.now.tables (D.holds disk.old)) }
+    ensures looks { Looks ⟦<D as Disk>⟧ disk.old disk.new }
+    ensures cause { HasCause StoreFault.Disk (D.faults disk.old) (D.faults disk.new) result }
+{
+    load_tables(alloc, disk, root.tables.as_slice())
+}
+
+/// The catalogue cut, with its version as the last number that was drawn.
+fn cut_root<D: Disk>(
+    alloc: Global,
+    c: &Catalogue,
+    disk: &mut D,
+) -> Result<Catalogue, StoreFault>
+    requires { IsValid c.now }
+    ensures cut { IfOk result (λ r. Between (CutsCatalogue c.now r) (D.holds disk.old) (D.holds disk.new)) }
+    ensures next { IfOk result (λ r. c.now.next < r.next) }
+    ensures loadable { IfOk result (λ r. All HasLoadable r.tables) }
+    ensures blamed { IfErr result (damage.BlamesTables c.now.tables (D.holds disk.old)) }
+    ensures moved { Moved ⟦<D as Disk>⟧ (DataFrom c.now.next) NoName disk.old disk.new }
+    ensures cause { HasCause StoreFault.Disk (D.faults disk.old) (D.faults disk.new) result }
+{
+    match cut_catalogue(alloc, c, disk) {
+        Ok(done) => Ok(Catalogue {
+            next: done.next.saturating_add(1),
+            ..done
+        }),
+        Err(fault) => Err(fault),
+    }
+}
+
+/// The tables of a catalogue that is cut first. Its projections are read before that, too, so that each delete vector that can't be read
+/// is blamed while the catalogue that lists it is still the one of the disk.
 fn recover<D: Disk>(
     alloc: Global,
     disk: &mut D,
@@ -114,18 +163,15 @@ fn recover<D: Disk>(
 {
     a_cut_reopens();
     a_loaded_cut_is_the_database();
-    let cut = match cut_catalogue(alloc, &catalogue, disk) {
-        Ok(cut) => cut,
+    match load_root(alloc, disk, &catalogue) {
+        Ok(_) => {}
+        Err(fault) => return Err(fault),
+    }
+    let root = match cut_root(alloc, &catalogue, disk) {
+        Ok(root) => root,
         Err(fault) => return Err(fault),
     };
-    let root = Catalogue {
-        next: cut.next.saturating_add(1),
-        ..cut
-    };
-    if !root.valid() {
-        return Err(StoreFault::Memory);
-    }
-    let tables = match load_tables(alloc, disk, root.tables.as_slice()) {
+    let tables = match load_root(alloc, disk, &root) {
         Ok(tables) => tables,
         Err(StoreFault::Disk) => return Err(StoreFault::Disk),
         Err(_) => return Err(StoreFault::Memory),

@@ -1,0 +1,4 @@
+mod Reads
+mod Blames
+mod Quieted
+mod Recovered
