@@ -1,17 +1,16 @@
 -- Entries and tables that are cut one after the other.
-use Rattle.std.proofs.Common.{◌≡◌, ℕ, ◌+◌, ◌≤◌, ◌<◌, ◌++◌, ◌^◌, Bool, true, false, cond, List, [], ◌∷◌, length, map, take, get_or, Option, Some, None, refl, sym, ap, ◌∙◌, subst, arith}
+use Rattle.std.proofs.Common.{◌≡◌, ℕ, ◌+◌, ◌≤◌, ◌<◌, ◌++◌, ◌^◌, Bool, true, false, cond, List, [], ◌∷◌, length, take, get_or, Option, Some, None, refl, sym, ap, ◌∙◌, subst, arith}
 use Rattle.std.specs.Prelude.{IfSome}
 use Rattle.std.specs.Bool.{OnTrue, OnFalse}
 use Rattle.std.specs.List.{All, AllZip}
 use Rattle.std.proofs.lemmas.List.{take_more, take_all}
 use Rattle.std.proofs.lemmas.List.Elements.{All-head, All-tail, All-weaker, All-contains, All-nil, All-push}
-use Rattle.common_laws.specs.Bags.{SameBag}
 use Rattle.common_laws.specs.Maps.{Contents}
 use Rattle.common_laws.proofs.BagLaws.{bag_filter}
 use Rattle.col_disk.specs.Moved.{Moved, NoName}
 use Rattle.col_disk.specs.declared.disk.Disk.{Ghosts}
 use Rattle.col_disk.proofs.Moving.{moved_told}
-use Rattle.row_history.specs.History.{is_retained, retained, cut_rows}
+use Rattle.row_history.specs.History.{is_retained, cut_rows}
 use Rattle.catalog_types.specs.declared.catalogue.Container.{Container}
 use Rattle.catalog_types.specs.declared.catalogue.Projection.{Projection}
 use Rattle.catalog_types.specs.declared.catalogue.Table as kept
@@ -19,15 +18,13 @@ use Rattle.catalog_types.specs.declared.catalogue.Catalogue.{Catalogue}
 use Rattle.catalog_types.specs.Parts.{IsContainer, IsProjection, IsTable}
 use Rattle.catalog_types.specs.Valid.{IsValid}
 use Rattle.catalog_types.specs.Reached.{least_lge}
-use Rattle.db_model.specs.Database.{Shape}
-use Rattle.db_model.specs.Kept.{moved_shape}
 use Rattle.ros_container.specs.Encodings.{encodings_of}
 use Rattle.stored_rows.specs.Listed.{SameEntry}
 use Rattle.stored_rows.proofs.KeptRows.{entry_kept}
 use Rattle.folder_model.specs.Projections.{shape_of}
 use Rattle.proj_store.specs.Sound.{HasFileNumbers, HasVectorNumber, IsLoadable}
 use Rattle.container_writer.specs.Writing.{DataFrom}
-use Rattle.cut_model.specs.Cut.{CutsRows, IsCutEntry, IsCutTable, IsCutRoot}
+use Rattle.cut_model.specs.Cut.{CutsRows, IsCutEntry, IsCutTable}
 use Rattle.container_cut.specs.Listed.{IsBelow, IsListedBelow}
 use Rattle.container_cut.specs.Cutting.{CutsContainers, Between}
 use Rattle.container_cut.specs.Blamed.{IsDamageIn}
@@ -260,23 +257,6 @@ all_push P xs more x is before here = subst (All P) (sym is) (All-push P xs x be
 
 pub all_none : {X : Type 0} (P : X → Type 0) (xs : List X) → xs ≡ [] → All P xs
 all_none P xs none = subst (All P) (sym none) (All-nil P)
-
--- what was cut of one that is up to date, and nothing of another
-pub when_fresh : (b : Bool) {P : Type 0} → P → OnTrue b P
-when_fresh true p = p
-when_fresh false p = tt
-
-pub never_stale : (b : Bool) {P : Type 0} → b ≡ true → OnFalse b P
-never_stale true is = tt
-never_stale false is = absurd (cc)
-
-pub never_fresh : (b : Bool) {P : Type 0} → b ≡ false → OnTrue b P
-never_fresh false is = tt
-never_fresh true is = absurd (cc)
-
-pub when_stale : (b : Bool) {P : Type 0} → P → OnFalse b P
-when_stale false p = p
-when_stale true p = tt
 
 pub table_loads : (t u : kept.Table) (qs : List Projection) → u ≡ record t { projections = qs } → All IsLoadable qs → HasLoadable u
 table_loads t u qs is loads = subst HasLoadable (sym is) loads

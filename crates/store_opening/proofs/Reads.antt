@@ -10,7 +10,8 @@ use Rattle.catalog_types.specs.declared.catalogue.Table.{Table}
 use Rattle.catalog_types.specs.declared.catalogue.Catalogue.{Catalogue}
 use Rattle.moveout_job.proofs.Renewed.{zip_push}
 use Rattle.proj_store.specs.Loaded.{Loaded}
-use Rattle.stored_rows.specs.Stored.{Projected}
+use Rattle.stored_rows.specs.Stored.{Projected, IsLoaded}
+use Rattle.cut_model.specs.Loaded.{IsLoadedEntry}
 use Rattle.table_store.specs.Held.{projections_of}
 use Rattle.store_opening.specs.Loading.{entries_of, AreEntriesOf}
 
@@ -46,3 +47,16 @@ entries_seen (t ∷ ts) = ap₂ (λ (es : List Projection) (ess : List (List Pro
 
 pub entries_are : (root : Catalogue) (ts : List Table) (read : List (List Loaded)) → ts ≡ root.tables → map entries_of read ≡ map (λ t. t.projections) ts → AreEntriesOf root read
 entries_are root ts read same is = entries_seen read ∙ is ∙ ap (map (λ (t : Table). t.projections)) same
+
+pub loaded_entry : (m : Contents) (e : Projection) (p : Projected) → p.entry ≡ e → IsLoaded m p → IsLoadedEntry m e p
+loaded_entry m e p is loaded = record { entry = is; loaded = loaded }
+
+-- behind the last item
+pub all_front : {X Y : Type 0} (f : X → Y) (ys : List Y) (i : ℕ) (xs : List X) → length ys ≤ i → map f xs ≡ take i ys → map f xs ≡ ys
+all_front f ys i xs past is = is ∙ take_all i ys past
+
+pub all_made : {X Y Z : Type 0} (f : X → Z) (g : Y → Z) (ys : List Y) (i : ℕ) (xs : List X) → length ys ≤ i → map f xs ≡ map g (take i ys) → map f xs ≡ map g ys
+all_made f g ys i xs past is = is ∙ ap (map g) (take_all i ys past)
+
+pub zip_all : {A B : Type 0} (R : A → B → Type 0) (xs : List A) (i : ℕ) (ys : List B) → length xs ≤ i → AllZip R (take i xs) ys → AllZip R xs ys
+zip_all {A} R xs i ys past all = subst (λ (us : List A). AllZip R us ys) (take_all i xs past) all

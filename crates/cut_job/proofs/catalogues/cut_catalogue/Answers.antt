@@ -14,10 +14,13 @@ pub cut_tables-requires-clause-loadable : goal.cut_tables-requires-clause-loadab
 cut_tables-requires-clause-loadable g c = subst (All HasLoadable) (sym c.as_slice.ensures) (valid_loadable c.args.c.now c.requires)
 
 pub returns-in-Ok-clause-cut : goal.returns-in-Ok-clause-cut
-returns-in-Ok-clause-cut g c = catalogue_cut c.args.c.now _ c.as_slice.result.now c.in-Ok.done.tables.items c.least_lge.result _ _ c.as_slice.ensures c.least_lge.ensures refl refl (search rules) c.in-Ok.ensures.cut
+returns-in-Ok-clause-cut g c = catalogue_cut c.args.c.now _ c.as_slice.result.now c.in-Ok.done.tables.items c.least_lge-last.result _ _ c.as_slice.ensures c.least_lge-last.ensures refl refl (search rules) c.in-Ok.ensures.cut
 
 pub returns-in-Ok-clause-few : goal.returns-in-Ok-clause-few
 returns-in-Ok-clause-few g c = subst (λ (ts : List Table). c.in-Ok.done.next ≤ c.args.c.now.next + sum_by table_count ts) c.as_slice.ensures c.in-Ok.ensures.few
 
 pub returns-in-Err-clause-blamed : goal.returns-in-Err-clause-blamed
 returns-in-Err-clause-blamed g c = subst (λ (ts : List Table). BlamesTables ts (g.D.Disk.holds c.args.disk.now) c.in-Err.fault) c.as_slice.ensures c.in-Err.ensures.blamed
+
+pub returns-in-Ok-clause-loadable : goal.returns-in-Ok-clause-loadable
+returns-in-Ok-clause-loadable g c = subst (All HasLoadable) (sym c.new.ensures) c.in-Ok.ensures.loadable
