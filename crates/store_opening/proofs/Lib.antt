@@ -1,4 +1,4 @@
-mod Reads
+mod Readings
 mod Blames
 mod Quieted
 mod Recovered

@@ -1,6 +1,6 @@
 -- A disk that is quiet on a root, while it is opened.
-use Rattle.std.proofs.Common.{◌≡◌, ℕ, ◌<◌, ◌≤◌, List, [], refl, sym, ◌∙◌, subst, inl, inr, arith}
-use Rattle.std.specs.Prelude.{◌⊎◌, Option, Some}
+use Rattle.std.proofs.Common.{◌≡◌, ℕ, ◌<◌, List, [], refl, sym, ◌∙◌, subst, inl, inr, arith}
+use Rattle.std.specs.Prelude.{◌⊎◌, Some}
 use Rattle.common_laws.specs.Maps.{Contents}
 use Rattle.col_disk.specs.Moved.{Moved, Looks, Leaves, NoName, ImageOf}
 use Rattle.col_disk.specs.declared.disk.Disk.{Ghosts}
@@ -11,7 +11,7 @@ use Rattle.catalog_root.specs.declared.found.Found.{Found}
 use Rattle.catalog_root.specs.declared.found.Found.TheVariants.{Fresh, Root}
 use Rattle.catalog_root.specs.Root.{IsFresh, IsRoot, Opens}
 use Rattle.catalog_root.specs.Listed.{IsUnlisted}
-use Rattle.catalog_root.specs.Quiet.{IsQuiet, Quiet}
+use Rattle.catalog_root.specs.Quiet.{IsQuiet}
 use Rattle.catalog_root.proofs.Roots.{one_root, not_fresh}
 use Rattle.catalog_root.proofs.Quieting.{quiet_moved, quiet_leaves, quiet_settled, listed_stay}
 use Rattle.db_model.specs.Database.{Database, empty_database}
@@ -19,7 +19,6 @@ use Rattle.db_model.specs.Sound.{IsSoundDatabase}
 use Rattle.stored_rows.specs.Stored.{Projected}
 use Rattle.folder_model.specs.Tables.{AreDatabase}
 use Rattle.folder_model.specs.Reopening.{IsCutOf, ReopensBy, Reopens}
-use Rattle.folder_model.specs.Standing.{StandsFor}
 use Rattle.folder_model.proofs.ListedFiles.{tables_same}
 use Rattle.folder_model.proofs.Committing.{database_moved}
 use Rattle.cut_model.proofs.Staying.{tables_stay}
@@ -112,21 +111,25 @@ empty_root = record { last = 0; ahm = 0; next = 1; tables = [] }
 empty_are : (m : Contents) → AreDatabase m empty_root [] empty_database
 empty_are m = record { last = refl; ahm = refl; tables = tt }
 
-pub fresh_stands : {D : Type 0} (disk : Ghosts D) {old now : D} (s : Seen) (m : Contents) (d : Database) → s ≡ seen empty_root [] → disk.holds old ≡ Some m → disk.holds now ≡ disk.holds old
-    → Opens m Fresh → ((x : Contents) → ImageOf disk now x → x ≡ m) → Reopens m d → Stands disk s now d
-fresh_stands disk {old} {now} s m d is told kept fresh only r = subst (λ (z : Seen). Stands disk z now d) (sym is) (record {
-  files = m;
-  are = subst (AreDatabase m empty_root []) (sym (fresh_database m d fresh r)) (empty_are m);
-  sound = r.sound;
-  root = Fresh;
-  is_root = (refl, refl, refl);
-  quiet = quiet_settled (disk.holds now) (ImageOf disk now) Fresh m (kept ∙ told) fresh only;
-})
+pub fresh_stands : {D : Type 0} (disk : Ghosts D) {old now : D} (s : Seen) (f : Found) (m : Contents) (d : Database) → s ≡ seen empty_root [] → f ≡ Fresh → disk.holds old ≡ Some m
+    → disk.holds now ≡ disk.holds old → Opens m f → ((x : Contents) → ImageOf disk now x → x ≡ m) → Reopens m d → Stands disk s now d
+fresh_stands disk {old} {now} s f m d is none told kept opens only r =
+    let fresh : IsFresh m = subst (Opens m) none opens in
+    subst (λ (z : Seen). Stands disk z now d) (sym is) (record {
+      files = m;
+      are = subst (AreDatabase m empty_root []) (sym (fresh_database m d fresh r)) (empty_are m);
+      sound = r.sound;
+      root = Fresh;
+      is_root = (refl, refl, refl);
+      quiet = quiet_settled (disk.holds now) (ImageOf disk now) Fresh m (kept ∙ told) fresh only;
+    })
 
-pub opened_quiet : {D : Type 0} (disk : Ghosts D) {old now : D} (v : ℕ) (c : Catalogue) (m : Contents) (d : Database) → disk.holds old ≡ Some m → disk.holds now ≡ disk.holds old
-    → Opens m (Root v c) → ((x : Contents) → ImageOf disk now x → x ≡ m) → Reopens m d → IsQuietFor disk now v c d m
-opened_quiet disk {old} {now} v c m d told kept root only r = record {
-  quiet = quiet_settled (disk.holds now) (ImageOf disk now) (Root v c) m (kept ∙ told) root only;
-  is_cut = root_cut m v c d root r;
-  sound = r.sound;
-}
+pub opened_quiet : {D : Type 0} (disk : Ghosts D) {old now : D} (v : ℕ) (c : Catalogue) (f : Found) (m : Contents) (d : Database) → f ≡ Root v c → disk.holds old ≡ Some m → disk.holds now ≡ disk.holds old
+    → Opens m f → ((x : Contents) → ImageOf disk now x → x ≡ m) → Reopens m d → IsQuietFor disk now v c d m
+opened_quiet disk {old} {now} v c f m d is told kept opens only r =
+    let root : IsRoot m v c = subst (Opens m) is opens in
+    record {
+      quiet = quiet_settled (disk.holds now) (ImageOf disk now) (Root v c) m (kept ∙ told) root only;
+      is_cut = root_cut m v c d root r;
+      sound = r.sound;
+    }

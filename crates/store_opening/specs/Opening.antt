@@ -1,7 +1,7 @@
 -- What an opening makes of a folder, and which file it blames.
 use Rattle.std.specs.Prelude.{ℕ, ◌≡◌, ◌⊎◌, Option, Some}
 use Rattle.common_laws.specs.Maps.{Contents}
-use Rattle.col_disk.specs.Moved.{Leaves, ImageOf}
+use Rattle.col_disk.specs.Moved.{ImageOf}
 use Rattle.col_disk.specs.declared.disk.Disk.{Ghosts}
 use Rattle.col_disk.specs.declared.disk.StoreFault.{StoreFault}
 use Rattle.catalog_types.specs.declared.catalogue.Catalogue.{Catalogue}
@@ -11,7 +11,7 @@ use Rattle.catalog_root.specs.Quiet.{Quiet}
 use Rattle.cut_job.specs.Blamed as cut
 use Rattle.db_model.specs.Database.{Database}
 use Rattle.db_model.specs.Sound.{IsSoundDatabase}
-use Rattle.folder_model.specs.Reopening.{IsCutOf, Reopens}
+use Rattle.folder_model.specs.Reopening.{IsCutOf}
 use Rattle.store_opening.specs.Loading.{BlamesTables}
 
 -- a Damaged names a file of a container that holds no rows, or a delete vector of one that has none

@@ -23,7 +23,7 @@ ghost use Rattle.store_opening.specs.Opening.{BlamesListed, BlamesOpening, IsQui
 
 use crate::loading::load_tables;
 use catalog_root::Found;
-use catalog_types::{Catalogue, Projection};
+use catalog_types::{Catalogue, Table};
 use col_disk::{Disk, StoreFault};
 use cut_job::cut_catalogue;
 use cut_model::{a_cut_reopens, a_loaded_cut_is_the_database, a_loaded_folder_is_the_database};
@@ -46,21 +46,26 @@ pub fn open<D: Disk>(alloc: Global, disk: &mut D) -> Result<TableStore, StoreFau
     }
 }
 
-fn are_past(projections: &[Projection], epoch: u64) -> bool
-    ensures { result ≡ list_any (λ p. p.fresh && nat_lt epoch p.lge) projections.now }
+fn table_past(t: &Table, epoch: u64) -> bool
+    ensures { result ≡ list_any (λ p. p.fresh && nat_lt epoch p.lge) t.now.projections }
 {
-    projections.iter().any(|p| p.fresh && epoch < p.lge)
+    t.projections
+        .as_slice()
+        .iter()
+        .any(|p| p.fresh && epoch < p.lge)
+}
+
+fn tables_past(tables: &[Table], epoch: u64) -> bool
+    ensures { result ≡ list_any (λ t. list_any (λ p. p.fresh && nat_lt epoch p.lge) t.projections) tables.now }
+{
+    tables.iter().any(|t| table_past(t, epoch))
 }
 
 /// Whether a catalogue goes past an epoch.
 fn is_past(c: &Catalogue, epoch: u64) -> bool
     ensures { result ≡ is_past c.now epoch }
 {
-    epoch < c.last
-        || c.tables
-            .as_slice()
-            .iter()
-            .any(|t| are_past(t.projections.as_slice(), epoch))
+    epoch < c.last || tables_past(c.tables.as_slice(), epoch)
 }
 
 /// The tables of a catalogue that the disk opens to.
@@ -125,11 +130,7 @@ fn load_root<D: Disk>(
 }
 
 /// The catalogue cut, with its version as the last number that was drawn.
-fn cut_root<D: Disk>(
-    alloc: Global,
-    c: &Catalogue,
-    disk: &mut D,
-) -> Result<Catalogue, StoreFault>
+fn cut_root<D: Disk>(alloc: Global, c: &Catalogue, disk: &mut D) -> Result<Catalogue, StoreFault>
     requires { IsValid c.now }
     ensures cut { IfOk result (λ r. Between (CutsCatalogue c.now r) (D.holds disk.old) (D.holds disk.new)) }
     ensures next { IfOk result (λ r. c.now.next < r.next) }

@@ -1,4 +1,4 @@
-use Rattle.std.proofs.Common.{List, sym, ap, ◌∙◌, subst, map, []}
+use Rattle.std.proofs.Common.{List, sym, ap, ◌∙◌, subst, []}
 use Rattle.std.specs.List.{AllZip}
 use Rattle.col_disk.proofs.Moving.{looks_none, looks_join}
 use Rattle.container_cut.proofs.Joins.{at_place}
@@ -7,7 +7,7 @@ use Rattle.proj_store.specs.Sound.{IsLoadable}
 use Rattle.cut_model.specs.Loaded.{IsLoadedEntry}
 use Rattle.table_store.specs.Held.{projections_of}
 use Rattle.store_opening.specs.Loading.{entries_of}
-use Rattle.store_opening.proofs.Reads.{same_more, zip_more, loaded_entry, all_front, zip_all}
+use Rattle.store_opening.proofs.Readings.{same_more, zip_more, loaded_entry, all_front, zip_all}
 use Rattle.store_opening.proofs.Blames.{entry_blamed}
 use Rattle.store_opening.proofs.loading.load_table.Goals as goal
 
@@ -27,7 +27,7 @@ loop-entry-preserved g c =
     let i = c.loop-entry.entry-index in
     let e = c.entry-item.result in
     let ps = c.loop-entry.out.items in
-    let more = c.push.new.out.items in
+    let more = c.push.new.self.items in
     let p = c.in-Ok.one in
     let inv = c.loop-entry.invariant in
     let pushed = c.in-Ok-push.ensures.items in

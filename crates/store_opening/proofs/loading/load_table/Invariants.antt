@@ -1,4 +1,4 @@
-use Rattle.std.proofs.Common.{◌≡◌, take, map}
+use Rattle.std.proofs.Common.{◌≡◌, take}
 use Rattle.std.specs.Prelude.{Some}
 use Rattle.std.specs.List.{AllZip}
 use Rattle.common_laws.specs.Maps.{Contents}

@@ -10,7 +10,7 @@ use Rattle.cut_job.specs.Listed.{HasLoadable}
 use Rattle.cut_model.specs.Loaded.{IsLoadedEntry, AreLoadedEntries}
 use Rattle.table_store.specs.Held.{projections_of}
 use Rattle.store_opening.specs.Loading.{entries_of}
-use Rattle.store_opening.proofs.Reads.{made_more, zip_more, all_made, zip_all}
+use Rattle.store_opening.proofs.Readings.{made_more, zip_more, all_made, zip_all}
 use Rattle.store_opening.proofs.Blames.{table_blamed}
 use Rattle.store_opening.proofs.loading.load_tables.Goals as goal
 
@@ -31,15 +31,16 @@ loop-table-preserved g c =
     let i = c.loop-table.table-index in
     let t = c.table-item.result in
     let ps = c.loop-table.out.items in
-    let more = c.push.new.out.items in
-    let p = c.in-Ok.parts.items in
+    let more = c.push.new.self.items in
+    let p = c.new.result in
     let inv = c.loop-table.invariant in
     let pushed = c.in-Ok-push.ensures.items in
     record {
-      entries = made_more entries_of (λ (x : Table). x.projections) ts i t ps more p c.loop-table-test.true c.table-item.is pushed (c.in-Ok.ensures.entries ∙ c.as_slice.ensures) inv.entries;
+      entries = made_more entries_of (λ (x : Table). x.projections) ts i t ps more p c.loop-table-test.true c.table-item.is pushed (ap entries_of c.new.ensures ∙ c.in-Ok.ensures.entries ∙ c.as_slice.ensures) inv.entries;
       loaded = λ m told.
           zip_more (AreLoadedEntries m) projections_of ts i t ps more p c.loop-table-test.true c.table-item.is pushed (inv.loaded m told)
-          (subst (λ (es : List Projection). AllZip (IsLoadedEntry m) es (projections_of p)) c.as_slice.ensures (c.in-Ok.ensures.loaded m (inv.looks.contents ∙ told)));
+          (subst (λ (qs : List Loaded). AreLoadedEntries m t (projections_of qs)) (sym c.new.ensures)
+          (subst (λ (es : List Projection). AllZip (IsLoadedEntry m) es (projections_of c.in-Ok.parts.items)) c.as_slice.ensures (c.in-Ok.ensures.loaded m (inv.looks.contents ∙ told))));
       looks = looks_join g.D.Disk inv.looks c.load_table.ensures.looks;
     }
 

@@ -1,4 +1,4 @@
-use Rattle.std.proofs.Common.{List, sym, subst, map, inr}
+use Rattle.std.proofs.Common.{sym, subst, map, inr}
 use Rattle.cut_job.proofs.Entries.{valid_loadable}
 use Rattle.store_commit.specs.Seen.{Seen, Stands}
 use Rattle.table_store.specs.Held.{projections_of}

@@ -1,7 +1,25 @@
-use Rattle.std.proofs.Common.{sym, subst, ◌∙◌, inl, inr}
-use Rattle.std.specs.Prelude.{Option}
-use Rattle.common_laws.specs.Maps.{Contents}
+use Rattle.std.proofs.lemmas.Result.{IfOk-weaker}
 use Rattle.col_disk.proofs.Moving.{leaves_join}
-use Rattle.store_opening.specs.Opening.{BlamesListed}
 use Rattle.store_opening.proofs.Quieted.{fresh_stands, opened_quiet, leaves_looked}
 use Rattle.store_opening.proofs.opening.open.Goals as goal
+
+pub returns-in-Ok-Fresh-clause-stands : goal.returns-in-Ok-Fresh-clause-stands
+returns-in-Ok-Fresh-clause-stands g c = λ m d told r.
+    fresh_stands g.D.Disk {old = c.args.disk.now} c.empty.result c.in-Ok-Fresh.field-0 m d c.empty.ensures c.in-Ok-Fresh.field-0-is told c.open.ensures.kept (c.in-Ok-Fresh.ensures.found m told) (c.in-Ok-Fresh.ensures.settled m told) r
+
+pub returns-in-Ok-Root-clause-stands : goal.returns-in-Ok-Root-clause-stands
+returns-in-Ok-Root-clause-stands g c =
+    let k = c.in-Ok-Root in
+    IfOk-weaker c.open_root.result _ _
+    (λ s h m d told r.
+    h m d
+    (opened_quiet g.D.Disk {old = c.args.disk.now} {now = c.open.new.disk} k.version k.catalogue k.field-0 m d k.field-0-is told c.open.ensures.kept (k.ensures.found m told) (k.ensures.settled m told) r))
+    c.open_root.ensures.stands
+
+pub returns-in-Ok-Root-clause-any_moment : goal.returns-in-Ok-Root-clause-any_moment
+returns-in-Ok-Root-clause-any_moment g c = λ m d told each.
+    let k = c.in-Ok-Root in
+    leaves_join g.D.Disk (leaves_looked g.D.Disk {old = c.args.disk.now} {new = c.open.new.disk} each c.open.ensures.looks)
+    (c.open_root.ensures.any_moment m d
+    (opened_quiet g.D.Disk {old = c.args.disk.now} {now = c.open.new.disk} k.version k.catalogue k.field-0 m d k.field-0-is told c.open.ensures.kept (k.ensures.found m told) (k.ensures.settled m told)
+    (each m (g.D.Disk.laws.shows c.args.disk.now m told))))
