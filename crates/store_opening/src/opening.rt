@@ -149,7 +149,8 @@ fn cut_root<D: Disk>(alloc: Global, c: &Catalogue, disk: &mut D) -> Result<Catal
 }
 
 /// The tables of a catalogue that is cut first. Its projections are read before that, too, so that each delete vector that can't be read
-/// is blamed while the catalogue that lists it is still the one of the disk.
+/// is blamed while the catalogue that lists it is still the one of the disk. What the cut wrote reads as it was written; a disk of which
+/// that isn't so is answered as want of memory.
 fn recover<D: Disk>(
     alloc: Global,
     disk: &mut D,
