@@ -108,6 +108,7 @@ fn cut_tables<D: Disk>(
     requires loadable { All HasLoadable tables.now }
     ensures cut { IfOk result (λ r. Between (CutsTables epoch tables.now r.tables.items) (D.holds disk.old) (D.holds disk.new)) }
     ensures next { IfOk result (λ r. (next ≤ r.next) × (r.next ≤ 2 ^ 62)) }
+    ensures below { IfOk result (λ r. All (IsTableBelow r.next) r.tables.items) }
     ensures loadable { IfOk result (λ r. All HasLoadable r.tables.items) }
     ensures few { IfOk result (λ r. r.next ≤ next + sum_by table_count tables.now) }
     ensures blamed { IfErr result (BlamesTables tables.now (D.holds disk.old)) }
@@ -144,6 +145,7 @@ pub fn cut_catalogue<D: Disk>(
     ensures cut { IfOk result (λ r. Between (CutsCatalogue c.now r) (D.holds disk.old) (D.holds disk.new)) }
     ensures next { IfOk result (λ r. c.now.next ≤ r.next) }
     ensures few { IfOk result (λ r. r.next ≤ c.now.next + store_count c.now) }
+    ensures below { IfOk result (λ r. All (IsTableBelow r.next) r.tables) }
     ensures loadable { IfOk result (λ r. All HasLoadable r.tables) }
     ensures blamed { IfErr result (BlamesTables c.now.tables (D.holds disk.old)) }
     ensures moved { Moved ⟦<D as Disk>⟧ (DataFrom c.now.next) NoName disk.old disk.new }

@@ -24,3 +24,6 @@ returns-in-Err-clause-blamed g c = subst (λ (ts : List Table). BlamesTables ts 
 
 pub returns-in-Ok-clause-loadable : goal.returns-in-Ok-clause-loadable
 returns-in-Ok-clause-loadable g c = subst (All HasLoadable) (sym c.new.ensures) c.in-Ok.ensures.loadable
+
+pub returns-in-Ok-clause-below : goal.returns-in-Ok-clause-below
+returns-in-Ok-clause-below g c = subst (All (IsTableBelow c.in-Ok.done.next)) (sym c.new.ensures) c.in-Ok.ensures.below
