@@ -1,0 +1,7 @@
+pub mod Places
+pub mod Tables
+pub mod Held
+pub mod Dropped
+pub mod Events
+pub mod Commits
+pub mod Fits

@@ -1,0 +1,63 @@
+//! Laws of sound states.
+
+ghost use Rattle.std.specs.Prelude.{ℕ, ◌≡◌, ◌≤◌, [], false, filter, List, None, Some};
+ghost use Rattle.std.specs.List.{All};
+ghost use Rattle.col_value.specs.declared.column.Column.{Column};
+ghost use Rattle.col_value.specs.declared.value.Value.{Value};
+ghost use Rattle.col_value.specs.Order.{IsRow};
+ghost use Rattle.sql_tree.specs.declared.statement.Insert.{Insert};
+ghost use Rattle.sql_binding.specs.Inserts.{inserted_rows};
+ghost use Rattle.db_model.specs.Database.{Table, table_named};
+ghost use Rattle.db_model.specs.State.{State};
+ghost use Rattle.db_model.specs.Events.{changes_committed, changes_dropped, is_not_named, rows_pending, table_created, table_dropped};
+ghost use Rattle.db_model.specs.Numbers.{IsDrawn};
+ghost use Rattle.db_model.specs.Refusals.{locked, table_created_refusal, table_dropped_refusal};
+ghost use Rattle.db_model.specs.Sound.{IsSound, IsSoundDatabase, RowFits};
+ghost use Rattle.sound_laws.specs.Moves.{moved_at};
+ghost use Rattle.state_laws.specs.Rows.{AreStored};
+
+/// The numbers that an event draws leave a state sound.
+pub fn an_event_may_draw()
+    ensures { (old made new : State) → IsDrawn old made new → IsSound made → IsSound new }
+{}
+
+/// A state stays sound in a CREATE TABLE that isn't refused.
+pub fn a_new_table_is_sound()
+    ensures { (state : State) (name : List ℕ) (columns : List Column) → state.asked ≡ [] → table_created_refusal state name columns ≡ None → IsSound state → IsSound (table_created name columns state) }
+{}
+
+/// A state stays sound in a DROP TABLE that isn't refused.
+pub fn tables_may_be_dropped()
+    ensures { (state : State) (name : List ℕ) → state.asked ≡ [] → table_dropped_refusal state name ≡ None → IsSound state → IsSound (table_dropped name state) }
+{}
+
+/// The rows of an INSERT that isn't refused for what they are fit the columns of its table.
+pub fn inserted_rows_fit()
+    ensures { (columns : List Column) (i : Insert) → AreStored columns i → All IsRow (inserted_rows i) → All (RowFits columns) (inserted_rows i) }
+{}
+
+/// A state stays sound where rows that fit become pending in a table that no other session holds in mode X.
+pub fn pending_rows_are_sound()
+    ensures { (state : State) (name : List ℕ) (rows : List (List Value)) (t : Table) → state.asked ≡ [] → table_named name state.database.tables ≡ Some t → All (RowFits t.columns) rows → locked state name false ≡ None → IsSound state
+        → IsSound (rows_pending name rows state) }
+{}
+
+/// A state stays sound in a COMMIT.
+pub fn commits_of_a_session_are_sound()
+    ensures { (state : State) → state.asked ≡ [] → IsSound state → IsSound (changes_committed state) }
+{}
+
+/// A state stays sound in a ROLLBACK.
+pub fn changes_may_be_dropped()
+    ensures { (state : State) → state.asked ≡ [] → IsSound state → IsSound (changes_dropped state) }
+{}
+
+/// A state stays sound where another session is the current one.
+pub fn sessions_may_change()
+    ensures { (state : State) (n : ℕ) → 1 ≤ n → n ≤ 8 → IsSound state → IsSound (record state { current = n }) }
+{}
+
+/// A state stays sound where a projection was moved out.
+pub fn moved_states_are_sound()
+    ensures { (state : State) (i j : ℕ) → state.asked ≡ [] → IsSound state → IsSound (record state { database = moved_at i j state.database }) }
+{}

@@ -1,0 +1,13 @@
+//! That a state stays sound: its database is, each session's changes fit, and what two sessions hold goes together.
+//!
+//! The laws are the contracts here, one for each event of the sessions (`IsSound` of `db_model`), and there is no code. They are of
+//! states in which no projection waits for the mover.
+#![tactic(auto)]
+
+mod laws;
+
+pub use laws::{
+    a_new_table_is_sound, an_event_may_draw, changes_may_be_dropped,
+    commits_of_a_session_are_sound, inserted_rows_fit, moved_states_are_sound,
+    pending_rows_are_sound, sessions_may_change, tables_may_be_dropped,
+};
