@@ -1,0 +1,4 @@
+pub mod ByName
+pub mod Least
+pub mod Taken
+pub mod Shapes
