@@ -1,6 +1,6 @@
 //! The eight sessions.
 
-ghost use Rattle.std.specs.Prelude.{◌≡◌, ◌≤◌, ◌-◌, [], filter, slice_set, IfOk, OnOk, OnErr};
+ghost use Rattle.std.specs.Prelude.{◌≡◌, ◌≤◌, ◌-◌, [], filter, slice_set, IfOk, IfSome, OnOk, OnErr};
 ghost use Rattle.std.specs.List.{All, slice_index_or};
 ghost use Rattle.col_value.specs.Order.{IsRow};
 ghost use Rattle.db_model.specs.State.{idle_sessions, with_rows};
@@ -55,7 +55,8 @@ impl Txns {
 
     /// The least other session that keeps this one from a table that it wants in mode X, or in mode I. It takes no memory.
     pub fn conflict(&self, session: usize, table: &[u8], want: bool) -> Option<usize>
-        ensures { result ≡ holder self.now session table.now want }
+        ensures holder { result ≡ holder self.now session table.now want }
+        ensures session { IfSome result (λ h. (1 ≤ h) × (h ≤ 8)) }
     {
         for (place, other) in self.sessions.as_slice().iter().enumerate() {
             if place + 1 != session && other.excludes(table, want) {

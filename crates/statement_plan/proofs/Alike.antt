@@ -1,0 +1,203 @@
+-- What is looked at before the rows is the same in a state and in the one without its rows.
+use Rattle.std.proofs.Common.{◌≡◌, ℕ, ◌+◌, List, [], ◌∷◌, ◌++◌, Bool, true, false, cond, length, map, refl, sym, ◌-◌, ◌∙◌, ap, ap₂}
+use Rattle.std.specs.Prelude.{Option, Some, None, option_map, option_and_then, find, bytes_eq, nat_le, ◌&&◌, ◌||◌, ◌==◌, not}
+use Rattle.std.specs.List.{AllZip, enumerate_from, flat_map, list_any, slice_index_or}
+use Rattle.std.specs.Option.{option_map_or}
+use Rattle.std.proofs.lemmas.List.Elements.{length_all_zip}
+use Rattle.col_value.specs.declared.column.Column.{Column}
+use Rattle.sql_tree.specs.declared.query.At.{At}
+use Rattle.sql_tree.specs.declared.query.Query.{Query}
+use Rattle.sql_tree.specs.declared.query.Source.{Source}
+use Rattle.sql_tree.specs.declared.refusal.Refusal.{Refusal}
+use Rattle.sql_tree.specs.declared.refusal.Which.{Which}
+use Rattle.sql_tree.specs.declared.statement.Insert.{Insert}
+use Rattle.sql_tree.specs.declared.statement.Statement.{Statement}
+use Rattle.sql_binding.specs.Firsts.{first_of, refused_where}
+use Rattle.sql_binding.specs.Inserts.{insert_refusal, stored_refusal}
+use Rattle.sql_binding.specs.Queries.{bound_query, query_refusal}
+use Rattle.db_model.specs.Database.{Table, Shape, is_taken, super_name}
+use Rattle.db_model.specs.State.{State, Changes, has_changes, own_changes, pending_rows}
+use Rattle.db_model.specs.Locks.{excludes}
+use Rattle.db_model.specs.Numbers.{spent_refusal}
+use Rattle.db_model.specs.Refusing.{columns_limit, commit_refusal, create_limit, create_refusal, epoch_refusal, if_taken, name_limit, repeated_behind, rows_limit, taken_name}
+use Rattle.sql_binder.specs.Names as told
+use Rattle.sql_binder.specs.Queries as wrong
+use Rattle.db_model.specs.Refusals.{joining_limit, locked, query_refusal_in, rows_inserted_refusal, table_created_refusal, table_dropped_refusal, unknown_table_refusal}
+use Rattle.db_model.specs.Views.{bound_in, columns_found, table_found}
+use Rattle.statement_plan.specs.Bare.{IsBare, IsBareTable}
+use Rattle.statement_plan.specs.Planned.{early_refusal, select_refusal}
+
+abbrev pair : ℕ × Table → ℕ × List Column
+pair e = (e.0, e.1.columns)
+
+-- the place and the columns of the table of a name
+one_found : (b c : Bool) (n : ℕ) (t u : Table) (o p : Option (ℕ × Table)) → b ≡ c → t.columns ≡ u.columns → option_map pair o ≡ option_map pair p
+    → option_map pair (cond b (Some (n, t)) o) ≡ option_map pair (cond c (Some (n, u)) p)
+one_found true true n t u o p is columns rest = ap (λ (cs : List Column). Some (n, cs)) columns
+one_found false false n t u o p is columns rest = rest
+one_found true false n t u o p is columns rest = cc
+one_found false true n t u o p is columns rest = cc
+
+found_from : (name : List ℕ) (n : ℕ) (bs ts : List Table) → AllZip IsBareTable bs ts
+    → option_map pair (find (λ (e : ℕ × Table). bytes_eq e.1.name name) (enumerate_from n bs)) ≡ option_map pair (find (λ (e : ℕ × Table). bytes_eq e.1.name name) (enumerate_from n ts))
+found_from name n [] [] z = refl
+found_from name n [] (t ∷ ts) z = absurd z
+found_from name n (b ∷ bs) [] z = absurd z
+found_from name n (b ∷ bs) (t ∷ ts) z =
+    one_found (bytes_eq b.name name) (bytes_eq t.name name) n b t (find (λ (e : ℕ × Table). bytes_eq e.1.name name) (enumerate_from (n + 1) bs))
+    (find (λ (e : ℕ × Table). bytes_eq e.1.name name) (enumerate_from (n + 1) ts))
+    (ap (λ (m : List ℕ). bytes_eq m name) z.0.name) z.0.columns (found_from name (n + 1) bs ts z.1)
+
+abbrev pair_found : List Table → List ℕ → Option (ℕ × List Column)
+pair_found tables name = option_map pair (table_found name tables)
+
+found_same : (name : List ℕ) (bs ts : List Table) → AllZip IsBareTable bs ts → pair_found bs name ≡ pair_found ts name
+found_same name bs ts z = found_from name 0 bs ts z
+
+-- what is said of a table that was found, by its place and its columns
+columns_by : (o : Option (ℕ × Table)) → option_map (λ (e : ℕ × Table). e.1.columns) o ≡ option_map (λ (p : ℕ × List Column). p.1) (option_map pair o)
+columns_by None = refl
+columns_by (Some e) = refl
+
+columns_same : (name : List ℕ) (bs ts : List Table) → AllZip IsBareTable bs ts → columns_found bs name ≡ columns_found ts name
+columns_same name bs ts z =
+    columns_by (table_found name bs)
+    ∙ ap (λ (o : Option (ℕ × List Column)). option_map (λ (p : ℕ × List Column). p.1) o) (found_same name bs ts z)
+    ∙ sym (columns_by (table_found name ts))
+
+sources_same : (bs ts : List Table) (ss : List Source) → AllZip IsBareTable bs ts
+    → map (λ (s : Source). columns_found bs s.table) ss ≡ map (λ (s : Source). columns_found ts s.table) ss
+sources_same bs ts [] z = refl
+sources_same bs ts (s ∷ ss) z =
+    ap₂ (λ (o : Option (List Column)) (os : List (Option (List Column))). o ∷ os) (columns_same s.table bs ts z) (sources_same bs ts ss z)
+
+unknown_by : (name : List ℕ) (o : Option (ℕ × Table))
+    → option_map_or (λ (e : ℕ × Table). None) o (Some (Refusal.UnknownTable name)) ≡ option_map_or (λ (p : ℕ × List Column). None) (option_map pair o) (Some (Refusal.UnknownTable name))
+unknown_by name None = refl
+unknown_by name (Some e) = refl
+
+unknown_same : (name : List ℕ) (bare state : State) → IsBare bare state → unknown_table_refusal bare name ≡ unknown_table_refusal state name
+unknown_same name bare state is =
+    unknown_by name (table_found name bare.database.tables)
+    ∙ ap (λ (o : Option (ℕ × List Column)). option_map_or (λ (p : ℕ × List Column). None) o (Some (Refusal.UnknownTable name))) (found_same name bare.database.tables state.database.tables is.tables)
+    ∙ sym (unknown_by name (table_found name state.database.tables))
+
+one_source : (o : Option (ℕ × Table)) (es : List (ℕ × Table)) (ps : List (ℕ × List Column)) → map pair es ≡ ps
+    → map pair (option_map_or (λ (e : ℕ × Table). e ∷ []) o [] ++ es) ≡ option_map_or (λ (p : ℕ × List Column). p ∷ []) (option_map pair o) [] ++ ps
+one_source None es ps is = is
+one_source (Some e) es ps is = ap (λ (l : List (ℕ × List Column)). pair e ∷ l) is
+
+tables_by : (ts : List Table) (ss : List Source)
+    → map pair (flat_map (λ (s : Source). option_map_or (λ (e : ℕ × Table). e ∷ []) (table_found s.table ts) []) ss)
+    ≡ flat_map (λ (s : Source). option_map_or (λ (p : ℕ × List Column). p ∷ []) (pair_found ts s.table) []) ss
+tables_by ts [] = refl
+tables_by ts (s ∷ ss) =
+    one_source (table_found s.table ts) (flat_map (λ (t : Source). option_map_or (λ (e : ℕ × Table). e ∷ []) (table_found t.table ts) []) ss)
+    (flat_map (λ (t : Source). option_map_or (λ (p : ℕ × List Column). p ∷ []) (pair_found ts t.table) []) ss) (tables_by ts ss)
+
+pairs_same : (bs ts : List Table) (ss : List Source) → AllZip IsBareTable bs ts
+    → flat_map (λ (s : Source). option_map_or (λ (p : ℕ × List Column). p ∷ []) (pair_found bs s.table) []) ss
+    ≡ flat_map (λ (s : Source). option_map_or (λ (p : ℕ × List Column). p ∷ []) (pair_found ts s.table) []) ss
+pairs_same bs ts [] z = refl
+pairs_same bs ts (s ∷ ss) z =
+    ap₂ (λ (o : Option (ℕ × List Column)) (l : List (ℕ × List Column)). option_map_or (λ (p : ℕ × List Column). p ∷ []) o [] ++ l)
+    (found_same s.table bs ts z) (pairs_same bs ts ss z)
+
+-- the bound tree of a query
+pub tree_same : (bare state : State) (q : Query) → IsBare bare state → bound_in bare q ≡ bound_in state q
+tree_same bare state q is =
+    ap (λ (l : List (ℕ × List Column)). bound_query l q)
+    (tables_by bare.database.tables q.sources ∙ pairs_same bare.database.tables state.database.tables q.sources is.tables ∙ sym (tables_by state.database.tables q.sources))
+
+-- whether a name is taken
+taken_same : (name : List ℕ) (bs ts : List Table) → AllZip IsBareTable bs ts → is_taken name bs ≡ is_taken name ts
+taken_same name [] [] z = refl
+taken_same name [] (t ∷ ts) z = absurd z
+taken_same name (b ∷ bs) [] z = absurd z
+taken_same name (b ∷ bs) (t ∷ ts) z =
+    ap₂ (λ (here behind : Bool). here || behind)
+    (ap₂ (λ (m : List ℕ) (shapes : List Shape). bytes_eq m name || list_any (λ (s : Shape). bytes_eq s.name name) shapes) z.0.name z.0.shapes)
+    (taken_same name bs ts z.1)
+
+spent_same : (bare state : State) → IsBare bare state → spent_refusal bare ≡ spent_refusal state
+spent_same bare state is = ap (λ (n : ℕ). refused_where (nat_le 1152921504606846976 n) Refusal.NumbersSpent) is.next
+
+own_same : (bare state : State) → IsBare bare state → own_changes bare ≡ own_changes state
+own_same bare state is = ap₂ (λ (sessions : List (List Changes)) (current : ℕ). slice_index_or sessions (current - 1) []) is.sessions is.current
+
+locked_same : (bare state : State) (name : List ℕ) (want : Bool) → IsBare bare state → locked bare name want ≡ locked state name want
+locked_same bare state name want is =
+    ap₂ (λ (sessions : List (List Changes)) (current : ℕ).
+    option_map Refusal.Locked (option_map (λ (e : ℕ × List Changes). e.0)
+    (find (λ (e : ℕ × List Changes). not (e.0 == current) && excludes name want e.1) (enumerate_from 1 sessions))))
+    is.sessions is.current
+
+joining_same : (bare state : State) (name : List ℕ) (more : ℕ) → IsBare bare state → joining_limit bare name more ≡ joining_limit state name more
+joining_same bare state name more is = ap (λ (changes : List Changes). rows_limit (length (pending_rows name changes) + more)) (own_same bare state is)
+
+if_taken_same : (name : List ℕ) (bs ts : List Table) → AllZip IsBareTable bs ts → if_taken bs name ≡ if_taken ts name
+if_taken_same name bs ts z = ap (λ (b : Bool). cond b (Some name) None) (taken_same name bs ts z)
+
+names_same : (name : List ℕ) (columns : List Column) (bs ts : List Table) → AllZip IsBareTable bs ts → taken_name bs name columns ≡ taken_name ts name columns
+names_same name columns bs ts z =
+    ap₂ (λ (o p : Option (List ℕ)). told.first_of o (told.first_of p (repeated_behind [] columns))) (if_taken_same name bs ts z) (if_taken_same (super_name name) bs ts z)
+
+limit_same : (name : List ℕ) (columns : List Column) (bs ts : List Table) → AllZip IsBareTable bs ts → create_limit bs name columns ≡ create_limit ts name columns
+limit_same name columns bs ts z =
+    ap (λ (n : ℕ). told.first_of (told.first_of (wrong.refused_where (nat_le 1024 n) (Refusal.Limit Which.Tables 1024)) (name_limit name)) (columns_limit columns))
+    (length_all_zip IsBareTable bs ts z)
+
+made_same : (name : List ℕ) (columns : List Column) (bs ts : List Table) → AllZip IsBareTable bs ts → create_refusal bs name columns ≡ create_refusal ts name columns
+made_same name columns bs ts z =
+    ap₂ (λ (o : Option (List ℕ)) (p : Option Refusal). told.first_of (option_map Refusal.Exists o) p) (names_same name columns bs ts z) (limit_same name columns bs ts z)
+
+created_same : (bare state : State) (name : List ℕ) (columns : List Column) → IsBare bare state
+    → table_created_refusal bare name columns ≡ table_created_refusal state name columns
+created_same bare state name columns is =
+    ap₂ (λ (o p : Option Refusal). first_of o p) (made_same name columns bare.database.tables state.database.tables is.tables) (spent_same bare state is)
+
+dropped_same : (bare state : State) (name : List ℕ) → IsBare bare state → table_dropped_refusal bare name ≡ table_dropped_refusal state name
+dropped_same bare state name is =
+    ap₂ (λ (o p : Option Refusal). first_of o p) (unknown_same name bare state is)
+    (ap₂ (λ (o p : Option Refusal). first_of o p) (locked_same bare state name true is) (spent_same bare state is))
+
+inserted_same : (bare state : State) (i : Insert) → IsBare bare state → rows_inserted_refusal bare i ≡ rows_inserted_refusal state i
+inserted_same bare state i is =
+    let columns : columns_found bare.database.tables i.table ≡ columns_found state.database.tables i.table =
+    columns_same i.table bare.database.tables state.database.tables is.tables in
+    ap₂ (λ (o : Option (List Column)) (rest : Option Refusal). first_of (insert_refusal o i) rest) columns
+    (ap₂ (λ (o p : Option Refusal). first_of o p) (joining_same bare state i.table (length i.rows) is)
+    (ap₂ (λ (l : Option Refusal) (o : Option (List Column)). first_of l (option_and_then (λ (cs : List Column). stored_refusal cs i) o))
+    (locked_same bare state i.table false is) columns))
+
+committed_same : (bare state : State) → IsBare bare state → commit_refusal bare ≡ commit_refusal state
+committed_same bare state is =
+    ap₂ (λ (changes : List Changes) (last : ℕ). wrong.refused_where (has_changes changes && nat_le 9223372036854775807 last) Refusal.EpochsSpent)
+    (own_same bare state is) is.last
+
+queried_same : (bare state : State) (q : Query) → IsBare bare state → query_refusal_in bare q ≡ query_refusal_in state q
+queried_same bare state q is =
+    ap (λ (cs : List (Option (List Column))). query_refusal cs q) (sources_same bare.database.tables state.database.tables q.sources is.tables)
+
+selected_same : (bare state : State) (at : At) (q : Query) → IsBare bare state → select_refusal bare at q ≡ select_refusal state at q
+selected_same bare state at q is =
+    ap₂ (λ (o p : Option Refusal). first_of o p) (queried_same bare state q is)
+    (ap₂ (λ (mark last : ℕ). epoch_refusal mark last at) is.mark is.last)
+
+-- why a statement is refused
+pub early_same : (bare state : State) (s : Statement) → IsBare bare state → early_refusal bare s ≡ early_refusal state s
+early_same bare state (Statement.CreateTable name columns) is = created_same bare state name columns is
+early_same bare state (Statement.CreateProjection p) is = refl
+early_same bare state (Statement.DropTable name) is = dropped_same bare state name is
+early_same bare state (Statement.DropProjection name) is = refl
+early_same bare state (Statement.Insert i) is = inserted_same bare state i is
+early_same bare state (Statement.Delete d) is = refl
+early_same bare state (Statement.Update u) is = refl
+early_same bare state (Statement.Copy table file) is = refl
+early_same bare state Statement.Commit is = committed_same bare state is
+early_same bare state Statement.Rollback is = refl
+early_same bare state (Statement.Select at q) is = selected_same bare state at q is
+early_same bare state (Statement.Explain q) is = queried_same bare state q is
+early_same bare state (Statement.Call f) is = refl
+early_same bare state (Statement.Session n) is = refl
+early_same bare state Statement.Step is = refl

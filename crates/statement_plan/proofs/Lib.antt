@@ -1,0 +1,4 @@
+mod Taken
+mod Joining
+mod Sources
+mod Alike

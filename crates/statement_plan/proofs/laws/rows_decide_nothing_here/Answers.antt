@@ -1,0 +1,5 @@
+use Rattle.statement_plan.proofs.Alike.{early_same, tree_same}
+use Rattle.statement_plan.proofs.laws.rows_decide_nothing_here.Goals as goal
+
+pub returns : goal.returns
+returns c = record { refusal = early_same; tree = tree_same }

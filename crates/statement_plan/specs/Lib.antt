@@ -1,0 +1,4 @@
+pub mod Bare
+pub mod Inserting
+pub mod Planned
+pub mod Querying

@@ -1,0 +1,87 @@
+-- What a statement was planned to do, and why it is refused before a row is looked at.
+use Rattle.std.specs.Prelude.{◌≡◌, Bool, true, false, Option, Some, None, option_map}
+use Rattle.std.specs.List.{All}
+use Rattle.col_value.specs.Order.{IsRow}
+use Rattle.sql_tree.specs.declared.query.At.{At}
+use Rattle.sql_tree.specs.declared.query.Query.{Query}
+use Rattle.sql_tree.specs.declared.refusal.Refusal.{Refusal}
+use Rattle.sql_tree.specs.declared.statement.Function.{Function}
+use Rattle.sql_tree.specs.declared.statement.Statement.{Statement}
+use Rattle.sql_bound.specs.declared.query.BoundQuery.{BoundQuery}
+use Rattle.sql_binding.specs.Firsts.{first_of}
+use Rattle.sql_binding.specs.Inserts.{inserted_rows}
+use Rattle.db_model.specs.State.{State}
+use Rattle.db_model.specs.Views.{bound_in, table_found}
+use Rattle.db_model.specs.Refusing.{commit_refusal, epoch_refusal}
+use Rattle.db_model.specs.Refusals.{query_refusal_in, rows_inserted_refusal, table_created_refusal, table_dropped_refusal}
+use Rattle.plain_query.specs.Bounded.{IsBoundedQuery}
+use Rattle.statement_plan.specs.declared.planning.Plan.{Plan}
+
+-- the functions that are planned
+abbrev pub is_planned_call : Function → Bool
+is_planned_call Function.Lge = true
+is_planned_call Function.Ahm = true
+is_planned_call Function.Current = true
+is_planned_call Function.MakeAhmNow = false
+is_planned_call (Function.SetAhm n) = false
+is_planned_call Function.Moveout = true
+is_planned_call Function.Mergeout = false
+is_planned_call (Function.Purge table) = false
+is_planned_call (Function.Refresh table) = false
+is_planned_call Function.StartRefresh = false
+
+-- the forms that are planned
+abbrev pub is_planned : Statement → Bool
+is_planned (Statement.CreateTable name columns) = true
+is_planned (Statement.CreateProjection p) = false
+is_planned (Statement.DropTable name) = true
+is_planned (Statement.DropProjection name) = false
+is_planned (Statement.Insert i) = true
+is_planned (Statement.Delete d) = false
+is_planned (Statement.Update u) = false
+is_planned (Statement.Copy table file) = false
+is_planned Statement.Commit = true
+is_planned Statement.Rollback = true
+is_planned (Statement.Select at q) = true
+is_planned (Statement.Explain q) = true
+is_planned (Statement.Call f) = is_planned_call f
+is_planned (Statement.Session n) = true
+is_planned Statement.Step = true
+
+-- why a query is refused for what it says, whatever the rows are
+abbrev pub select_refusal : State → At → Query → Option Refusal
+select_refusal state at q = first_of (query_refusal_in state q) (epoch_refusal state.database.ahm state.database.last at)
+
+-- why a statement of these forms is refused, whatever the rows are
+abbrev pub early_refusal : State → Statement → Option Refusal
+early_refusal state (Statement.CreateTable name columns) = table_created_refusal state name columns
+early_refusal state (Statement.DropTable name) = table_dropped_refusal state name
+early_refusal state (Statement.Insert i) = rows_inserted_refusal state i
+early_refusal state Statement.Commit = commit_refusal state
+early_refusal state (Statement.Select at q) = select_refusal state at q
+early_refusal state (Statement.Explain q) = query_refusal_in state q
+early_refusal state s = None
+
+-- the bound tree of a query, whose expressions have static bounds
+pub record IsBoundIn (state : State) (q : Query) (b : BoundQuery) : Type 0 where
+  pub tree : b ≡ bound_in state q
+  pub bounded : IsBoundedQuery b
+
+-- a plan has what the statement needs
+abbrev pub IsPlanOf : State → Statement → Plan → Type 0
+IsPlanOf state (Statement.CreateTable name columns) Plan.CreateTable = Unit {0}
+IsPlanOf state (Statement.DropTable name) (Plan.DropTable place) = option_map (λ e. e.0) (table_found name state.database.tables) ≡ Some place
+IsPlanOf state (Statement.Insert i) (Plan.Insert rows) = (rows.items ≡ inserted_rows i) × All IsRow rows.items
+IsPlanOf state Statement.Commit Plan.Commit = Unit {0}
+IsPlanOf state Statement.Rollback Plan.Rollback = Unit {0}
+IsPlanOf state (Statement.Select at q) (Plan.Select b) = IsBoundIn state q b
+IsPlanOf state (Statement.Explain q) (Plan.Explain b) = IsBoundIn state q b
+IsPlanOf state (Statement.Call f) Plan.Call = Unit {0}
+IsPlanOf state (Statement.Session n) (Plan.Session m) = m ≡ n
+IsPlanOf state Statement.Step Plan.Step = Unit {0}
+IsPlanOf state s plan = ⊥
+
+-- the statement isn't refused before a row is looked at, and this is its plan
+pub record IsPlanned (state : State) (s : Statement) (plan : Plan) : Type 0 where
+  pub accepted : early_refusal state s ≡ None
+  pub of : IsPlanOf state s plan

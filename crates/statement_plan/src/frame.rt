@@ -1,0 +1,219 @@
+//! What refusals look at.
+
+ghost use Rattle.std.specs.Prelude.{◌≡◌, ◌≤◌, ◌||◌, bytes_eq, length, map, option_map};
+ghost use Rattle.std.specs.List.{list_any};
+ghost use Rattle.db_model.specs.Database.{is_taken};
+ghost use Rattle.db_model.specs.State.{pending_rows};
+ghost use Rattle.db_model.specs.Numbers.{spent_refusal};
+ghost use Rattle.db_model.specs.Refusing.{commit_refusal, epoch_refusal};
+ghost use Rattle.db_model.specs.Refusals.{joining_limit, locked};
+ghost use Rattle.db_model.specs.Views.{table_found};
+ghost use Rattle.folder_model.specs.Projections.{shape_of};
+ghost use Rattle.statement_plan.specs.Bare.{bare_state, bare_table};
+
+use catalog_types::{Projection, Table};
+use name_binder::Found;
+use sql_tree::{At, Refusal, Which};
+use std::marker::Model;
+use txn_core::{Session, Txns};
+
+// No event draws a number where the next one has reached this.
+const SPENT: u64 = 1 << 60;
+
+// The greatest epoch that can be closed.
+const MOST_EPOCHS: u64 = 9_223_372_036_854_775_807;
+
+// The most rows that a session may have pending in a table.
+const MOST_ROWS: usize = 16_777_216;
+
+/// The tables of a catalogue, the newest closed epoch, the ancient history mark, the next number, what the sessions have changed and
+/// which one is current, from 1 to 8.
+#[derive(Drop)]
+pub struct Frame<'a> {
+    tables: &'a [Table],
+    last: u64,
+    mark: u64,
+    next: u64,
+    txns: &'a Txns,
+    current: usize,
+}
+
+impl<'a> Model for Frame<'a> {
+    ghost use Rattle.std.specs.Prelude.{◌≤◌};
+    ghost use Rattle.db_model.specs.State.{State};
+    ghost use Rattle.statement_plan.specs.Bare.{bare_state};
+
+    ghost Value = { State };
+
+    ghost view = { λ f. bare_state f.tables.now f.last f.mark f.next f.txns.now f.current };
+
+    ghost invariant = { λ f. (1 ≤ f.current) × (f.current ≤ 8) };
+}
+
+fn same(a: &[u8], b: &[u8]) -> bool
+    ensures { result ≡ bytes_eq a.now b.now }
+{
+    a == b
+}
+
+/// The place of the table of a name, and its columns.
+fn found_in<'a>(tables: &'a [Table], name: &[u8]) -> Option<Found<'a>>
+    ensures { result ≡ option_map (λ e. (e.0, e.1.columns)) (table_found name.now (map bare_table tables.now)) }
+{
+    for (place, table) in tables.iter().enumerate() {
+        if same(table.name.as_slice(), name) {
+            return Some(Found::new(place, table.columns.as_slice()));
+        }
+    }
+    None
+}
+
+fn is_projection(projections: &[Projection], name: &[u8]) -> bool
+    ensures { result ≡ list_any (λ s. bytes_eq s.name name.now) (map shape_of projections.now) }
+{
+    for projection in projections {
+        if same(projection.name.as_slice(), name) {
+            return true;
+        }
+    }
+    false
+}
+
+fn is_called(table: &Table, name: &[u8]) -> bool
+    ensures { result ≡ (bytes_eq table.now.name name.now || list_any (λ s. bytes_eq s.name name.now) (map shape_of table.now.projections)) }
+{
+    same(table.name.as_slice(), name) || is_projection(table.projections.as_slice(), name)
+}
+
+/// Whether a table or a projection is called so.
+fn is_taken(tables: &[Table], name: &[u8]) -> bool
+    ensures { result ≡ is_taken name.now (map bare_table tables.now) }
+{
+    for table in tables {
+        if is_called(table, name) {
+            return true;
+        }
+    }
+    false
+}
+
+/// How many rows a session has pending in a table.
+fn waiting(session: &Session, name: &[u8]) -> usize
+    ensures { result ≡ length (pending_rows name.now session.now) }
+{
+    for changes in session.changes() {
+        if same(changes.table(), name) {
+            return changes.rows().len();
+        }
+    }
+    0
+}
+
+impl<'a> Frame<'a> {
+    /// The frame of a state. It takes no memory.
+    pub fn new(
+        tables: &'a [Table],
+        last: u64,
+        mark: u64,
+        next: u64,
+        txns: &'a Txns,
+        current: usize,
+    ) -> Frame<'a>
+        requires first { 1 ≤ current }
+        requires last { current ≤ 8 }
+        ensures { result ≡ bare_state tables.now last mark next txns.now current }
+    {
+        Frame {
+            tables,
+            last,
+            mark,
+            next,
+            txns,
+            current,
+        }
+    }
+
+    /// The place of the table of a name, and its columns.
+    pub(crate) fn found(&self, name: &[u8]) -> Option<Found<'a>>
+        ensures { result ≡ option_map (λ e. (e.0, e.1.columns)) (table_found name.now self.now.database.tables) }
+    {
+        found_in(self.tables, name)
+    }
+
+    /// Whether a table or a projection is called so.
+    pub(crate) fn is_taken(&self, name: &[u8]) -> bool
+        ensures { result ≡ is_taken name.now self.now.database.tables }
+    {
+        is_taken(self.tables, name)
+    }
+
+    /// How many tables there are.
+    pub(crate) fn count(&self) -> usize
+        ensures { result ≡ length self.now.database.tables }
+    {
+        self.tables.len()
+    }
+
+    /// Where no numbers are left, the refusal of what would draw one.
+    pub(crate) fn spent(&self) -> Option<Refusal>
+        ensures { result ≡ spent_refusal self.now }
+    {
+        if self.next >= SPENT {
+            Some(Refusal::NumbersSpent)
+        } else {
+            None
+        }
+    }
+
+    /// Where another session keeps this one from a table, the refusal.
+    pub(crate) fn locked(&self, name: &[u8], want: bool) -> Option<Refusal>
+        ensures { result ≡ locked self.now name.now want }
+    {
+        match self.txns.conflict(self.current, name, want) {
+            Some(holder) => Some(Refusal::Locked(holder as u8)),
+            None => None,
+        }
+    }
+
+    /// Where so many rows more are too many for the current session on one table, the refusal.
+    pub(crate) fn joining(&self, name: &[u8], more: usize) -> Option<Refusal>
+        ensures { result ≡ joining_limit self.now name.now more }
+    {
+        let waiting = waiting(self.txns.session(self.current), name);
+        if waiting > MOST_ROWS || more > MOST_ROWS - waiting {
+            Some(Refusal::Limit(Which::Rows, 16_777_216))
+        } else {
+            None
+        }
+    }
+
+    /// Where the current session has something to commit and the greatest epoch is closed, the refusal.
+    pub(crate) fn committing(&self) -> Option<Refusal>
+        ensures { result ≡ commit_refusal self.now }
+    {
+        if self.txns.session(self.current).has_changes() && self.last >= MOST_EPOCHS {
+            Some(Refusal::EpochsSpent)
+        } else {
+            None
+        }
+    }
+
+    /// Why an epoch can't be read: it lies before the ancient history mark, or in the future.
+    pub(crate) fn reading(&self, at: At) -> Option<Refusal>
+        ensures { result ≡ epoch_refusal self.now.database.ahm self.now.database.last at }
+    {
+        match at {
+            At::View => None,
+            At::Latest => None,
+            At::Epoch(epoch) => {
+                if epoch < u128::from(self.mark) {
+                    return Some(Refusal::EpochTooOld(epoch, self.mark));
+                }
+                if epoch > u128::from(self.last) {
+                    return Some(Refusal::EpochInFuture(epoch, self.last));
+                }
+                None
+            }
+        }
+    }
+}

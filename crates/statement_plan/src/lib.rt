@@ -1,0 +1,18 @@
+//! What a statement does, with its names resolved; or why it is refused before a row is looked at.
+//!
+//! A `Frame` is seen as a state of db_model whose tables have no rows (`bare_state` of `specs/Bare.antt`): refusals look at the tables'
+//! names, columns and projections, at the epochs, the next number and what the sessions have changed. `make_plan` gives what the statement
+//! does, or the refusal (`IsPlanned`, `early_refusal` of `specs/Planned.antt`); `rows_decide_nothing_here` says that it is that of each
+//! state of which this is the frame.
+#![tactic(auto)]
+
+mod creating;
+mod frame;
+mod inserting;
+mod laws;
+mod planning;
+mod querying;
+
+pub use frame::Frame;
+pub use laws::rows_decide_nothing_here;
+pub use planning::{Plan, make_plan};
