@@ -1,7 +1,7 @@
 -- What is looked at before the rows is the same in a state and in the one without its rows.
-use Rattle.std.proofs.Common.{◌≡◌, ℕ, ◌+◌, List, [], ◌∷◌, ◌++◌, Bool, true, false, cond, length, map, refl, sym, ◌-◌, ◌∙◌, ap, ap₂}
+use Rattle.std.proofs.Common.{◌≡◌, ℕ, ◌+◌, List, [], ◌∷◌, ◌++◌, Bool, true, false, cond, length, map, filter, refl, sym, ◌-◌, ◌∙◌, ap, ap₂}
 use Rattle.std.specs.Prelude.{Option, Some, None, option_map, option_and_then, find, bytes_eq, nat_le, ◌&&◌, ◌||◌, ◌==◌, not}
-use Rattle.std.specs.List.{AllZip, enumerate_from, flat_map, list_any, slice_index_or}
+use Rattle.std.specs.List.{AllZip, enumerate_from, flat_map, list_all, list_any, slice_index_or}
 use Rattle.std.specs.Option.{option_map_or}
 use Rattle.std.proofs.lemmas.List.Elements.{length_all_zip}
 use Rattle.col_value.specs.declared.column.Column.{Column}
@@ -10,19 +10,25 @@ use Rattle.sql_tree.specs.declared.query.Query.{Query}
 use Rattle.sql_tree.specs.declared.query.Source.{Source}
 use Rattle.sql_tree.specs.declared.refusal.Refusal.{Refusal}
 use Rattle.sql_tree.specs.declared.refusal.Which.{Which}
+use Rattle.sql_tree.specs.declared.statement.Delete.{Delete}
 use Rattle.sql_tree.specs.declared.statement.Insert.{Insert}
+use Rattle.sql_tree.specs.declared.statement.NewProjection.{NewProjection}
 use Rattle.sql_tree.specs.declared.statement.Statement.{Statement}
+use Rattle.sql_tree.specs.declared.statement.Update.{Update}
 use Rattle.sql_binding.specs.Firsts.{first_of, refused_where}
+use Rattle.sql_binding.specs.Changes.{delete_refusal, update_refusal}
+use Rattle.sql_binding.specs.Projections.{projection_form_refusal, projection_name_refusal}
+use Rattle.sql_binding.specs.Projections as binding
 use Rattle.sql_binding.specs.Inserts.{insert_refusal, stored_refusal}
 use Rattle.sql_binding.specs.Queries.{bound_query, query_refusal}
-use Rattle.db_model.specs.Database.{Table, Shape, is_taken, super_name}
+use Rattle.db_model.specs.Database.{Table, Shape, has_columns, is_taken, super_name}
 use Rattle.db_model.specs.State.{State, Changes, has_changes, own_changes, pending_rows}
 use Rattle.db_model.specs.Locks.{excludes}
 use Rattle.db_model.specs.Numbers.{spent_refusal}
 use Rattle.db_model.specs.Refusing.{columns_limit, commit_refusal, create_limit, create_refusal, epoch_refusal, if_taken, name_limit, repeated_behind, rows_limit, taken_name}
 use Rattle.sql_binder.specs.Names as told
 use Rattle.sql_binder.specs.Queries as wrong
-use Rattle.db_model.specs.Refusals.{joining_limit, locked, query_refusal_in, rows_inserted_refusal, table_created_refusal, table_dropped_refusal, unknown_table_refusal}
+use Rattle.db_model.specs.Refusals.{joining_limit, last_super_refusal, locked, owner, projection_created_refusal, projection_dropped_refusal, projection_refusal_over, query_refusal_in, rows_deleted_refusal, rows_inserted_refusal, table_created_refusal, table_dropped_refusal, unknown_table_refusal}
 use Rattle.db_model.specs.Views.{bound_in, columns_found, table_found}
 use Rattle.statement_plan.specs.Bare.{IsBare, IsBareTable}
 use Rattle.statement_plan.specs.Planned.{early_refusal, select_refusal}
@@ -184,16 +190,86 @@ selected_same bare state at q is =
     ap₂ (λ (o p : Option Refusal). first_of o p) (queried_same bare state q is)
     (ap₂ (λ (mark last : ℕ). epoch_refusal mark last at) is.mark is.last)
 
+-- a new projection
+one_said : {X : Type 0} (f : ℕ × Table → Option X) (b c : Bool) (n : ℕ) (t u : Table) (o p : Option (ℕ × Table)) → b ≡ c → f (n, t) ≡ f (n, u)
+    → option_and_then f o ≡ option_and_then f p → option_and_then f (cond b (Some (n, t)) o) ≡ option_and_then f (cond c (Some (n, u)) p)
+one_said f true true n t u o p is here rest = here
+one_said f false false n t u o p is here rest = rest
+one_said f true false n t u o p is here rest = absurd (cc)
+one_said f false true n t u o p is here rest = absurd (cc)
+
+said_from : {X : Type 0} (f : ℕ × Table → Option X) → ((n : ℕ) (b t : Table) → IsBareTable b t → f (n, b) ≡ f (n, t))
+    → (name : List ℕ) (n : ℕ) (bs ts : List Table) → AllZip IsBareTable bs ts
+    → option_and_then f (find (λ (e : ℕ × Table). bytes_eq e.1.name name) (enumerate_from n bs))
+    ≡ option_and_then f (find (λ (e : ℕ × Table). bytes_eq e.1.name name) (enumerate_from n ts))
+said_from f each name n [] [] z = refl
+said_from f each name n [] (t ∷ ts) z = absurd z
+said_from f each name n (b ∷ bs) [] z = absurd z
+said_from f each name n (b ∷ bs) (t ∷ ts) z =
+    one_said f (bytes_eq b.name name) (bytes_eq t.name name) n b t (find (λ (e : ℕ × Table). bytes_eq e.1.name name) (enumerate_from (n + 1) bs))
+    (find (λ (e : ℕ × Table). bytes_eq e.1.name name) (enumerate_from (n + 1) ts))
+    (ap (λ (m : List ℕ). bytes_eq m name) z.0.name) (each n b t z.0) (said_from f each name (n + 1) bs ts z.1)
+
+form_same : (p : NewProjection) (n : ℕ) (b t : Table) → IsBareTable b t → projection_refusal_over p b ≡ projection_refusal_over p t
+form_same p n b t is =
+    ap₂ (λ (cs : List Column) (ss : List Shape). first_of (projection_form_refusal cs p)
+    (first_of (refused_where (nat_le 16 (length ss)) (Refusal.Limit Which.Projections 16)) (binding.name_limit p.name)))
+    is.columns is.shapes
+
+shaped_same : (bare state : State) (p : NewProjection) → IsBare bare state → projection_created_refusal bare p ≡ projection_created_refusal state p
+shaped_same bare state p is =
+    ap₂ (λ (o : Option (List Column)) (rest : Option Refusal). first_of (projection_name_refusal o p) rest)
+    (columns_same p.table bare.database.tables state.database.tables is.tables)
+    (ap₂ (λ (o : Option (List ℕ)) (rest : Option Refusal). first_of (option_map Refusal.Exists o) rest)
+    (if_taken_same p.name bare.database.tables state.database.tables is.tables)
+    (ap₂ (λ (o q : Option Refusal). first_of o q)
+    (said_from (λ (e : ℕ × Table). projection_refusal_over p e.1) (form_same p) p.table 0 bare.database.tables state.database.tables is.tables)
+    (spent_same bare state is)))
+
+-- a projection that is dropped
+one_super : (name : List ℕ) (k l : Bool) (b t : Table) (o p : Option Table) → k ≡ l → IsBareTable b t → last_super_refusal name o ≡ last_super_refusal name p
+    → last_super_refusal name (cond k (Some b) o) ≡ last_super_refusal name (cond l (Some t) p)
+one_super name true true b t o p is same rest =
+    ap₂ (λ (cs : List Column) (ss : List Shape). refused_where
+    (list_all (λ (s : Shape). bytes_eq s.name name) (filter (λ (s : Shape). s.fresh && has_columns s (map (λ (e : ℕ × Column). e.0) (enumerate_from 0 cs))) ss))
+    (Refusal.LastSuper name))
+    same.columns same.shapes
+one_super name false false b t o p is same rest = rest
+one_super name true false b t o p is same rest = absurd (cc)
+one_super name false true b t o p is same rest = absurd (cc)
+
+super_same : (name : List ℕ) (bs ts : List Table) → AllZip IsBareTable bs ts → last_super_refusal name (owner name bs) ≡ last_super_refusal name (owner name ts)
+super_same name [] [] z = refl
+super_same name [] (t ∷ ts) z = absurd z
+super_same name (b ∷ bs) [] z = absurd z
+super_same name (b ∷ bs) (t ∷ ts) z =
+    one_super name (list_any (λ (s : Shape). bytes_eq s.name name) b.shapes) (list_any (λ (s : Shape). bytes_eq s.name name) t.shapes) b t (owner name bs) (owner name ts)
+    (ap (λ (ss : List Shape). list_any (λ (s : Shape). bytes_eq s.name name) ss) z.0.shapes) z.0 (super_same name bs ts z.1)
+
+undone_same : (bare state : State) (name : List ℕ) → IsBare bare state → projection_dropped_refusal bare name ≡ projection_dropped_refusal state name
+undone_same bare state name is =
+    ap₂ (λ (o p : Option Refusal). first_of o p) (super_same name bare.database.tables state.database.tables is.tables) (spent_same bare state is)
+
+deleted_same : (bare state : State) (d : Delete) → IsBare bare state → rows_deleted_refusal bare d ≡ rows_deleted_refusal state d
+deleted_same bare state d is =
+    ap₂ (λ (o : Option (List Column)) (rest : Option Refusal). first_of (delete_refusal o d) rest)
+    (columns_same d.table bare.database.tables state.database.tables is.tables) (locked_same bare state d.table true is)
+
+updated_same : (bare state : State) (u : Update) → IsBare bare state
+    → update_refusal (columns_found bare.database.tables u.table) u ≡ update_refusal (columns_found state.database.tables u.table) u
+updated_same bare state u is =
+    ap (λ (o : Option (List Column)). update_refusal o u) (columns_same u.table bare.database.tables state.database.tables is.tables)
+
 -- why a statement is refused
 pub early_same : (bare state : State) (s : Statement) → IsBare bare state → early_refusal bare s ≡ early_refusal state s
 early_same bare state (Statement.CreateTable name columns) is = created_same bare state name columns is
-early_same bare state (Statement.CreateProjection p) is = refl
+early_same bare state (Statement.CreateProjection p) is = shaped_same bare state p is
 early_same bare state (Statement.DropTable name) is = dropped_same bare state name is
-early_same bare state (Statement.DropProjection name) is = refl
+early_same bare state (Statement.DropProjection name) is = undone_same bare state name is
 early_same bare state (Statement.Insert i) is = inserted_same bare state i is
-early_same bare state (Statement.Delete d) is = refl
-early_same bare state (Statement.Update u) is = refl
-early_same bare state (Statement.Copy table file) is = refl
+early_same bare state (Statement.Delete d) is = deleted_same bare state d is
+early_same bare state (Statement.Update u) is = updated_same bare state u is
+early_same bare state (Statement.Copy table file) is = unknown_same table bare state is
 early_same bare state Statement.Commit is = committed_same bare state is
 early_same bare state Statement.Rollback is = refl
 early_same bare state (Statement.Select at q) is = selected_same bare state at q is

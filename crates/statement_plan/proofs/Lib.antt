@@ -1,4 +1,7 @@
 mod Taken
 mod Joining
 mod Sources
+mod Owners
+mod Marked
+mod Shaped
 mod Alike

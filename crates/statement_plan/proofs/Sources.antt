@@ -35,26 +35,26 @@ use Rattle.statement_plan.specs.Querying.{found_of}
 abbrev pair : ℕ × Table → ℕ × List Column
 pair e = (e.0, e.1.columns)
 
-first_none : {X : Type 0} (a b : Option X) → first_of a b ≡ None → a ≡ None
+pub first_none : {X : Type 0} (a b : Option X) → first_of a b ≡ None → a ≡ None
 first_none None b is = refl
 first_none (Some x) b is = cc
 
-second_none : {X : Type 0} (a b : Option X) → first_of a b ≡ None → b ≡ None
+pub second_none : {X : Type 0} (a b : Option X) → first_of a b ≡ None → b ≡ None
 second_none None b is = is
 second_none (Some x) b is = cc
 
-unrefused : (b : Bool) (r : Refusal) → refused_where (not b) r ≡ None → b ≡ true
+pub unrefused : (b : Bool) (r : Refusal) → refused_where (not b) r ≡ None → b ≡ true
 unrefused true r is = refl
 unrefused false r is = cc
 
-each_passes : {X : Type 0} (p : X → Bool) (xs : List X) → list_all p xs ≡ true → All (λ x. p x ≡ true) xs
+pub each_passes : {X : Type 0} (p : X → Bool) (xs : List X) → list_all p xs ≡ true → All (λ x. p x ≡ true) xs
 each_passes {X} p [] all = All-nil (λ (x : X). p x ≡ true)
 each_passes {X} p (x ∷ xs) all =
     let parts = and_parts (p x) (list_all p xs) all in
     All-cons (λ (y : X). p y ≡ true) x xs parts.0 (each_passes p xs parts.1)
 
 -- the columns of what was found
-one_column : (o : Option (ℕ × Table)) → option_map (λ (t : ℕ × List Column). t.1) (option_map pair o) ≡ option_map (λ (e : ℕ × Table). e.1.columns) o
+pub one_column : (o : Option (ℕ × Table)) → option_map (λ (t : ℕ × List Column). t.1) (option_map pair o) ≡ option_map (λ (e : ℕ × Table). e.1.columns) o
 one_column None = refl
 one_column (Some e) = refl
 
@@ -99,7 +99,7 @@ bounds_are : (grouped : Bool) (aggs : List Aggregate) → (grouped ≡ false →
 bounds_are true aggs none = refl
 bounds_are false aggs none = ap (λ (l : List Aggregate). map bound_of_aggregate l) (sym (none refl))
 
-bounded_by : (b : BoundQuery) → (b.grouped ≡ false → b.aggs ≡ []) → is_narrow_query b ≡ true → IsBoundedQuery b
+pub bounded_by : (b : BoundQuery) → (b.grouped ≡ false → b.aggs ≡ []) → is_narrow_query b ≡ true → IsBoundedQuery b
 bounded_by b none narrow =
     let bounds : List ℕ = map bound_of_aggregate b.aggs in
     let same : bounds ≡ seen_bounds b = sym (bounds_are b.grouped b.aggs none) in
@@ -115,7 +115,7 @@ bounded_by b none narrow =
       having = subst (λ (ns : List ℕ). option_map_or (is_narrow ns) b.having true ≡ true) same three.1;
     }
 
-no_aggregates : (tables : List (ℕ × List Column)) (q : Query) → (bound_query tables q).grouped ≡ false → (bound_query tables q).aggs ≡ []
+pub no_aggregates : (tables : List (ℕ × List Column)) (q : Query) → (bound_query tables q).grouped ≡ false → (bound_query tables q).aggs ≡ []
 no_aggregates tables q = by (is_grouped q)
   where
     over : Bool → BoundQuery
@@ -137,7 +137,7 @@ narrow_over tables q accepted =
     (second_none (refused_where (not (is_typed_query (row_kinds seen) (bound_query tables q))) Refusal.TypeMismatch)
     (refused_where (not (is_narrow_query (bound_query tables q))) Refusal.TooWide) here)
 
-bounded_over : (found : List (Option (ℕ × List Column))) (tables : List (ℕ × List Column)) (q : Query)
+pub bounded_over : (found : List (Option (ℕ × List Column))) (tables : List (ℕ × List Column)) (q : Query)
     → all_there found ≡ Some tables → query_refusal (there.columns_found found) q ≡ None → IsBoundedQuery (bound_query tables q)
 bounded_over found tables q all accepted =
     let behind : option_and_then (λ (ts : List (List Column)). refusal_over ts q) (all_there (there.columns_found found)) ≡ None =

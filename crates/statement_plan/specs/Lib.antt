@@ -1,4 +1,6 @@
 pub mod Bare
 pub mod Inserting
+pub mod Places
 pub mod Planned
+pub mod Projecting
 pub mod Querying

@@ -1,5 +1,5 @@
 -- What a statement was planned to do, and why it is refused before a row is looked at.
-use Rattle.std.specs.Prelude.{◌≡◌, Bool, true, false, Option, Some, None, option_map}
+use Rattle.std.specs.Prelude.{◌≡◌, Bool, true, false, Option, Some, None}
 use Rattle.std.specs.List.{All}
 use Rattle.col_value.specs.Order.{IsRow}
 use Rattle.sql_tree.specs.declared.query.At.{At}
@@ -9,13 +9,15 @@ use Rattle.sql_tree.specs.declared.statement.Function.{Function}
 use Rattle.sql_tree.specs.declared.statement.Statement.{Statement}
 use Rattle.sql_bound.specs.declared.query.BoundQuery.{BoundQuery}
 use Rattle.sql_binding.specs.Firsts.{first_of}
+use Rattle.sql_binding.specs.Changes.{update_refusal}
 use Rattle.sql_binding.specs.Inserts.{inserted_rows}
 use Rattle.db_model.specs.State.{State}
-use Rattle.db_model.specs.Views.{bound_in, table_found}
+use Rattle.db_model.specs.Views.{bound_in, columns_found}
 use Rattle.db_model.specs.Refusing.{commit_refusal, epoch_refusal}
-use Rattle.db_model.specs.Refusals.{query_refusal_in, rows_inserted_refusal, table_created_refusal, table_dropped_refusal}
+use Rattle.db_model.specs.Refusals.{projection_created_refusal, projection_dropped_refusal, query_refusal_in, rows_deleted_refusal, rows_inserted_refusal, table_created_refusal, table_dropped_refusal, unknown_table_refusal}
 use Rattle.plain_query.specs.Bounded.{IsBoundedQuery}
-use Rattle.statement_plan.specs.declared.planning.Plan.{Plan}
+use Rattle.statement_plan.specs.Places.{IsDeleteOf, IsProjectionOf, IsUpdateOf, projection_places, table_place}
+use Rattle.statement_plan.specs.declared.plans.Plan.{Plan}
 
 -- the functions that are planned
 abbrev pub is_planned_call : Function → Bool
@@ -33,13 +35,13 @@ is_planned_call Function.StartRefresh = false
 -- the forms that are planned
 abbrev pub is_planned : Statement → Bool
 is_planned (Statement.CreateTable name columns) = true
-is_planned (Statement.CreateProjection p) = false
+is_planned (Statement.CreateProjection p) = true
 is_planned (Statement.DropTable name) = true
-is_planned (Statement.DropProjection name) = false
+is_planned (Statement.DropProjection name) = true
 is_planned (Statement.Insert i) = true
-is_planned (Statement.Delete d) = false
-is_planned (Statement.Update u) = false
-is_planned (Statement.Copy table file) = false
+is_planned (Statement.Delete d) = true
+is_planned (Statement.Update u) = true
+is_planned (Statement.Copy table file) = true
 is_planned Statement.Commit = true
 is_planned Statement.Rollback = true
 is_planned (Statement.Select at q) = true
@@ -52,11 +54,16 @@ is_planned Statement.Step = true
 abbrev pub select_refusal : State → At → Query → Option Refusal
 select_refusal state at q = first_of (query_refusal_in state q) (epoch_refusal state.database.ahm state.database.last at)
 
--- why a statement of these forms is refused, whatever the rows are
+-- Why a statement is refused, whatever the rows are. The rows that an UPDATE matches and the file of a COPY may refuse it behind this.
 abbrev pub early_refusal : State → Statement → Option Refusal
 early_refusal state (Statement.CreateTable name columns) = table_created_refusal state name columns
+early_refusal state (Statement.CreateProjection p) = projection_created_refusal state p
 early_refusal state (Statement.DropTable name) = table_dropped_refusal state name
+early_refusal state (Statement.DropProjection name) = projection_dropped_refusal state name
 early_refusal state (Statement.Insert i) = rows_inserted_refusal state i
+early_refusal state (Statement.Delete d) = rows_deleted_refusal state d
+early_refusal state (Statement.Update u) = update_refusal (columns_found state.database.tables u.table) u
+early_refusal state (Statement.Copy table file) = unknown_table_refusal state table
 early_refusal state Statement.Commit = commit_refusal state
 early_refusal state (Statement.Select at q) = select_refusal state at q
 early_refusal state (Statement.Explain q) = query_refusal_in state q
@@ -70,8 +77,13 @@ pub record IsBoundIn (state : State) (q : Query) (b : BoundQuery) : Type 0 where
 -- a plan has what the statement needs
 abbrev pub IsPlanOf : State → Statement → Plan → Type 0
 IsPlanOf state (Statement.CreateTable name columns) Plan.CreateTable = Unit {0}
-IsPlanOf state (Statement.DropTable name) (Plan.DropTable place) = option_map (λ e. e.0) (table_found name state.database.tables) ≡ Some place
+IsPlanOf state (Statement.CreateProjection p) (Plan.CreateProjection place shape) = IsProjectionOf state p place shape
+IsPlanOf state (Statement.DropTable name) (Plan.DropTable place) = table_place name state.database.tables ≡ Some place
+IsPlanOf state (Statement.DropProjection name) (Plan.DropProjection table place) = projection_places name state.database.tables ≡ Some (table, place)
 IsPlanOf state (Statement.Insert i) (Plan.Insert rows) = (rows.items ≡ inserted_rows i) × All IsRow rows.items
+IsPlanOf state (Statement.Delete d) (Plan.Delete place b) = IsDeleteOf state d place b
+IsPlanOf state (Statement.Update u) (Plan.Update place b) = IsUpdateOf state u place b
+IsPlanOf state (Statement.Copy table file) (Plan.Copy place) = table_place table state.database.tables ≡ Some place
 IsPlanOf state Statement.Commit Plan.Commit = Unit {0}
 IsPlanOf state Statement.Rollback Plan.Rollback = Unit {0}
 IsPlanOf state (Statement.Select at q) (Plan.Select b) = IsBoundIn state q b

@@ -1,13 +1,16 @@
-//! Why a new table is refused.
+//! New tables.
 
-ghost use Rattle.std.specs.Prelude.{◌≡◌, [], IfErr, IfOk, OnOk, None};
+ghost use Rattle.std.specs.Prelude.{◌≡◌, [], IfErr, IfOk};
 ghost use Rattle.std.specs.Option.{option_copied};
 ghost use Rattle.db_model.specs.Database.{super_name};
 ghost use Rattle.db_model.specs.Refusing as rule;
 ghost use Rattle.db_model.specs.Refusals.{table_created_refusal};
 ghost use Rattle.name_binder.specs.Refusing.{RefusesBy};
+ghost use Rattle.sql_tree.specs.declared.statement.Statement.{Statement};
+ghost use Rattle.statement_plan.specs.Planned.{early_refusal, IsPlanned};
 
 use crate::frame::Frame;
+use crate::plans::Plan;
 use col_value::{ColType, Column, Name};
 use name_binder::BindFault;
 use sql_tree::{Refusal, Which};
@@ -140,19 +143,19 @@ fn create_refusal(
     }
 }
 
-/// Refuses a new table that can't be made.
-pub fn check_table(
+/// What a CREATE TABLE does, or why it is refused.
+pub fn plan_table(
     alloc: Global,
     frame: &Frame<'_>,
     name: &Name,
     columns: &[Column],
-) -> Result<(), BindFault>
-    ensures ok { OnOk result (table_created_refusal frame.now name.now columns.now ≡ None) }
-    ensures refused { IfErr result (RefusesBy (table_created_refusal frame.now name.now columns.now)) }
+) -> Result<Plan, BindFault>
+    ensures planned { IfOk result (IsPlanned frame.now (Statement.CreateTable name.now columns.now)) }
+    ensures refused { IfErr result (RefusesBy (early_refusal frame.now (Statement.CreateTable name.now columns.now))) }
 {
     match create_refusal(alloc, frame, name, columns) {
         Ok(Some(refusal)) => Err(BindFault::Refused(refusal)),
-        Ok(None) => Ok(()),
+        Ok(None) => Ok(Plan::CreateTable),
         Err(AllocError) => Err(BindFault::Memory),
     }
 }

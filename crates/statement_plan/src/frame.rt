@@ -10,8 +10,10 @@ ghost use Rattle.db_model.specs.Refusals.{joining_limit, locked};
 ghost use Rattle.db_model.specs.Views.{table_found};
 ghost use Rattle.folder_model.specs.Projections.{shape_of};
 ghost use Rattle.statement_plan.specs.Bare.{bare_state, bare_table};
+ghost use Rattle.statement_plan.specs.Places.{owner_found};
 
-use catalog_types::{Projection, Table};
+use crate::placed::{Placed, is_projection, owner_of, same, table_named};
+use catalog_types::Table;
 use name_binder::Found;
 use sql_tree::{At, Refusal, Which};
 use std::marker::Model;
@@ -48,35 +50,6 @@ impl<'a> Model for Frame<'a> {
     ghost view = { λ f. bare_state f.tables.now f.last f.mark f.next f.txns.now f.current };
 
     ghost invariant = { λ f. (1 ≤ f.current) × (f.current ≤ 8) };
-}
-
-fn same(a: &[u8], b: &[u8]) -> bool
-    ensures { result ≡ bytes_eq a.now b.now }
-{
-    a == b
-}
-
-/// The place of the table of a name, and its columns.
-fn found_in<'a>(tables: &'a [Table], name: &[u8]) -> Option<Found<'a>>
-    ensures { result ≡ option_map (λ e. (e.0, e.1.columns)) (table_found name.now (map bare_table tables.now)) }
-{
-    for (place, table) in tables.iter().enumerate() {
-        if same(table.name.as_slice(), name) {
-            return Some(Found::new(place, table.columns.as_slice()));
-        }
-    }
-    None
-}
-
-fn is_projection(projections: &[Projection], name: &[u8]) -> bool
-    ensures { result ≡ list_any (λ s. bytes_eq s.name name.now) (map shape_of projections.now) }
-{
-    for projection in projections {
-        if same(projection.name.as_slice(), name) {
-            return true;
-        }
-    }
-    false
 }
 
 fn is_called(table: &Table, name: &[u8]) -> bool
@@ -137,7 +110,24 @@ impl<'a> Frame<'a> {
     pub(crate) fn found(&self, name: &[u8]) -> Option<Found<'a>>
         ensures { result ≡ option_map (λ e. (e.0, e.1.columns)) (table_found name.now self.now.database.tables) }
     {
-        found_in(self.tables, name)
+        match self.table(name) {
+            Some(table) => Some(table.found()),
+            None => None,
+        }
+    }
+
+    /// The table of a name, at its place.
+    pub(crate) fn table(&self, name: &[u8]) -> Option<Placed<'a>>
+        ensures { result ≡ table_found name.now self.now.database.tables }
+    {
+        table_named(self.tables, name)
+    }
+
+    /// The table that has the projection of a name, at its place.
+    pub(crate) fn owner(&self, name: &[u8]) -> Option<Placed<'a>>
+        ensures { result ≡ owner_found name.now self.now.database.tables }
+    {
+        owner_of(self.tables, name)
     }
 
     /// Whether a table or a projection is called so.

@@ -6,13 +6,20 @@
 //! state of which this is the frame.
 #![tactic(auto)]
 
+mod changing;
 mod creating;
+mod dropping;
 mod frame;
 mod inserting;
 mod laws;
+mod placed;
 mod planning;
+mod plans;
+mod projecting;
 mod querying;
+mod refusing;
 
 pub use frame::Frame;
 pub use laws::rows_decide_nothing_here;
-pub use planning::{Plan, make_plan};
+pub use planning::make_plan;
+pub use plans::Plan;

@@ -3,7 +3,7 @@ use Rattle.std.specs.Prelude.{find, bytes_eq}
 use Rattle.std.specs.List.{enumerate_from}
 use Rattle.db_model.specs.Views.{table_found}
 use Rattle.statement_plan.specs.Bare.{bare_table}
-use Rattle.statement_plan.proofs.frame.found_in.Given as goal
+use Rattle.statement_plan.proofs.placed.table_named.Given as goal
 
 abbrev pub invariant-loop-place : goal.invariant-loop-place
 invariant-loop-place l =
