@@ -1,0 +1,4 @@
+pub mod Faults
+pub mod Placing
+pub mod Reading
+pub mod Taking
