@@ -1,3 +1,4 @@
 pub mod Putting
 pub mod Served
 pub mod Seeing
+pub mod Using
