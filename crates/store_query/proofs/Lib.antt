@@ -1,4 +1,6 @@
+pub mod Lessens
 pub mod Putting
 pub mod Served
+pub mod Reads
 pub mod Seeing
 pub mod Using

@@ -1,6 +1,6 @@
 -- What a query reads of a store.
 use Rattle.std.specs.Prelude.{◌≡◌, ◌≤◌, ℕ, ◌+◌, min, List, [], ◌∷◌, length, map, Option, IsSomeAnd}
-use Rattle.std.specs.List.{All, slice_get}
+use Rattle.std.specs.List.{slice_get}
 use Rattle.std.specs.Option.{option_map_or}
 use Rattle.common_laws.specs.Maps.{Contents}
 use Rattle.col_disk.specs.declared.disk.Disk.{Ghosts}
@@ -46,12 +46,6 @@ IsKept d At.View = Unit {0}
 IsKept d At.Latest = Unit {0}
 IsKept d (At.Epoch n) = (d.ahm ≤ n) × (n ≤ d.last)
 
--- where the session's view is asked for, the session has no pending deletes
-abbrev pub IsUndeleted : At → List Changes → Type 0
-IsUndeleted At.View changes = All (λ c. c.deletes ≡ []) changes
-IsUndeleted At.Latest changes = Unit {0}
-IsUndeleted (At.Epoch n) changes = Unit {0}
-
 -- The store stands over the disk for a database; the query is over its tables, and what it asks for is kept; and the session's changes are
 -- sound.
 pub record CanRead {D : Type 0} (disk : Ghosts D) (s : Seen) (now : D) (changes : List Changes) (at : At) (q : BoundQuery) (d : Database) : Type 0 where
@@ -59,7 +53,6 @@ pub record CanRead {D : Type 0} (disk : Ghosts D) (s : Seen) (now : D) (changes 
   pub over : AreOver 0 d.tables q.sources
   pub epoch : IsKept d at
   pub session : IsSoundSession d changes
-  pub undeleted : IsUndeleted at changes
 
 -- the same of the files of a disk, whatever the query
 pub record IsRead (m : Contents) (s : Seen) (changes : List Changes) (at : At) (d : Database) : Type 0 where
@@ -67,7 +60,6 @@ pub record IsRead (m : Contents) (s : Seen) (changes : List Changes) (at : At) (
   pub sound : IsSoundDatabase d
   pub epoch : IsKept d at
   pub session : IsSoundSession d changes
-  pub undeleted : IsUndeleted at changes
 
 -- the epoch up to which rows are read: for one that isn't closed the newest
 abbrev pub epoch_of : At → ℕ → ℕ

@@ -1,6 +1,6 @@
 //! The rows of the FROM items.
 
-ghost use Rattle.std.specs.Prelude.{◌≡◌, min, Some, IfOk, IfErr};
+ghost use Rattle.std.specs.Prelude.{◌≡◌, Some, map, IfOk, IfErr};
 ghost use Rattle.std.specs.List.{All, AllZip};
 ghost use Rattle.std.specs.Option.{IfSome};
 ghost use Rattle.common_laws.specs.Causes.{HasCause};
@@ -9,9 +9,11 @@ ghost use Rattle.col_disk.specs.Moved.{Moved, NoName};
 ghost use Rattle.col_value.specs.Order.{IsRow};
 ghost use Rattle.db_model.specs.Database.{Database};
 ghost use Rattle.exec_scan.specs.Scanning.{IsUnblamed};
-ghost use Rattle.store_query.specs.Reading.{epoch_of, IsOver, IsRead, IsSeen};
+ghost use Rattle.store_query.specs.Lessening.{cleared, deletes_of, HasChanges};
+ghost use Rattle.store_query.specs.Reading.{epoch_of, pending_of, IsOver, IsRead, IsSeen};
 ghost use Rattle.store_query.specs.Taking.{IsTaken};
 
+use crate::lessening::{deletes_of, without_deletes};
 use crate::pending::{add_rows, pending_of};
 use crate::places::places_of;
 use col_disk::{Disk, StoreFault};
@@ -53,10 +55,38 @@ fn projection_for<'a>(
     let Some(place) = choose(query, item, table.projections.as_slice()) else {
         return None;
     };
-    parts.as_slice().get(place)
+    let Some(store) = parts.as_slice().get(place) else {
+        return None;
+    };
+    Some(store)
 }
 
-/// The rows that a query reads of a FROM item's table: those of the chosen projection, and then the pending ones.
+/// Rows of a FROM item's table as a scan made them, with the session's changes where its view is read: without those that it deletes, and
+/// then its pending ones.
+fn with_changes(
+    alloc: Global,
+    tables: &TableStore,
+    changes: &Session,
+    at: At,
+    item: FromItem,
+    places: &[Option<usize>],
+    rows: Vec<Row>,
+) -> Result<Vec<Row>, AllocError>
+    requires { All IsRow rows.items }
+    ensures changed { IfOk result (λ v. HasChanges (map (λ a. cleared places.now a.row) (deletes_of at tables.now.catalogue.tables changes.now item)) (pending_of at tables.now.catalogue.tables changes.now item) rows.items v.items) }
+    ensures valid { IfOk result (λ v. All IsRow v.items) }
+{
+    let deletes = deletes_of(tables, changes, at, item);
+    let mut rows = without_deletes(alloc, rows, deletes, places)?;
+    add_rows(
+        alloc,
+        &mut rows,
+        pending_of(tables, changes, at, item),
+    )?;
+    Ok(rows)
+}
+
+/// The rows that a query reads of a FROM item's table: those of the chosen projection, with the session's changes.
 fn rows_of_item<D: Disk>(
     alloc: Global,
     tables: &TableStore,
@@ -76,18 +106,30 @@ fn rows_of_item<D: Disk>(
     let Some(store) = projection_for(tables, query, item) else {
         return Err(StoreFault::Memory);
     };
-    let places = match places_of(alloc, query, item, store.entry().columns.as_slice()) {
+    let columns = store.entry().columns.as_slice();
+    let places = match places_of(alloc, query, item, columns) {
         Ok(places) => places,
         Err(AllocError) => return Err(StoreFault::Memory),
     };
+    let scanned = match Vec::from_slice(alloc, places.as_slice()) {
+        Ok(scanned) => scanned,
+        Err(AllocError) => return Err(StoreFault::Memory),
+    };
     let epoch = epoch_of(at, tables.last());
-    let mut rows = match scan_rows(alloc, store, epoch, places, disk) {
+    let rows = match scan_rows(alloc, store, epoch, scanned, disk) {
         Ok(rows) => rows,
         Err(fault) => return Err(fault),
     };
-    let pending = pending_of(tables, changes, at, item);
-    match add_rows(alloc, &mut rows, pending) {
-        Ok(()) => Ok(rows),
+    match with_changes(
+        alloc,
+        tables,
+        changes,
+        at,
+        item,
+        places.as_slice(),
+        rows,
+    ) {
+        Ok(rows) => Ok(rows),
         Err(AllocError) => Err(StoreFault::Memory),
     }
 }
