@@ -8,6 +8,7 @@ use Rattle.common_laws.specs.Bags.{SameBag}
 use Rattle.common_laws.specs.Maps.{Contents}
 use Rattle.col_disk.specs.declared.disk.Disk.{Ghosts}
 use Rattle.col_disk.specs.declared.disk.StoreFault.{StoreFault}
+use Rattle.col_disk.specs.declared.disk.StoreFault.TheVariants as store
 use Rattle.col_value.specs.declared.row.Asked.{Asked}
 use Rattle.col_value.specs.declared.row.Stamped.{Stamped}
 use Rattle.col_value.specs.declared.value.Value.{Value}
@@ -26,7 +27,8 @@ use Rattle.query_cover.specs.Seen.{AreSeen, AreSeenFrom, placed}
 use Rattle.query_cover.proofs.Placed.{shows_same}
 use Rattle.store_query.specs.Lessening.{cleared, deletes_of, HasChanges, IsLess}
 use Rattle.store_query.specs.Placing.{ArePlacesOf}
-use Rattle.store_query.specs.Reading.{epoch_of, item_rows, pending_of, rows_of, AreOver, CanRead, IsOver, IsRead, IsSeen}
+use Rattle.store_query.specs.Faults.{of_store, IsUnblamed}
+use Rattle.store_query.specs.Reading.{epoch_of, item_rows, pending_of, rows_of, source_rows, AreOver, CanRead, IsOver, IsRead, IsSeen}
 use Rattle.store_query.specs.Taking.{IsTaken}
 use Rattle.store_query.proofs.Putting.{places_cover}
 use Rattle.store_query.proofs.Seeing.{changed_seen, fitting, gone_in, gone_is, mark_before, pending_in, pending_is, rows_asked, rows_split}
@@ -104,3 +106,22 @@ each_over first tables (f ∷ fs) (is, here, over) = All-cons (IsOver tables) f 
 
 pub read_of : {D : Type 0} (disk : Ghosts D) (s : Seen) (now : D) (changes : List Changes) (at : At) (q : BoundQuery) (d : Database) (can : CanRead disk s now changes at q d) → IsRead can.stands.files s changes at d
 read_of disk s now changes at q d can = record { are = can.stands.are; sound = can.stands.sound; epoch = can.epoch; session = can.session }
+
+-- what was read of the FROM items is, for the query, what they have
+pub select_seen : {D : Type 0} (disk : Ghosts D) (s : Seen) (now : D) (changes : List Changes) (at : At) (q : BoundQuery) (d : Database) (items : List FromItem) (inputs given : List (List (List Value))) → items ≡ q.sources → given ≡ inputs
+    → ((m : Contents) → disk.holds now ≡ Some m → (e : Database) → IsRead m s changes at e → AllZip (IsSeen at changes q e) items inputs) → CanRead disk s now changes at q d → AreSeenFrom q 0 q.sources given (source_rows at d changes q)
+select_seen disk s now changes at q d items inputs given is same zip can =
+    let all = zip can.stands.files can.stands.quiet.told_is d (read_of disk s now changes at q d can) in
+    subst (λ (rows : List (List (List Value))). AreSeenFrom q 0 q.sources rows (source_rows at d changes q)) (sym same)
+    (seen_from at changes q d 0 q.sources inputs can.over (subst (λ (fs : List FromItem). AllZip (IsSeen at changes q d) fs inputs) is all))
+
+store_unblamed : (fault : StoreFault) → scan.IsUnblamed fault → IsUnblamed (of_store fault)
+store_unblamed store.Disk is = tt
+store_unblamed (store.Damaged q) is = absurd is
+store_unblamed store.Memory is = tt
+
+pub select_unblamed : {D : Type 0} (disk : Ghosts D) (s : Seen) (now : D) (changes : List Changes) (at : At) (q : BoundQuery) (d : Database) (items : List FromItem) (fault : StoreFault) → items ≡ q.sources
+    → ((m : Contents) → disk.holds now ≡ Some m → (e : Database) → IsRead m s changes at e → All (IsOver e.tables) items → scan.IsUnblamed fault) → CanRead disk s now changes at q d → IsUnblamed (of_store fault)
+select_unblamed disk s now changes at q d items fault is blames can =
+    let over = subst (λ (fs : List FromItem). All (IsOver d.tables) fs) (sym is) (each_over 0 d.tables q.sources can.over) in
+    store_unblamed fault (blames can.stands.files can.stands.quiet.told_is d (read_of disk s now changes at q d can) over)
