@@ -1,3 +1,4 @@
+pub mod Bound
 pub mod Lessens
 pub mod Putting
 pub mod Served

@@ -159,7 +159,6 @@ stay at d changes t has within = by (gone_within at changes t within)
     gone = gone_in at changes t
 
     by : Within gone t.rows → (live : Rows) × SameBag (visible e t.rows) (rows_asked gone ++ live)
-    unfolding e gone
     by (rest, bag) =
         let seen : SameBag (visible e t.rows) (visible e (map (stamped None) gone ++ rest)) = bag_visible e t.rows (map (stamped None) gone ++ rest) bag in
         let split : visible e (map (stamped None) gone ++ rest) ≡ visible e (map (stamped None) gone) ++ visible e rest =

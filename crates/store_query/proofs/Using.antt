@@ -26,7 +26,6 @@ none_has c (u ∷ us) = by (u == c) refl (none_has c us)
 
     by : (b : Bool) → (u == c) ≡ b → not (list_all (λ i. false) (within_item (alone c) us)) ≡ list_any (λ x. x == c) us
         → not (list_all (λ i. false) (within (nat_le c u && nat_lt u (c + 1)))) ≡ (b || list_any (λ x. x == c) us)
-    unfolding within
     by true is more =
         let inside : (nat_le c u && nat_lt u (c + 1)) ≡ true = grind (arith, nat_tests) in ap (λ (k : Bool). not (list_all (λ i. false) (within k))) inside
     by false is more =
