@@ -1,5 +1,6 @@
 pub mod Bound
 pub mod Lessens
+pub mod Pendings
 pub mod Putting
 pub mod Served
 pub mod Reads
