@@ -2,7 +2,6 @@
 use Rattle.std.proofs.Common.{◌≡◌, ℕ, ◌++◌, List, [], length, map, filter, refl, sym, ap, ◌∙◌, subst, drop, take, get_or, ◌∷◌, ◌<◌, ◌+◌}
 use Rattle.std.specs.Prelude.{IsSomeAnd, Option, Some, None}
 use Rattle.std.specs.List.{slice_get}
-
 use Rattle.std.proofs.lemmas.List.{append_assoc, append-nil, map-append, take_more}
 use Rattle.std.specs.List.{All}
 use Rattle.std.proofs.lemmas.List.Elements.{All-push, filter-append}
@@ -80,7 +79,7 @@ pub row_next : (old now next : List (List Value)) (batch : List (List Value)) (i
 row_next old now next batch i row r lt at same is was = by (slice_get batch i) refl at
   where
     by : (q : Option (List Value)) → slice_get batch i ≡ q → IsSomeAnd q (λ (x : List Value). row ≡ x) → next ≡ old ++ take (i + 1) batch
-    by None eq no = elim no [ ]
+    by None eq never = elim never [ ]
     by (Some x) eq here =
         let one : get_or batch i [] ≡ r = got batch i x [] eq ∙ sym here ∙ sym same in
         is ∙ ap (λ (xs : List (List Value)). xs ++ r ∷ []) was ∙ append_assoc old (take i batch) (r ∷ [])

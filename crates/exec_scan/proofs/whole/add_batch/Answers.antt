@@ -1,10 +1,4 @@
-use Rattle.std.proofs.Common.{◌≡◌, ◌<◌, length, arith}
-use Rattle.std.proofs.lemmas.List.Elements.{All-push}
-use Rattle.std.proofs.Common.{subst}
-use Rattle.std.specs.Prelude.{List}
-use Rattle.std.specs.List.{All}
-use Rattle.col_value.specs.declared.value.Value.{Value}
-use Rattle.col_value.specs.Order.{IsRow}
+use Rattle.std.proofs.Common.{◌<◌, length, arith}
 use Rattle.exec_scan.proofs.Gathered.{row_next, rows_next}
 use Rattle.exec_scan.proofs.whole.add_batch.Goals as goal
 

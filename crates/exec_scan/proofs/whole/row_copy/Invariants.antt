@@ -1,5 +1,4 @@
 use Rattle.std.proofs.Common.{◌≡◌, take}
-use Rattle.std.specs.List.{All}
 use Rattle.exec_scan.proofs.whole.row_copy.Given as goal
 
 abbrev pub invariant-loop-value : goal.invariant-loop-value
