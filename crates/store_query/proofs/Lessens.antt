@@ -20,6 +20,9 @@ use Rattle.store_query.specs.Lessening.{asked, IsLess, Keeps}
 abbrev Rows : Type 0
 Rows = List (List Value)
 
+abbrev one_if : Bool → ℕ
+one_if b = cond b 1 0
+
 row_of_asked : (xs : Rows) → map (λ (a : Asked). a.row) (map asked xs) ≡ xs
 row_of_asked [] = refl
 row_of_asked (x ∷ xs) = ap (λ (ys : Rows). x ∷ ys) (row_of_asked xs)
@@ -29,6 +32,10 @@ tally_push q xs x =
     let join : map asked (xs ++ x ∷ []) ≡ map asked xs ++ asked x ∷ [] = map-append asked xs (x ∷ []) in
     let none : tally q [] ≡ 0 = refl in
     ap (λ (ys : List Asked). tally q ys) join ∙ omega (arith, count_append (λ (a : Asked). is_same a q) (map asked xs) (asked x ∷ []), count_cons (λ (a : Asked). is_same a q) (asked x) [], none)
+
+pub all_front : {X : Type 0} (P : X → Type 0) (xs : List X) (x : X) → All P (xs ++ x ∷ []) → All P xs
+all_front P [] x all = All-nil P
+all_front P (y ∷ ys) x all = All-cons P y ys (All-head P y (ys ++ x ∷ []) all) (all_front P ys x (All-tail P y (ys ++ x ∷ []) all))
 
 -- ---- rows that are taken, one after the other
 
@@ -126,7 +133,7 @@ pub without_less : (gone rows : Rows) → IsLess gone rows (without gone rows)
 without_less [] rows = λ rest bag. bag
 without_less (g ∷ gone) rows = λ rest bag.
     let own : like g g ≡ true = row_itself g in
-    let here : cond (like g g) 1 0 ≡ 1 = ap (λ (b : Bool). cond b 1 0) own in
+    let here : one_if (like g g) ≡ one_if true = ap one_if own in
     let some : 1 ≤ count_by (like g) rows = omega (arith, bag.counts (like g), count_cons (like g) g (gone ++ rest), here) in
     let out = one_out g rows some in
     let behind : SameBag (without_one g rows) (gone ++ rest) = bag_cancel (g ∷ []) (without_one g rows) (gone ++ rest) (bag_trans (g ∷ without_one g rows) rows (g ∷ (gone ++ rest)) (bag_sym rows (g ∷ without_one g rows) out) bag) in
@@ -137,7 +144,7 @@ without_less (g ∷ gone) rows = λ rest bag.
 passes_none : {X : Type 0} (p : X → Bool) (xs : List X) → All (λ x. p x ≡ true) xs → count_by (λ x. not (p x)) xs ≡ 0
 passes_none p [] all = refl
 passes_none p (x ∷ xs) all =
-    let here : cond (not (p x)) 1 0 ≡ 0 = ap (λ (b : Bool). cond (not b) 1 0) (All-head (λ y. p y ≡ true) x xs all) in
+    let here : one_if (not (p x)) ≡ one_if false = ap (λ (b : Bool). one_if (not b)) (All-head (λ y. p y ≡ true) x xs all) in
     omega (arith, count_cons (λ y. not (p y)) x xs, here, passes_none p xs (All-tail (λ y. p y ≡ true) x xs all))
 
 none_passes : {X : Type 0} (p : X → Bool) (xs : List X) → count_by (λ x. not (p x)) xs ≡ 0 → All (λ x. p x ≡ true) xs
@@ -149,7 +156,7 @@ none_passes p (x ∷ xs) none =
     by : (b : Bool) → p x ≡ b → count_by (λ y. not (p y)) (x ∷ xs) ≡ cond (not (p x)) 1 0 + count_by (λ y. not (p y)) xs → p x ≡ true
     by true is at = is
     by false is at =
-        let one : cond (not (p x)) 1 0 ≡ 1 = ap (λ (k : Bool). cond (not k) 1 0) is in
+        let one : one_if (not (p x)) ≡ one_if true = ap (λ (k : Bool). one_if (not k)) is in
         absurd (omega (arith, at, one, none))
 
 -- what all of a bag pass, all pass of the same bag

@@ -3,6 +3,6 @@ pub mod Lessens
 pub mod Pendings
 pub mod Putting
 pub mod Served
-pub mod Reads
+pub mod ItemRows
 pub mod Seeing
 pub mod Using

@@ -13,6 +13,7 @@ use Rattle.std.proofs.lemmas.Option.{slice_get_within}
 use Rattle.std.proofs.Math.Seq.{get_or-append_seam}
 use Rattle.catalog_types.specs.declared.catalogue.ProjColumn.{ProjColumn}
 use Rattle.catalog_types.specs.declared.catalogue.Projection.{Projection}
+use Rattle.col_value.specs.declared.kinds.Encoding.{Encoding}
 use Rattle.sql_bound.specs.declared.query.FromItem.{FromItem}
 use Rattle.sql_bound.specs.declared.query.BoundQuery.{BoundQuery}
 use Rattle.db_model.specs.Database.{has_columns}
@@ -132,7 +133,7 @@ within_has f c test (u ∷ us) lt has all = by (u == f.first + c) refl has (with
         sym (ap test at) ∙ front (test (u - f.first)) listed
     by false is any more = more any (back (nat_le f.first u && nat_lt u (f.first + f.columns)) all)
 
-any_shape : (c : ℕ) (ks : List ProjColumn) → list_any (λ k. k.0 == c) (map (λ k. (k.ordinal, k.encoding)) ks) ≡ list_any (λ o. o == c) (ordinals_of ks)
+any_shape : (c : ℕ) (ks : List ProjColumn) → list_any (λ (k : ℕ × Encoding). k.0 == c) (map (λ k. (k.ordinal, k.encoding)) ks) ≡ list_any (λ o. o == c) (ordinals_of ks)
 any_shape c [] = refl
 any_shape c (k ∷ ks) = ap (λ (b : Bool). (k.ordinal == c) || b) (any_shape c ks)
 
@@ -142,5 +143,5 @@ places_cover q f p places covers are = record {
   long = are.long;
   own = λ c lt. (are.each c lt).own;
   used = λ c lt used.
-      (are.each c lt).used used (sym (any_shape c p.columns) ∙ within_has f c (λ i. list_any (λ k. k.0 == i) (shape_of p).columns) (used_columns q) lt used covers);
+      (are.each c lt).used used (sym (any_shape c p.columns) ∙ within_has f c (λ i. list_any (λ (k : ℕ × Encoding). k.0 == i) (shape_of p).columns) (used_columns q) lt used covers);
 }

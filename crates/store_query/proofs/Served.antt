@@ -1,10 +1,11 @@
 -- The projection that is read has the table's rows and the columns that the query uses.
-use Rattle.std.proofs.Common.{◌≡◌, ℕ, zero, suc, ◌<◌, Bool, true, false, cond, List, [], ◌∷◌, length, map, filter, get_or, Option, Some, None, refl, sym, ap, ◌∙◌, arith, subst}
+use Rattle.std.proofs.Common.{◌≡◌, ℕ, zero, suc, ◌<◌, Bool, true, false, cond, List, [], ◌∷◌, length, map, filter, get_or, ltb, Option, Some, None, refl, sym, ap, ◌∙◌, arith, subst}
 use Rattle.std.specs.Prelude.{◌&&◌, not, find, option_map}
 use Rattle.std.specs.List.{All, list_all, slice_get}
 use Rattle.std.proofs.lemmas.Bool.{OnTrue_at}
 use Rattle.std.proofs.lemmas.List.Elements.{All-cons, All-filter, All-get_or, All-head, All-nil, All-tail}
-use Rattle.std.proofs.lemmas.Option.{get_or_from_slice_get, slice_get-map, slice_get_within}
+use Rattle.std.proofs.lemmas.Option.{get_or_from_slice_get, slice_get-get_or, slice_get-map, slice_get_within}
+use borrow.Author.Tests.{ltb-true}
 use Rattle.common_laws.specs.Maps.{Contents}
 use Rattle.catalog_types.specs.declared.catalogue.Table as kept
 use Rattle.catalog_types.specs.declared.catalogue.Projection.{Projection}
@@ -53,6 +54,10 @@ chosen_may q f shapes s is =
     found_passes (may q f) (λ x. list_all (λ other. not (is_narrower other x)) xs) xs s all is
 
 -- ---- the table at a place
+
+-- what a look at a place gave
+pub got_at : {X : Type 0} (xs : List X) (i : ℕ) (x : X) → true ≡ ltb i (length xs) → x ≡ get_or xs i x → slice_get xs i ≡ Some x
+got_at {X} xs i x within is = slice_get-get_or xs i x (ltb-true i (length xs) (sym within)) ∙ ap (λ (y : X). Some y) (sym is)
 
 pub all_at : {X : Type 0} (P : X → Type 0) (xs : List X) (i : ℕ) (x : X) → All P xs → slice_get xs i ≡ Some x → P x
 all_at P xs i x all is = subst P (get_or_from_slice_get xs i x x is) (All-get_or P xs i x (slice_get_within xs i x is) all)

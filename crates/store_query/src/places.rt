@@ -1,6 +1,6 @@
 //! Where the columns that a query uses stand in a projection.
 
-ghost use Rattle.std.specs.Prelude.{◌≡◌, ◌+◌, true, length, map, IfOk};
+ghost use Rattle.std.specs.Prelude.{◌≡◌, ◌==◌, ◌+◌, true, length, map, position, IfOk};
 ghost use Rattle.query_cover.specs.Seen.{is_used};
 ghost use Rattle.store_query.specs.Placing.{ArePlacesOf, AreWithin, IsPlaceOf};
 
@@ -31,6 +31,13 @@ fn may_be_used(query: &BoundQuery, first: usize, c: usize) -> bool
     }
 }
 
+/// The first place of the table's column `c` among those of a projection.
+fn place_in(columns: &[ProjColumn], c: usize) -> Option<usize>
+    ensures { result ≡ position (λ k. k.ordinal == c) columns.now }
+{
+    columns.iter().position(|column| column.ordinal == c)
+}
+
 /// The place of the table's column `c` among those of a projection, if it has the column and the query uses it.
 fn place_of(query: &BoundQuery, first: usize, columns: &[ProjColumn], c: usize) -> Option<usize>
     ensures { IsPlaceOf query.now first (map (λ k. k.ordinal) columns.now) c result }
@@ -38,7 +45,7 @@ fn place_of(query: &BoundQuery, first: usize, columns: &[ProjColumn], c: usize) 
     if !may_be_used(query, first, c) {
         return None;
     }
-    columns.iter().position(|column| column.ordinal == c)
+    place_in(columns, c)
 }
 
 /// For each column of a FROM item its place among those of a projection, if the query uses the column.

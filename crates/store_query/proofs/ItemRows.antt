@@ -125,3 +125,7 @@ pub select_unblamed : {D : Type 0} (disk : Ghosts D) (s : Seen) (now : D) (chang
 select_unblamed disk s now changes at q d items fault is blames can =
     let over = subst (λ (fs : List FromItem). All (IsOver d.tables) fs) (sym is) (each_over 0 d.tables q.sources can.over) in
     store_unblamed fault (blames can.stands.files can.stands.quiet.told_is d (read_of disk s now changes at q d can) over)
+
+-- a FROM item of no columns
+abbrev pub blank : FromItem
+blank = record { table = 0; first = 0; columns = 0 }
