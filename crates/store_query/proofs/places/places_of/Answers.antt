@@ -9,4 +9,4 @@ pub loop-c-preserved : goal.loop-c-preserved
 loop-c-preserved c = places_next c.args.query.now c.args.item.first c.loop-c.c (map (λ k. k.ordinal) c.args.columns.now) c.loop-c.out.items c.push.new.self.items c.place_of.result c.in_ok-push.ensures.items c.place_of.ensures c.loop-c.invariant
 
 pub returns-clause-within : goal.returns-clause-within
-returns-clause-within c = ?
+returns-clause-within c = places_within c.args.query.now c.args.item.first c.loop-c.c c.args.columns.now c.loop-c.out.items c.loop-c.invariant
