@@ -1,5 +1,5 @@
 -- The FROM items of a bound query.
-use Rattle.std.proofs.Common.{◌≡◌, ℕ, zero, suc, ◌+◌, ◌++◌, Bool, true, false, cond, List, [], ◌∷◌, length, map, Option, Some, None, refl, sym, ap, ap₂, ◌∙◌, arith, subst}
+use Rattle.std.proofs.Common.{◌≡◌, ℕ, suc, ◌+◌, Bool, true, false, cond, List, [], ◌∷◌, length, map, Option, Some, None, refl, sym, ap, ap₂, ◌∙◌, arith, subst}
 use Rattle.std.specs.Prelude.{find, bytes_eq, IsSomeAnd}
 use Rattle.std.specs.List.{All, enumerate_from, flat_map, slice_get}
 use Rattle.std.specs.Option.{option_map_or}
@@ -15,8 +15,8 @@ use Rattle.sql_bound.specs.declared.query.BoundQuery.{BoundQuery}
 use Rattle.sql_binding.specs.Queries.{bound_sources, columns_of, over_groups, over_rows}
 use Rattle.sql_binding.specs.Sight.{sight}
 use Rattle.sql_binding.specs.Uses.{is_grouped}
-use Rattle.db_model.specs.Database.{Database, Table}
-use Rattle.db_model.specs.State.{own_changes, Changes, State}
+use Rattle.db_model.specs.Database.{Table}
+use Rattle.db_model.specs.State.{own_changes, State}
 use Rattle.db_model.specs.Views.{bound_in, bound_over, inputs, rows_read, source_tables, table_found}
 use Rattle.store_query.specs.Reading.{item_rows, rows_of, source_rows, AreOver}
 

@@ -1,7 +1,6 @@
 -- Rows without those that are deleted.
-use Rattle.std.proofs.Common.{◌≡◌, ℕ, zero, suc, ◌+◌, ◌≤◌, ◌<◌, ◌++◌, Bool, true, false, not, cond, List, [], ◌∷◌, map, filter, refl, sym, ap, ◌∙◌, arith, subst}
+use Rattle.std.proofs.Common.{◌≡◌, ℕ, zero, suc, ◌+◌, ◌≤◌, ◌++◌, Bool, true, false, not, cond, List, [], ◌∷◌, map, refl, sym, ap, ◌∙◌, arith, subst}
 use Rattle.std.specs.Prelude.{count_by}
-use Rattle.std.specs.Bool.{OnFalse, OnTrue}
 use Rattle.std.specs.List.{All}
 use Rattle.std.specs.Ordering.{is_eq}
 use Rattle.std.proofs.lemmas.List.{map-append}
@@ -12,7 +11,7 @@ use Rattle.col_value.specs.declared.row.Asked.{Asked}
 use Rattle.col_value.specs.declared.value.Value.{Value}
 use Rattle.col_value.specs.Order.{row_cmp}
 use Rattle.db_model.specs.State.{without, without_one}
-use Rattle.wanted_rows.specs.Wanted.{is_same, one_of, tally, Adds, Tries}
+use Rattle.wanted_rows.specs.Wanted.{is_same, one_of, tally, Tries}
 use Rattle.wanted_rows.proofs.Counting.{same_exact, same_itself}
 use Rattle.wanted_rows.proofs.Whole.{bag_of_tally}
 use Rattle.store_query.specs.Lessening.{asked, IsLess, Keeps}

@@ -1,8 +1,8 @@
 -- Places of columns.
-use Rattle.std.proofs.Common.{◌≡◌, ℕ, zero, suc, ◌+◌, ◌-◌, ◌≤◌, ◌<◌, ◌++◌, Bool, true, false, cond, List, [], ◌∷◌, length, map, filter, get_or, Option, Some, None, refl, sym, ap, ◌∙◌, arith, subst}
+use Rattle.std.proofs.Common.{◌≡◌, ℕ, suc, ◌+◌, ◌-◌, ◌<◌, ◌++◌, Bool, true, false, cond, List, [], ◌∷◌, length, map, filter, get_or, Option, Some, None, refl, sym, ap, ◌∙◌, arith, subst}
 use Rattle.std.specs.Prelude.{◌==◌, ◌&&◌, ◌||◌, ◌⊎◌, is_some, nat_le, nat_lt}
 use Rattle.std.proofs.Common.{inl, inr}
-use Rattle.std.specs.List.{All, list_all, list_any, position, position_from, slice_get}
+use Rattle.std.specs.List.{list_all, list_any, position, position_from, slice_get}
 use Rattle.std.specs.Option.{IfSome}
 use Rattle.std.proofs.lemmas.Bool.{eqb-true}
 use Rattle.std.proofs.lemmas.Bool.Decides.{nat_tests}
@@ -19,7 +19,7 @@ use Rattle.sql_bound.specs.declared.query.BoundQuery.{BoundQuery}
 use Rattle.db_model.specs.Database.{has_columns}
 use Rattle.db_model.specs.Choice.{used_columns, within_item}
 use Rattle.folder_model.specs.Projections.{ordinals, shape_of}
-use Rattle.query_cover.specs.Seen.{ArePlaces, is_used}
+use Rattle.query_cover.specs.Seen.{ArePlaces}
 use Rattle.store_query.specs.Placing.{ArePlacesOf, AreWithin, IsPlaceOf}
 
 abbrev ordinals_of : List ProjColumn → List ℕ

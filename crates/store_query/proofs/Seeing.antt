@@ -1,7 +1,7 @@
 -- The rows that are read are, for the query, those of the FROM items.
-use Rattle.std.proofs.Common.{◌≡◌, ℕ, zero, suc, ◌+◌, ◌≤◌, ◌<◌, ◌++◌, min, Bool, true, false, cond, List, [], ◌∷◌, length, map, filter, get_or, Option, Some, None, refl, sym, ap, ap₂, ◌∙◌, arith, subst}
-use Rattle.std.specs.Prelude.{◌==◌, IsSomeAnd, nat_le}
-use Rattle.std.specs.List.{All, AllZip, enumerate_from, slice_get}
+use Rattle.std.proofs.Common.{◌≡◌, ℕ, zero, suc, ◌+◌, ◌≤◌, ◌<◌, ◌++◌, min, true, List, [], ◌∷◌, length, map, filter, get_or, Option, Some, None, refl, sym, ap, ap₂, ◌∙◌, arith, subst}
+use Rattle.std.specs.Prelude.{◌==◌, nat_le}
+use Rattle.std.specs.List.{All, enumerate_from, slice_get}
 use Rattle.std.specs.Option.{option_map_or, IfSome}
 use Rattle.std.proofs.Math.Nat.{min-eq_left}
 use Rattle.std.proofs.lemmas.Bool.{eq-eqb, eqb-true}
@@ -10,7 +10,6 @@ use Rattle.std.proofs.lemmas.List.{append-nil, map-append}
 use Rattle.std.proofs.lemmas.List.Elements.{All-cons, All-filter, All-head, All-map, All-nil, All-tail, All-weaker, filter-append}
 use Rattle.std.proofs.lemmas.Slice.Zip.{AllZip-long}
 use Rattle.common_laws.specs.Bags.{SameBag}
-use Rattle.common_laws.specs.Maps.{Contents}
 use Rattle.common_laws.proofs.BagLaws.{bag_map, bag_refl, bag_append, bag_sym, bag_trans}
 use Rattle.col_value.specs.declared.column.Column.{Column}
 use Rattle.col_value.specs.declared.row.Asked.{Asked}
@@ -25,7 +24,7 @@ use Rattle.sql_tree.specs.declared.query.At.{At}
 use Rattle.sql_bound.specs.declared.query.FromItem.{FromItem}
 use Rattle.sql_bound.specs.declared.query.BoundQuery.{BoundQuery}
 use Rattle.db_model.specs.Database.{Database, Table, table_named}
-use Rattle.db_model.specs.State.{Changes, pending_deletes, pending_rows, session_view, without}
+use Rattle.db_model.specs.State.{Changes, pending_deletes, pending_rows, without}
 use Rattle.db_model.specs.Sound.{HasEpochs, IsSoundDatabase, IsSoundSession, IsSoundTable, RowFits, ValueFits}
 use Rattle.sound_laws.proofs.Changes.{all_fit, all_within, found_all, names_differ}
 use Rattle.query_cover.specs.Seen.{blanked, is_used, placed, value_at, AreSeen, ArePlaces}
@@ -163,8 +162,7 @@ stay at d changes t has within = by (gone_within at changes t within)
         let seen : SameBag (visible e t.rows) (visible e (map (stamped None) gone ++ rest)) = bag_visible e t.rows (map (stamped None) gone ++ rest) bag in
         let split : visible e (map (stamped None) gone ++ rest) ≡ visible e (map (stamped None) gone) ++ visible e rest =
         ap (map (λ (s : Stamped). s.row)) (filter-append (is_visible e) (map (stamped None) gone) rest)
-        ∙ map-append (λ (s : Stamped). s.row) (filter (is_visible e) (map (stamped None) gone)) (filter (is_visible e) rest) in
-        (
+        ∙ map-append (λ (s : Stamped). s.row) (filter (is_visible e) (map (stamped None) gone)) (filter (is_visible e) rest) in (
           visible e rest,
           subst (SameBag (visible e t.rows)) (split ∙ ap (λ (xs : Rows). xs ++ visible e rest) (gone_seen at d changes t rest has bag)) seen,
         )

@@ -78,11 +78,7 @@ fn with_changes(
 {
     let deletes = deletes_of(tables, changes, at, item);
     let mut rows = without_deletes(alloc, rows, deletes, places)?;
-    add_rows(
-        alloc,
-        &mut rows,
-        pending_of(tables, changes, at, item),
-    )?;
+    add_rows(alloc, &mut rows, pending_of(tables, changes, at, item))?;
     Ok(rows)
 }
 
@@ -120,15 +116,7 @@ fn rows_of_item<D: Disk>(
         Ok(rows) => rows,
         Err(fault) => return Err(fault),
     };
-    match with_changes(
-        alloc,
-        tables,
-        changes,
-        at,
-        item,
-        places.as_slice(),
-        rows,
-    ) {
+    match with_changes(alloc, tables, changes, at, item, places.as_slice(), rows) {
         Ok(rows) => Ok(rows),
         Err(AllocError) => Err(StoreFault::Memory),
     }

@@ -1,9 +1,9 @@
-use Rattle.std.proofs.Common.{◌≡◌, ◌++◌, ◌∷◌, [], List, refl, subst, rules}
+use Rattle.std.proofs.Common.{◌≡◌, ◌++◌, ◌∷◌, [], List, subst, rules}
 use Rattle.std.specs.List.{All}
 use Rattle.col_value.specs.declared.value.Value.{Value}
 use Rattle.col_value.specs.Order.{IsRow}
 use Rattle.wanted_rows.specs.Wanted.{need_in}
-use Rattle.store_query.proofs.Lessens.{all_front, lessens_all, lessens_next, lessens_none}
+use Rattle.store_query.proofs.Lessens.{all_front, lessens_all, lessens_next}
 use Rattle.store_query.proofs.lessening.less.Goals as goal
 
 pub loop-row-preserved : goal.loop-row-preserved

@@ -1,10 +1,9 @@
-use Rattle.std.proofs.Common.{◌≡◌, ◌∙◌, ◌∷◌, [], List, get_or, refl, sym, subst}
+use Rattle.std.proofs.Common.{◌∙◌, [], List, get_or, refl, sym, subst}
 use Rattle.std.specs.List.{All, AllZip}
 use Rattle.std.proofs.lemmas.List.Elements.{All-nil, All-push}
 use Rattle.col_disk.proofs.Moving.{moved_join, moved_none}
 use Rattle.col_value.specs.declared.value.Value.{Value}
 use Rattle.col_value.specs.Order.{IsRow}
-use Rattle.sql_bound.specs.declared.query.FromItem.{FromItem}
 use Rattle.exec_scan.proofs.Indexed.{zip_more}
 use Rattle.store_query.specs.Reading.{IsSeen}
 use Rattle.store_query.proofs.ItemRows.{blank}
