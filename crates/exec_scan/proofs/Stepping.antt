@@ -74,7 +74,7 @@ stores_at m es (k ∷ ks) (b ∷ bs) (suc i) saved lt is =
     let s = stores_at m es ks bs i saved (omega (arith, lt)) is in
     record { entry = s.entry; kept = s.kept; at = s.at; beside_at = s.beside_at; asked = s.asked; held = s.held; more = s.more; rest = s.rest; all = s.all }
 
-got : {X : Type 0} (xs : List X) (i : ℕ) (x d : X) → slice_get xs i ≡ Some x → get_or xs i d ≡ x
+pub got : {X : Type 0} (xs : List X) (i : ℕ) (x d : X) → slice_get xs i ≡ Some x → get_or xs i d ≡ x
 got [] i x d is = absurd (cc)
 got (y ∷ xs) zero x d is = cc
 got (y ∷ xs) (suc i) x d is = got xs i x d is
@@ -100,7 +100,7 @@ unblamed_at m holds p e ps i b o t left fault told lt are blames =
 
 -- ---- how many rows were handed over
 
-passed_none : (p : Projection) (e : ℕ) (ps : List (Option ℕ)) (i : ℕ) (o : Option Opening) (t : ℕ) → rows_passed p (at_place e ps i 0 o t) ≡ 0
+pub passed_none : (p : Projection) (e : ℕ) (ps : List (Option ℕ)) (i : ℕ) (o : Option Opening) (t : ℕ) → rows_passed p (at_place e ps i 0 o t) ≡ 0
 passed_none p e ps i o t = by (slice_get p.containers i)
   where
     by : (q : Option Container) → option_map_or (λ k. min (1024 * 0) k.rows) q 0 ≡ 0

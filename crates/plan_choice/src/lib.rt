@@ -10,3 +10,4 @@ mod choosing;
 mod covering;
 
 pub use choosing::choose;
+pub use covering::covers_query;

@@ -1,0 +1,76 @@
+//! All rows of a scan.
+
+ghost use Rattle.std.specs.Prelude.{◌≡◌, ◌++◌, List, Some, length, map, IfOk, IfErr, OnOk};
+ghost use Rattle.std.specs.List.{All};
+ghost use Rattle.common_laws.specs.Causes.{HasCause};
+ghost use Rattle.common_laws.specs.Maps.{Contents};
+ghost use Rattle.col_disk.specs.Moved.{Moved, NoName};
+ghost use Rattle.col_value.specs.Order.{IsRow};
+ghost use Rattle.col_value.specs.declared.row.Stamped.{Stamped};
+ghost use Rattle.row_history.specs.History.{visible};
+ghost use Rattle.stored_rows.specs.Stored.{Stores};
+ghost use Rattle.query_cover.specs.Seen.{placed};
+ghost use Rattle.exec_scan.specs.Scanning.{AreOwn, IsUnblamed};
+
+use crate::batch::Batch;
+use crate::scan::Scan;
+use col_disk::{Disk, StoreFault};
+use col_value::{Row, Value};
+use proj_store::ProjStore;
+use std::alloc::{AllocError, Global};
+
+fn row_copy(alloc: Global, values: &[Value]) -> Result<Row, AllocError>
+    requires { IsRow values.now }
+    ensures row { IfOk result (λ r. r ≡ values.now) }
+    ensures valid { IfOk result IsRow }
+{
+    let mut out = Vec::with_capacity(alloc, values.len())?;
+    for value in values {
+        out.push(value.copy(alloc)?)?;
+    }
+    Ok(Row::new(out))
+}
+
+/// Appends the rows of a batch.
+fn add_batch(alloc: Global, out: &mut Vec<Row>, batch: &Batch) -> Result<(), AllocError>
+    requires { All IsRow out.old.items }
+    ensures rows { OnOk result (out.new.items ≡ out.old.items ++ batch.now) }
+    ensures valid { OnOk result (All IsRow out.new.items) }
+{
+    for i in 0..batch.len() {
+        out.push(row_copy(alloc, batch.row(i))?)?;
+    }
+    Ok(())
+}
+
+/// All rows of a projection that are visible at an epoch, made for the table's columns: for each of these `places` has its place in the
+/// projection, if it is needed.
+pub fn scan_rows<D: Disk>(
+    alloc: Global,
+    store: &ProjStore,
+    epoch: u64,
+    places: Vec<Option<usize>>,
+    disk: &mut D,
+) -> Result<Vec<Row>, StoreFault>
+    requires { AreOwn store.now.stored.entry places.items }
+    ensures found { IfOk result (λ v. (m : Contents) → D.holds disk.old ≡ Some m → (rows : List Stamped) → Stores m store.now.stored rows → v.items ≡ map (placed places.items) (visible epoch rows)) }
+    ensures valid { IfOk result (λ v. All IsRow v.items) }
+    ensures unblamed { IfErr result (λ fault. (m : Contents) → D.holds disk.old ≡ Some m → (rows : List Stamped) → Stores m store.now.stored rows → IsUnblamed fault) }
+    ensures kept { D.holds disk.new ≡ D.holds disk.old }
+    ensures moved { Moved ⟦<D as Disk>⟧ NoName NoName disk.old disk.new }
+    ensures cause { HasCause StoreFault.Disk (D.faults disk.old) (D.faults disk.new) result }
+{
+    let mut scan = Scan::new(epoch, places);
+    let mut out = Vec::new(alloc);
+    loop {
+        let batch = match scan.next(alloc, store, disk) {
+            Ok(Some(batch)) => batch,
+            Ok(None) => return Ok(out),
+            Err(fault) => return Err(fault),
+        };
+        match add_batch(alloc, &mut out, &batch) {
+            Ok(()) => {}
+            Err(AllocError) => return Err(StoreFault::Memory),
+        }
+    }
+}

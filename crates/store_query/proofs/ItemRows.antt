@@ -1,0 +1,131 @@
+-- What is read of a store.
+use Rattle.std.proofs.Common.{◌≡◌, ℕ, ◌+◌, ◌++◌, List, [], ◌∷◌, length, map, Option, Some, None, refl, sym, ap, ◌∙◌, subst}
+use Rattle.std.specs.Prelude.{IsSomeAnd}
+use Rattle.std.specs.List.{All, AllZip, slice_get}
+use Rattle.std.specs.Option.{option_map_or}
+use Rattle.std.proofs.lemmas.List.Elements.{All-cons, All-nil}
+use Rattle.common_laws.specs.Bags.{SameBag}
+use Rattle.common_laws.specs.Maps.{Contents}
+use Rattle.col_disk.specs.declared.disk.Disk.{Ghosts}
+use Rattle.col_disk.specs.declared.disk.StoreFault.{StoreFault}
+use Rattle.col_disk.specs.declared.disk.StoreFault.TheVariants as store
+use Rattle.col_value.specs.declared.row.Asked.{Asked}
+use Rattle.col_value.specs.declared.row.Stamped.{Stamped}
+use Rattle.col_value.specs.declared.value.Value.{Value}
+use Rattle.col_value.specs.Order.{projected}
+use Rattle.row_history.specs.History.{visible}
+use Rattle.sql_tree.specs.declared.query.At.{At}
+use Rattle.sql_bound.specs.declared.query.FromItem.{FromItem}
+use Rattle.sql_bound.specs.declared.query.BoundQuery.{BoundQuery}
+use Rattle.db_model.specs.Database.{Database, Table}
+use Rattle.db_model.specs.State.{Changes, without}
+use Rattle.stored_rows.specs.Stored.{Projected, Stores}
+use Rattle.folder_model.specs.Projections.{ordinals}
+use Rattle.store_commit.specs.Seen.{Seen}
+use Rattle.exec_scan.specs.Scanning as scan
+use Rattle.query_cover.specs.Seen.{AreSeen, AreSeenFrom, placed}
+use Rattle.query_cover.proofs.Placed.{shows_same}
+use Rattle.store_query.specs.Lessening.{cleared, deletes_of, HasChanges, IsLess}
+use Rattle.store_query.specs.Placing.{ArePlacesOf}
+use Rattle.store_query.specs.Faults.{of_store, IsUnblamed}
+use Rattle.store_query.specs.Reading.{epoch_of, item_rows, pending_of, rows_of, source_rows, AreOver, CanRead, IsOver, IsRead, IsSeen}
+use Rattle.store_query.specs.Taking.{IsTaken}
+use Rattle.store_query.proofs.Putting.{places_cover}
+use Rattle.store_query.proofs.Seeing.{changed_seen, fitting, gone_in, gone_is, mark_before, pending_in, pending_is, rows_asked, rows_split}
+use Rattle.store_query.proofs.Served.{taken_serves}
+
+-- ---- a FROM item
+
+-- rows that a scan of the projection at these places makes, with the changes of a session, are these
+pub record AreRows (s : Seen) (changes : List Changes) (at : At) (f : FromItem) (m : Contents) (p : Projected) (epoch : ℕ) (places : List (Option ℕ)) (out : List (List Value)) : Type 0 where
+  pub scanned : List (List Value)
+  pub found : (rows : List Stamped) → Stores m p rows → scanned ≡ map (placed places) (visible epoch rows)
+  pub changed : HasChanges (map (λ a. cleared places a.row) (deletes_of at s.catalogue.tables changes f)) (pending_of at s.catalogue.tables changes f) scanned out
+
+read_over : (m : Contents) (s : Seen) (changes : List Changes) (at : At) (q : BoundQuery) (f : FromItem) (d : Database) (p : Projected) (epoch : ℕ) (places : List (Option ℕ)) (out : List (List Value)) (t : Table)
+    → IsTaken s q f p → IsRead m s changes at d → ArePlacesOf q f.first f.columns (ordinals p.entry) places → epoch ≡ epoch_of at s.catalogue.last → AreRows s changes at f m p epoch places out
+    → slice_get d.tables f.table ≡ Some t → f.columns ≡ length t.columns → AreSeen q f.first f.columns out (rows_of at d changes t)
+read_over m s changes at q f d p epoch places out t taken read are epoch_is rows is wide =
+    let serves = taken_serves m s q f d t p taken read.are is in
+    let e = epoch_of at d.last in
+    let fits = fitting d at changes t f.table f.columns read.sound read.session is wide in
+    let stored = serves.history.stored in
+    let shown = visible e stored in
+    let deletes = gone_in at changes t in
+    let more = pending_in at changes t in
+    let at_epoch : epoch ≡ e = epoch_is ∙ ap (λ (n : ℕ). epoch_of at n) (sym read.are.last) in
+    let bag : SameBag shown (map (λ row. projected row (ordinals p.entry)) (visible e t.rows)) =
+    shows_same (ordinals p.entry) d.ahm e stored t.rows (mark_before at d read.sound read.epoch) serves.history.history in
+    let scan_is : rows.scanned ≡ map (placed places) shown = rows.found stored serves.history.are ∙ ap (λ (n : ℕ). map (placed places) (visible n stored)) at_epoch in
+    let gone : deletes_of at s.catalogue.tables changes f ≡ deletes = gone_is at s.catalogue.tables changes f taken.table t taken.there serves.name in
+    let behind : pending_of at s.catalogue.tables changes f ≡ more = pending_is at s.catalogue.tables changes f taken.table t taken.there serves.name in
+    let less = rows.changed.0 in
+    let lessened : IsLess (map (λ a. cleared places a.row) deletes) (map (placed places) shown) less =
+    subst (λ (xs : List (List Value)). IsLess (map (λ a. cleared places a.row) deletes) xs less) scan_is
+    (subst (λ (ds : List Asked). IsLess (map (λ a. cleared places a.row) ds) rows.scanned less) gone rows.changed.1) in
+    let seen : AreSeen q f.first f.columns (less ++ more) (without (rows_asked deletes) (visible e t.rows) ++ more) =
+    changed_seen q f.first f.columns (ordinals p.entry) places deletes shown (visible e t.rows) fits.live.0 less more (places_cover q f p.entry places serves.covers are) fits.wide fits.pending bag fits.live.1 lessened in
+    let all : out ≡ less ++ more = rows.changed.2 ∙ ap (λ (xs : List (List Value)). less ++ xs) behind in
+    subst (λ (xs : List (List Value)). AreSeen q f.first f.columns xs (rows_of at d changes t)) (sym all)
+    (subst (AreSeen q f.first f.columns (less ++ more)) (sym (rows_split at d changes t read.epoch)) seen)
+
+pub item_seen : (m : Contents) (s : Seen) (changes : List Changes) (at : At) (q : BoundQuery) (f : FromItem) (d : Database) (p : Projected) (epoch : ℕ) (places : List (Option ℕ)) (out : List (List Value))
+    → IsTaken s q f p → IsRead m s changes at d → ArePlacesOf q f.first f.columns (ordinals p.entry) places → epoch ≡ epoch_of at s.catalogue.last → AreRows s changes at f m p epoch places out → IsSeen at changes q d f out
+item_seen m s changes at q f d p epoch places out taken read are epoch_is rows = λ over. by (slice_get d.tables f.table) refl over
+  where
+    by : (o : Option Table) → slice_get d.tables f.table ≡ o → IsSomeAnd o (λ t. f.columns ≡ length t.columns) → AreSeen q f.first f.columns out (option_map_or (rows_of at d changes) o [])
+    by None is none = absurd none
+    by (Some t) is wide = read_over m s changes at q f d p epoch places out t taken read are epoch_is rows is wide
+
+-- no file of the projection is to blame
+pub item_unblamed : (m : Contents) (s : Seen) (changes : List Changes) (at : At) (q : BoundQuery) (f : FromItem) (d : Database) (p : Projected) (fault : StoreFault) → IsTaken s q f p → IsRead m s changes at d → IsOver d.tables f
+    → ((rows : List Stamped) → Stores m p rows → scan.IsUnblamed fault) → scan.IsUnblamed fault
+item_unblamed m s changes at q f d p fault taken read over blames = by (slice_get d.tables f.table) refl over
+  where
+    by : (o : Option Table) → slice_get d.tables f.table ≡ o → IsSomeAnd o (λ t. f.columns ≡ length t.columns) → scan.IsUnblamed fault
+    by None is none = absurd none
+    by (Some t) is wide = let serves = taken_serves m s q f d t p taken read.are is in blames serves.history.stored serves.history.are
+
+-- ---- all FROM items
+
+pub seen_from : (at : At) (changes : List Changes) (q : BoundQuery) (d : Database) (first : ℕ) (fs : List FromItem) (seen : List (List (List Value))) → AreOver first d.tables fs → AllZip (IsSeen at changes q d) fs seen
+    → AreSeenFrom q first fs seen (map (item_rows at d changes) fs)
+seen_from at changes q d first [] [] over all = tt
+seen_from at changes q d first [] (x ∷ seen) over all = absurd all
+seen_from at changes q d first (f ∷ fs) [] over all = absurd all
+seen_from at changes q d first (f ∷ fs) (x ∷ seen) (is, here, over) (one, more) = (
+  subst (λ (n : ℕ). AreSeen q n f.columns x (item_rows at d changes f)) is (one here),
+  seen_from at changes q d (first + f.columns) fs seen over more,
+)
+
+pub each_over : (first : ℕ) (tables : List Table) (fs : List FromItem) → AreOver first tables fs → All (IsOver tables) fs
+each_over first tables [] over = All-nil (IsOver tables)
+each_over first tables (f ∷ fs) (is, here, over) = All-cons (IsOver tables) f fs here (each_over (first + f.columns) tables fs over)
+
+-- ---- a store that stands for a database
+
+pub read_of : {D : Type 0} (disk : Ghosts D) (s : Seen) (now : D) (changes : List Changes) (at : At) (q : BoundQuery) (d : Database) (can : CanRead disk s now changes at q d) → IsRead can.stands.files s changes at d
+read_of disk s now changes at q d can = record { are = can.stands.are; sound = can.stands.sound; epoch = can.epoch; session = can.session }
+
+-- what was read of the FROM items is, for the query, what they have
+pub select_seen : {D : Type 0} (disk : Ghosts D) (s : Seen) (now : D) (changes : List Changes) (at : At) (q : BoundQuery) (d : Database) (items : List FromItem) (inputs given : List (List (List Value))) → items ≡ q.sources → given ≡ inputs
+    → ((m : Contents) → disk.holds now ≡ Some m → (e : Database) → IsRead m s changes at e → AllZip (IsSeen at changes q e) items inputs) → CanRead disk s now changes at q d → AreSeenFrom q 0 q.sources given (source_rows at d changes q)
+select_seen disk s now changes at q d items inputs given is same zip can =
+    let all = zip can.stands.files can.stands.quiet.told_is d (read_of disk s now changes at q d can) in
+    subst (λ (rows : List (List (List Value))). AreSeenFrom q 0 q.sources rows (source_rows at d changes q)) (sym same)
+    (seen_from at changes q d 0 q.sources inputs can.over (subst (λ (fs : List FromItem). AllZip (IsSeen at changes q d) fs inputs) is all))
+
+store_unblamed : (fault : StoreFault) → scan.IsUnblamed fault → IsUnblamed (of_store fault)
+store_unblamed store.Disk is = tt
+store_unblamed (store.Damaged q) is = absurd is
+store_unblamed store.Memory is = tt
+
+pub select_unblamed : {D : Type 0} (disk : Ghosts D) (s : Seen) (now : D) (changes : List Changes) (at : At) (q : BoundQuery) (d : Database) (items : List FromItem) (fault : StoreFault) → items ≡ q.sources
+    → ((m : Contents) → disk.holds now ≡ Some m → (e : Database) → IsRead m s changes at e → All (IsOver e.tables) items → scan.IsUnblamed fault) → CanRead disk s now changes at q d → IsUnblamed (of_store fault)
+select_unblamed disk s now changes at q d items fault is blames can =
+    let over = subst (λ (fs : List FromItem). All (IsOver d.tables) fs) (sym is) (each_over 0 d.tables q.sources can.over) in
+    store_unblamed fault (blames can.stands.files can.stands.quiet.told_is d (read_of disk s now changes at q d can) over)
+
+-- a FROM item of no columns
+abbrev pub blank : FromItem
+blank = record { table = 0; first = 0; columns = 0 }

@@ -1,0 +1,23 @@
+-- The faults of a store and of a query, as faults of a SELECT.
+use Rattle.col_disk.specs.declared.disk.StoreFault.{StoreFault}
+use Rattle.col_disk.specs.declared.disk.StoreFault.TheVariants as store
+use Rattle.plain_query.specs.declared.fault.QueryFault.{QueryFault}
+use Rattle.plain_query.specs.declared.fault.QueryFault.TheVariants as query
+use Rattle.store_query.specs.declared.fault.SelectFault.{SelectFault}
+use Rattle.store_query.specs.declared.fault.SelectFault.TheVariants as select
+
+abbrev pub of_store : StoreFault → SelectFault
+of_store store.Disk = select.Disk
+of_store (store.Damaged q) = select.Damaged q
+of_store store.Memory = select.Memory
+
+abbrev pub of_query : QueryFault → SelectFault
+of_query query.SumOutOfRange = select.SumOutOfRange
+of_query query.Memory = select.Memory
+
+-- no file is to blame
+abbrev pub IsUnblamed : SelectFault → Type 0
+IsUnblamed select.SumOutOfRange = Unit {0}
+IsUnblamed select.Disk = Unit {0}
+IsUnblamed (select.Damaged q) = ⊥
+IsUnblamed select.Memory = Unit {0}

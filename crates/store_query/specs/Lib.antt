@@ -1,0 +1,5 @@
+pub mod Faults
+pub mod Lessening
+pub mod Placing
+pub mod Reading
+pub mod Taking

@@ -1,0 +1,61 @@
+//! The answer to a query.
+
+ghost use Rattle.std.specs.Prelude.{◌≡◌, IfOk, IfErr, OnOk, IsErrOf};
+ghost use Rattle.common_laws.specs.Causes.{HasCause};
+ghost use Rattle.col_disk.specs.Moved.{Moved, NoName};
+ghost use Rattle.db_model.specs.Database.{Database};
+ghost use Rattle.plain_query.specs.Bounded.{IsBoundedQuery};
+ghost use Rattle.sql_bound.specs.Outputs.{output, IsSumTooGreat};
+ghost use Rattle.sql_bound.specs.Printed.{IsPrinted};
+ghost use Rattle.store_query.specs.Faults.{IsUnblamed};
+ghost use Rattle.store_query.specs.Reading.{source_rows, CanRead};
+
+use crate::fault::SelectFault;
+use crate::sources::rows_of_items;
+use col_disk::Disk;
+use col_value::WideRow;
+use query_run::printed;
+use sql_bound::BoundQuery;
+use sql_tree::At;
+use std::alloc::Global;
+use table_store::TableStore;
+use txn_core::Session;
+
+/// The rows that a query prints over the tables of a store, in their order: over what the session sees, or over what was committed up to
+/// an epoch. `SumOutOfRange` comes exactly where in some group, also in one that HAVING drops, the magnitudes of the values of one SUM
+/// add to more than 2^127 - 1; `Disk` only where the disk failed; `Damaged` never over a store that stands for a database. Nothing is
+/// written.
+pub fn select<D: Disk>(
+    alloc: Global,
+    tables: &TableStore,
+    changes: &Session,
+    at: At,
+    query: &BoundQuery,
+    disk: &mut D,
+) -> Result<Vec<WideRow>, SelectFault>
+    requires bounded { IsBoundedQuery query.now }
+    ensures printed { IfOk result (λ v. (d : Database) → CanRead ⟦<D as Disk>⟧ tables.now disk.old changes.now at query.now d → IsPrinted query.now.order query.now.limit (output query.now (source_rows at d changes.now query.now)) v.items) }
+    ensures in_range { OnOk result ((d : Database) → CanRead ⟦<D as Disk>⟧ tables.now disk.old changes.now at query.now d → IsSumTooGreat query.now (source_rows at d changes.now query.now) → ⊥) }
+    ensures great { IsErrOf result SelectFault.SumOutOfRange → (d : Database) → CanRead ⟦<D as Disk>⟧ tables.now disk.old changes.now at query.now d → IsSumTooGreat query.now (source_rows at d changes.now query.now) }
+    ensures unblamed { IfErr result (λ fault. (d : Database) → CanRead ⟦<D as Disk>⟧ tables.now disk.old changes.now at query.now d → IsUnblamed fault) }
+    ensures kept { D.holds disk.new ≡ D.holds disk.old }
+    ensures moved { Moved ⟦<D as Disk>⟧ NoName NoName disk.old disk.new }
+    ensures cause { HasCause SelectFault.Disk (D.faults disk.old) (D.faults disk.new) result }
+{
+    let inputs = match rows_of_items(
+        alloc,
+        tables,
+        changes,
+        at,
+        query,
+        query.sources.as_slice(),
+        disk,
+    ) {
+        Ok(inputs) => inputs,
+        Err(fault) => return Err(SelectFault::from(fault)),
+    };
+    match printed(alloc, query, inputs.as_slice()) {
+        Ok(rows) => Ok(rows),
+        Err(fault) => Err(SelectFault::from(fault)),
+    }
+}

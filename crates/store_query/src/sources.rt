@@ -1,0 +1,154 @@
+//! The rows of the FROM items.
+
+ghost use Rattle.std.specs.Prelude.{◌≡◌, Some, map, IfOk, IfErr};
+ghost use Rattle.std.specs.List.{All, AllZip};
+ghost use Rattle.std.specs.Option.{IfSome};
+ghost use Rattle.common_laws.specs.Causes.{HasCause};
+ghost use Rattle.common_laws.specs.Maps.{Contents};
+ghost use Rattle.col_disk.specs.Moved.{Moved, NoName};
+ghost use Rattle.col_value.specs.Order.{IsRow};
+ghost use Rattle.db_model.specs.Database.{Database};
+ghost use Rattle.exec_scan.specs.Scanning.{IsUnblamed};
+ghost use Rattle.store_query.specs.Lessening.{cleared, deletes_of, HasChanges};
+ghost use Rattle.store_query.specs.Reading.{epoch_of, pending_of, IsOver, IsRead, IsSeen};
+ghost use Rattle.store_query.specs.Taking.{IsTaken};
+
+use crate::lessening::{deletes_of, without_deletes};
+use crate::pending::{add_rows, pending_of};
+use crate::places::places_of;
+use col_disk::{Disk, StoreFault};
+use col_value::{List, Row};
+use exec_scan::scan_rows;
+use plan_choice::choose;
+use proj_store::ProjStore;
+use sql_bound::{BoundQuery, FromItem};
+use sql_tree::At;
+use std::alloc::{AllocError, Global};
+use table_store::TableStore;
+use txn_core::Session;
+
+/// The epoch up to which rows are read; for one that isn't closed it is the newest.
+fn epoch_of(at: At, last: u64) -> u64
+    ensures { result ≡ epoch_of at last }
+{
+    match at {
+        At::View => last,
+        At::Latest => last,
+        At::Epoch(n) => n.min(u128::from(last)) as u64,
+    }
+}
+
+/// The projection that the choice says for a FROM item. It takes no memory.
+fn projection_for<'a>(
+    tables: &'a TableStore,
+    query: &BoundQuery,
+    item: FromItem,
+) -> Option<&'a ProjStore>
+    ensures { IfSome result (λ p. IsTaken tables.now query.now item p.now.stored) }
+{
+    let Some(table) = tables.root().tables.as_slice().get(item.table) else {
+        return None;
+    };
+    let Some(parts) = tables.tables().get(item.table) else {
+        return None;
+    };
+    let Some(place) = choose(query, item, table.projections.as_slice()) else {
+        return None;
+    };
+    let Some(store) = parts.as_slice().get(place) else {
+        return None;
+    };
+    Some(store)
+}
+
+/// Rows of a FROM item's table as a scan made them, with the session's changes where its view is read: without those that it deletes, and
+/// then its pending ones.
+fn with_changes(
+    alloc: Global,
+    tables: &TableStore,
+    changes: &Session,
+    at: At,
+    item: FromItem,
+    places: &[Option<usize>],
+    rows: Vec<Row>,
+) -> Result<Vec<Row>, AllocError>
+    requires { All IsRow rows.items }
+    ensures changed { IfOk result (λ v. HasChanges (map (λ a. cleared places.now a.row) (deletes_of at tables.now.catalogue.tables changes.now item)) (pending_of at tables.now.catalogue.tables changes.now item) rows.items v.items) }
+    ensures valid { IfOk result (λ v. All IsRow v.items) }
+{
+    let deletes = deletes_of(tables, changes, at, item);
+    let mut rows = without_deletes(alloc, rows, deletes, places)?;
+    add_rows(alloc, &mut rows, pending_of(tables, changes, at, item))?;
+    Ok(rows)
+}
+
+/// The rows that a query reads of a FROM item's table: those of the chosen projection, with the session's changes.
+fn rows_of_item<D: Disk>(
+    alloc: Global,
+    tables: &TableStore,
+    changes: &Session,
+    at: At,
+    query: &BoundQuery,
+    item: FromItem,
+    disk: &mut D,
+) -> Result<Vec<Row>, StoreFault>
+    ensures seen { IfOk result (λ v. (m : Contents) → D.holds disk.old ≡ Some m → (d : Database) → IsRead m tables.now changes.now at d → IsSeen at changes.now query.now d item v.items) }
+    ensures valid { IfOk result (λ v. All IsRow v.items) }
+    ensures unblamed { IfErr result (λ fault. (m : Contents) → D.holds disk.old ≡ Some m → (d : Database) → IsRead m tables.now changes.now at d → IsOver d.tables item → IsUnblamed fault) }
+    ensures kept { D.holds disk.new ≡ D.holds disk.old }
+    ensures moved { Moved ⟦<D as Disk>⟧ NoName NoName disk.old disk.new }
+    ensures cause { HasCause StoreFault.Disk (D.faults disk.old) (D.faults disk.new) result }
+{
+    let Some(store) = projection_for(tables, query, item) else {
+        return Err(StoreFault::Memory);
+    };
+    let columns = store.entry().columns.as_slice();
+    let places = match places_of(alloc, query, item, columns) {
+        Ok(places) => places,
+        Err(AllocError) => return Err(StoreFault::Memory),
+    };
+    let scanned = match Vec::from_slice(alloc, places.as_slice()) {
+        Ok(scanned) => scanned,
+        Err(AllocError) => return Err(StoreFault::Memory),
+    };
+    let epoch = epoch_of(at, tables.last());
+    let rows = match scan_rows(alloc, store, epoch, scanned, disk) {
+        Ok(rows) => rows,
+        Err(fault) => return Err(fault),
+    };
+    match with_changes(alloc, tables, changes, at, item, places.as_slice(), rows) {
+        Ok(rows) => Ok(rows),
+        Err(AllocError) => Err(StoreFault::Memory),
+    }
+}
+
+/// The rows that a query reads of each of these FROM items.
+pub fn rows_of_items<D: Disk>(
+    alloc: Global,
+    tables: &TableStore,
+    changes: &Session,
+    at: At,
+    query: &BoundQuery,
+    items: &[FromItem],
+    disk: &mut D,
+) -> Result<Vec<List<Row>>, StoreFault>
+    ensures seen { IfOk result (λ v. (m : Contents) → D.holds disk.old ≡ Some m → (d : Database) → IsRead m tables.now changes.now at d → AllZip (IsSeen at changes.now query.now d) items.now v.items) }
+    ensures valid { IfOk result (λ v. All (All IsRow) v.items) }
+    ensures unblamed { IfErr result (λ fault. (m : Contents) → D.holds disk.old ≡ Some m → (d : Database) → IsRead m tables.now changes.now at d → All (IsOver d.tables) items.now → IsUnblamed fault) }
+    ensures kept { D.holds disk.new ≡ D.holds disk.old }
+    ensures moved { Moved ⟦<D as Disk>⟧ NoName NoName disk.old disk.new }
+    ensures cause { HasCause StoreFault.Disk (D.faults disk.old) (D.faults disk.new) result }
+{
+    let mut out = Vec::new(alloc);
+    for item in items {
+        let rows = match rows_of_item(alloc, tables, changes, at, query, *item, disk) {
+            Ok(rows) => rows,
+            Err(fault) => return Err(fault),
+        };
+        match out.push(List::new(rows)) {
+            Ok(()) => {}
+            Err(_) => return Err(StoreFault::Memory),
+        }
+    }
+    Ok(out)
+}
