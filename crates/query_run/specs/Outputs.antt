@@ -1,11 +1,14 @@
 -- What is collected of the tuples that are kept.
 use Rattle.std.specs.Prelude.{◌≡◌, ◌≤◌, true, false, List, [], ◌∷◌, filter, length, map}
+use Rattle.std.specs.List.{All}
+use Rattle.col_value.specs.Order.{IsRow}
 use Rattle.col_value.specs.declared.value.Value.{Value}
 use Rattle.col_value.specs.declared.wide.Wide.{Wide}
 use Rattle.exec_group.specs.Groups.{HoldsGroups}
 use Rattle.plain_query.specs.Scopes.{is_shown}
 use Rattle.sql_bound.specs.declared.query.BoundQuery.{BoundQuery}
 use Rattle.sql_bound.specs.Bounds.{column_bound}
+use Rattle.sql_bound.specs.Outputs.{kept}
 use Rattle.sql_bound.specs.Values.{Scope, of_row, value_of}
 use Rattle.query_run.specs.declared.collected.Collected.{Collected}
 
@@ -19,6 +22,11 @@ pub record HoldsOutput (q : BoundQuery) (tuples : List (List Value)) (c : Collec
   pub few : c.taken ≤ column_bound
   pub rows : q.grouped ≡ false → c.rows.items ≡ map (items_in q) (map of_row tuples)
   pub groups : q.grouped ≡ true → HoldsGroups q tuples c.groups
+
+-- what is collected of the tuples that the conditions keep, where the FROM items have these rows of tables
+pub record HasCollected (q : BoundQuery) (inputs : List (List (List Value))) (c : Collected) : Type 0 where
+  pub rows : All (All IsRow) inputs
+  pub held : HoldsOutput q (kept q inputs) c
 
 -- a group as its expressions see it
 abbrev pub scope_of : List Value → List Wide → Scope

@@ -8,15 +8,15 @@ use Rattle.query_run.proofs.output.output.Goals as goal
 pub of_groups-requires-clause-groups : goal.of_groups-requires-clause-groups
 of_groups-requires-clause-groups c =
     let q = c.args.query.now in
-    let rows = kept q c.args.inputs.now in
-    let held = c.in_ok-rows.ensures in
-    let groups : HoldsGroups q rows c.in_ok-rows.field-0.groups = held.groups c.if-not-query.false in
-    scopes_fit q rows c.in-Ok.grouped (c.in-Ok.ensures.groups q rows groups) (kept_are_rows q.keep c.args.inputs.now rows refl c.requires.rows)
-    (held_few q rows c.in_ok-rows.field-0 held) (c.in-Ok.ensures.in_range q rows groups)
+    let (inputs, has) = c.requires.some in
+    let rows = kept q inputs in
+    let groups : HoldsGroups q rows c.args.collected.groups = has.held.groups c.if-not-query.false in
+    scopes_fit q rows c.in-Ok.grouped (c.in-Ok.ensures.groups q rows groups) (kept_are_rows q.keep inputs rows refl has.rows)
+    (held_few q rows c.args.collected has.held) (c.in-Ok.ensures.in_range q rows groups)
 
 pub returns-in-Ok-clause-rows : goal.returns-in-Ok-clause-rows
-returns-in-Ok-clause-rows c =
+returns-in-Ok-clause-rows c = λ inputs has.
     let q = c.args.query.now in
-    let rows = kept q c.args.inputs.now in
-    let groups : HoldsGroups q rows c.in_ok-rows.field-0.groups = c.in_ok-rows.ensures.groups c.if-not-query.false in
-    c.in_ok-of_groups-in-Ok.ensures ∙ groups_put_out q c.args.inputs.now c.in-Ok.grouped c.if-not-query.false (c.in-Ok.ensures.groups q rows groups)
+    let rows = kept q inputs in
+    let groups : HoldsGroups q rows c.args.collected.groups = has.held.groups c.if-not-query.false in
+    c.in_ok-of_groups-in-Ok.ensures ∙ groups_put_out q inputs c.in-Ok.grouped c.if-not-query.false (c.in-Ok.ensures.groups q rows groups)
