@@ -8,3 +8,4 @@ pub mod Readied
 pub mod Standing
 pub mod Moved
 pub mod Makes
+pub mod Drawn

@@ -119,7 +119,7 @@ moved_rows read m n mark last next after rows old new fresh moved loaded moves h
 shape_moved : (last next after : ℕ) (old new : Projection) → IsMovedOut last next after old new → shape_of new ≡ reached_to last (shape_of old)
 shape_moved last next after old new moved = ap shape_of moved.is
 
-entry_at : (ps : List Projected) (entries : List Projection) (j : ℕ) (old : Projected) → map (λ p. p.entry) ps ≡ entries → j < length ps → old ≡ get_or ps j old → old.entry ≡ get_or entries j old.entry
+pub entry_at : (ps : List Projected) (entries : List Projection) (j : ℕ) (old : Projected) → map (λ p. p.entry) ps ≡ entries → j < length ps → old ≡ get_or ps j old → old.entry ≡ get_or entries j old.entry
 entry_at ps entries j old same lt is = ap (λ (p : Projected). p.entry) is ∙ sym (get_or-map (λ (p : Projected). p.entry) ps j old old.entry lt) ∙ ap (λ (es : List Projection). get_or es j old.entry) same
 
 table_moved : ReadIsStored → (m n : Contents) (mark last next after j : ℕ) (t : kept.Table) (ps : List Projected) (u : Table) (old new : Projected) → j < length ps → old ≡ get_or ps j old → old.entry.fresh ≡ true
@@ -268,7 +268,7 @@ fresh_table tables i j fresh =
     let (ps, lt, ps_are, inner) = at_place (map projections_of tables) i (λ qs. IsSomeAnd (slice_get qs j) (λ p. p.entry.fresh ≡ true)) fresh in
     omega (arith, lt, length-map tables projections_of)
 
-stored_at : (tables : List (List Loaded)) (i : ℕ) (ps : List Loaded) → i < length tables → ps ≡ get_or tables i ps → projections_of ps ≡ get_or (map projections_of tables) i (projections_of ps)
+pub stored_at : (tables : List (List Loaded)) (i : ℕ) (ps : List Loaded) → i < length tables → ps ≡ get_or tables i ps → projections_of ps ≡ get_or (map projections_of tables) i (projections_of ps)
 stored_at tables i ps lt is = ap projections_of is ∙ sym (get_or-map projections_of tables i ps (projections_of ps) lt)
 
 pub fresh_place : (tables : List (List Loaded)) (i j : ℕ) (ps : List Loaded) → ps ≡ get_or tables i ps → IsFreshAt (map projections_of tables) i j → j < length ps

@@ -3,3 +3,4 @@ pub mod Creating
 pub mod Changing
 pub mod Committing
 pub mod Moving
+pub mod Drawing

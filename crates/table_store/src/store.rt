@@ -1,6 +1,6 @@
 //! The store, and its calls.
 
-ghost use Rattle.std.specs.Prelude.{◌≡◌, ◌≤◌, ◌<◌, ◌^◌, ◌∷◌, ℕ, [], true, List as Items, map, length, vec_len, vec_capacity, IfOk, IsSomeAnd};
+ghost use Rattle.std.specs.Prelude.{◌≡◌, ◌≤◌, ◌<◌, ◌+◌, ◌^◌, ◌∷◌, ℕ, [], true, List as Items, map, length, vec_len, vec_capacity, IfOk, OnOk, OnErr, IsSomeAnd};
 ghost use Rattle.std.specs.List.{insert, slice_get};
 ghost use Rattle.common_laws.specs.Causes.{HasCause};
 ghost use Rattle.col_disk.specs.Moved.{Moved, NoName};
@@ -14,6 +14,7 @@ ghost use Rattle.store_commit.specs.Making.{Makes};
 ghost use Rattle.container_writer.specs.Writing.{DataFrom};
 ghost use Rattle.sound_laws.specs.Moves.{moved_at};
 ghost use Rattle.table_store.specs.Held.{at_epoch, projections_of, IsHeld};
+ghost use Rattle.table_store.specs.Drawing.{Draws, DrawsOne};
 ghost use Rattle.table_store.specs.Moving.{IsFreshAt, IsRewritten};
 ghost use Rattle.table_store.specs.Creating.{bare, created, dropped, first_entry, first_table, place_of, with_table};
 
@@ -126,6 +127,7 @@ fn prepare_move<D: Disk>(
     requires held { IsHeld root.now tables.now }
     requires fresh { IsFreshAt (map projections_of tables.now) table place }
     ensures moved_out { IfOk result (λ r. IsRewritten last root.now (map projections_of tables.now) table place r.version r.catalogue r.store.stored (D.holds disk.old) (D.holds disk.new)) }
+    ensures drawn { IfOk result (λ r. Draws root.now r.catalogue) }
     ensures moved { Moved ⟦<D as Disk>⟧ (DataFrom root.now.next) NoName disk.old disk.new }
     ensures cause { HasCause StoreFault.Disk (D.faults disk.old) (D.faults disk.new) result }
 {
@@ -215,6 +217,8 @@ impl TableStore {
         disk: &mut D,
     ) -> Result<(), DiskFault>
         ensures made { (d : Database) → Stands ⟦<D as Disk>⟧ self.old disk.old d → IsSoundDatabase (created name columns d) → Makes ⟦<D as Disk>⟧ Memory self.old self.new disk.old disk.new result d (created name columns d) }
+        ensures drawn { OnOk result (DrawsOne self.old.catalogue self.new.catalogue) }
+        ensures same { OnErr result (self.new ≡ self.old) }
         ensures cause { HasCause DiskFault.Failed (D.faults disk.old) (D.faults disk.new) result }
     {
         let ready = match prepare_table(alloc, &self.root, self.last, name, columns) {
@@ -248,6 +252,8 @@ impl TableStore {
     ) -> Result<(), DiskFault>
         requires { table < length self.old.catalogue.tables }
         ensures made { (d : Database) (name : Items ℕ) → Stands ⟦<D as Disk>⟧ self.old disk.old d → IsSomeAnd (slice_get self.old.catalogue.tables table) (λ t. t.name ≡ name) → Makes ⟦<D as Disk>⟧ Memory self.old self.new disk.old disk.new result d (dropped name d) }
+        ensures drawn { OnOk result (DrawsOne self.old.catalogue self.new.catalogue) }
+        ensures same { OnErr result (self.new ≡ self.old) }
         ensures cause { HasCause DiskFault.Failed (D.faults disk.old) (D.faults disk.new) result }
     {
         let catalogue = match without_table(alloc, &self.root, self.last, table) {
@@ -273,6 +279,8 @@ impl TableStore {
     ) -> Result<(), StoreFault>
         ensures made { (d : Database) → Stands ⟦<D as Disk>⟧ self.old disk.old d → IsSoundSession d changes.now → has_changes changes.now ≡ true → IsSoundDatabase (committed changes.now d)
             → Makes ⟦<D as Disk>⟧ no_memory self.old self.new disk.old disk.new result d (committed changes.now d) }
+        ensures catalogue { OnOk result (self.new.catalogue ≡ at_epoch (self.old.catalogue.last + 1) self.old.catalogue) }
+        ensures same { OnErr result (self.new ≡ self.old) }
         ensures cause { HasCause StoreFault.Disk (D.faults disk.old) (D.faults disk.new) result }
     {
         if self.last >= MOST_EPOCHS {
@@ -306,6 +314,8 @@ impl TableStore {
     ) -> Result<(), StoreFault>
         requires { IsFreshAt self.old.stores table place }
         ensures made { (d : Database) → Stands ⟦<D as Disk>⟧ self.old disk.old d → Makes ⟦<D as Disk>⟧ no_memory self.old self.new disk.old disk.new result d (moved_at table place d) }
+        ensures drawn { OnOk result (Draws self.old.catalogue self.new.catalogue) }
+        ensures same { OnErr result (self.new ≡ self.old) }
         ensures cause { HasCause StoreFault.Disk (D.faults disk.old) (D.faults disk.new) result }
     {
         what_is_read_is_stored();

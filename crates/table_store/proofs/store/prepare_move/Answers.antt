@@ -2,7 +2,8 @@ use Rattle.std.proofs.Common.{◌≡◌, List, map, get_or, ◌∙◌, ap}
 use Rattle.col_disk.proofs.Moving.{moved_join, moved_read}
 use Rattle.proj_store.specs.Loaded.{Loaded}
 use Rattle.table_store.specs.Held.{projections_of}
-use Rattle.table_store.proofs.Moved.{entry_there, fresh_table, fresh_place, rewritten}
+use Rattle.table_store.proofs.Drawn.{move_draws}
+use Rattle.table_store.proofs.Moved.{drawn_later, entry_there, fresh_table, fresh_place, rewritten}
 use Rattle.table_store.proofs.store.prepare_move.Goals as goal
 
 pub returns-in-Err-load-clause-moved : goal.returns-in-Err-load-clause-moved
@@ -29,3 +30,15 @@ returns-in-Ok-with_entry_at-clause-moved g c = moved_join g.D.Disk c.moveout.ens
 
 pub returns-in-Err-with_entry_at-clause-moved : goal.returns-in-Err-with_entry_at-clause-moved
 returns-in-Err-with_entry_at-clause-moved g c = moved_join g.D.Disk c.moveout.ensures.moved (moved_read g.D.Disk c.load.ensures.looks)
+
+pub returns-in-Ok-with_entry_at-clause-drawn : goal.returns-in-Ok-with_entry_at-clause-drawn
+returns-in-Ok-with_entry_at-clause-drawn g c =
+    let tables = c.args.tables.now in
+    let i = c.args.table in
+    let j = c.args.place in
+    let ps = c.index-tables-table.result in
+    let p = c.index-as_slice-place.result in
+    let p_is : p ≡ get_or ps j p = c.index-as_slice-place.is ∙ ap (λ (qs : List Loaded). get_or qs j p) c.as_slice.ensures in
+    move_draws c.args.root.now c.in-Ok-with_entry_at.catalogue tables c.args.last c.in-Ok.out.next i j ps p c.in-Ok.out.entry c.requires.held
+    (fresh_table tables i j c.requires.fresh) c.index-tables-table.is (fresh_place tables i j ps c.index-tables-table.is c.requires.fresh) p_is
+    (drawn_later c.args.last c.args.root.now.next c.in-Ok.out.next p.stored.entry c.in-Ok.out.entry c.in-Ok.ensures.entry) c.in-Ok.ensures.upto c.in-Ok.ensures.count c.in-Ok-with_entry_at.ensures

@@ -1,7 +1,9 @@
-use Rattle.std.proofs.Common.{◌+◌}
+use Rattle.std.proofs.Common.{◌+◌, ap}
 use Rattle.col_disk.specs.declared.disk.StoreFault.TheVariants as fault
 use Rattle.col_disk.proofs.Moving.{moved_none}
 use Rattle.db_model.specs.State.{committed}
+use Rattle.store_commit.specs.Seen.{Seen}
+use Rattle.table_store.specs.Held.{at_epoch}
 use Rattle.table_store.proofs.Standing.{reads_only, held_still, held_applied, commit_done}
 use Rattle.table_store.proofs.store.TableStore.commit.Goals as goal
 
@@ -22,3 +24,6 @@ pub returns-clause-made : goal.returns-clause-made
 returns-clause-made g c = λ d stands session has sound.
     commit_done g.D.Disk c.self.inside.root c.self.inside.last c.self.inside.tables.items c.prepare_all.new.tables.items c.apply_all.new.tables.items c.as_slice.result.now c.in-Ok.ready.items c.args.self.now d c.args.changes.now
     c.self.view_is c.as_slice.ensures c.prepare_all.ensures.stored c.apply_all.ensures stands session has sound c.prepare_all.ensures.kept c.prepare_all.ensures.moved c.in-Ok.ensures.prepared
+
+pub returns-clause-catalogue : goal.returns-clause-catalogue
+returns-clause-catalogue g c = ap (λ (s : Seen). at_epoch (s.catalogue.last + 1) s.catalogue) c.self.view_is

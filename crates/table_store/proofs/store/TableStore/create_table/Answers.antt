@@ -1,9 +1,12 @@
-use Rattle.std.proofs.Common.{map, length, ◌∙◌, ap, arith}
+use Rattle.std.proofs.Common.{map, length, ◌∙◌, ap, arith, subst}
 use Rattle.std.specs.List.{insert}
 use Rattle.std.proofs.lemmas.List.{length-map}
 use Rattle.col_disk.specs.declared.disk.DiskFault.TheVariants as disk_fault
 use Rattle.store_commit.proofs.Settled.{made_nothing}
-use Rattle.table_store.specs.Held.{projections_of}
+use Rattle.store_commit.specs.Seen.{Seen}
+use Rattle.table_store.specs.Drawing.{DrawsOne}
+use Rattle.table_store.specs.Held.{at_epoch, projections_of}
+use Rattle.table_store.proofs.Drawn.{create_draws, one_drawn}
 use Rattle.table_store.specs.Creating.{created}
 use Rattle.table_store.proofs.Standing.{held_still}
 use Rattle.table_store.proofs.Makes.{settled_not, settled_done, create_makes, create_seen, create_held}
@@ -37,3 +40,11 @@ returns-clause-made g c = λ d stands sound.
     (c.put_parts.ensures ∙ ap (λ xs. insert xs c.in-Ok.ready.place c.in-Ok.ready.parts) c.reserve.ensures.items) c.in-Ok.ensures.parts c.in-Ok.ensures.catalogue)
     (create_makes g.D.Disk c.self.inside.root c.self.inside.last c.self.inside.tables.items c.args.self.now c.args.name c.args.columns c.in-Ok.ready.place c.in-Ok.ready.catalogue _ d c.in-Ok-settle.ensures.made
     c.self.view_is c.in-Ok.ensures.place c.in-Ok.ensures.catalogue stands sound)
+
+pub returns-clause-drawn : goal.returns-clause-drawn
+returns-clause-drawn g c =
+    let root = c.self.inside.root in
+    let last = c.self.inside.last in
+    let catalogue = c.in-Ok.ready.catalogue in
+    subst (λ (s : Seen). DrawsOne s.catalogue (at_epoch last catalogue)) c.self.view_is
+    (one_drawn root catalogue last last (create_draws root catalogue last c.in-Ok.ready.place c.args.name c.args.columns c.in-Ok.ensures.catalogue))

@@ -1,4 +1,9 @@
+use Rattle.std.proofs.Common.{subst}
 use Rattle.col_disk.specs.declared.disk.DiskFault.TheVariants as disk_fault
+use Rattle.store_commit.specs.Seen.{Seen}
+use Rattle.table_store.specs.Drawing.{DrawsOne}
+use Rattle.table_store.specs.Held.{at_epoch}
+use Rattle.table_store.proofs.Drawn.{drop_draws, one_drawn}
 use Rattle.store_commit.proofs.Settled.{made_nothing}
 use Rattle.table_store.specs.Creating.{dropped}
 use Rattle.table_store.proofs.Makes.{settled_not, settled_done, drop_makes, drop_seen, drop_held}
@@ -23,3 +28,10 @@ returns-clause-made g c = λ d name stands there.
     (drop_seen c.self.inside.root c.self.inside.last c.self.inside.tables.items c.remove.new.self.items c.args.table c.in-Ok.catalogue c.remove.ensures.items c.in-Ok.ensures)
     (drop_makes g.D.Disk c.self.inside.root c.self.inside.last c.self.inside.tables.items c.args.self.now name c.args.table c.in-Ok.catalogue _ d c.in-Ok-settle.ensures.made
     c.self.view_is c.in-Ok.ensures there stands)
+
+pub returns-clause-drawn : goal.returns-clause-drawn
+returns-clause-drawn g c =
+    let root = c.self.inside.root in
+    let last = c.self.inside.last in
+    let catalogue = c.in-Ok.catalogue in
+    subst (λ (s : Seen). DrawsOne s.catalogue (at_epoch last catalogue)) c.self.view_is (one_drawn root catalogue last last (drop_draws root catalogue last c.args.table c.in-Ok.ensures))

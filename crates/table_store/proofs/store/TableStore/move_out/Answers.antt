@@ -6,7 +6,9 @@ use Rattle.proj_store.specs.Loaded.{Loaded}
 use Rattle.store_commit.specs.Seen.{Seen}
 use Rattle.store_commit.specs.Making.{Makes}
 use Rattle.sound_laws.specs.Moves.{moved_at}
-use Rattle.table_store.specs.Held.{projections_of, IsHeld}
+use Rattle.table_store.specs.Drawing.{Draws}
+use Rattle.table_store.specs.Held.{at_epoch, projections_of, IsHeld}
+use Rattle.table_store.proofs.Drawn.{some_drawn}
 use Rattle.table_store.specs.Moving.{IsFreshAt, IsRewritten}
 use Rattle.table_store.proofs.Moved.{fresh_table, fresh_place, rewritten_catalogue}
 use Rattle.table_store.proofs.Makes.{move_short, move_made, move_seen, move_held, store_makes, store_done}
@@ -77,3 +79,8 @@ returns-clause-made g c = λ d stands.
     (g.D.Disk.holds c.args.disk.now) (g.D.Disk.holds c.prepare_move.new.disk) rewritten))
     (move_made c.what_is_read_is_stored.ensures.stored g.D.Disk c.self.inside.root c.in-Ok.ready.catalogue c.self.inside.last items c.args.self.now i j c.in-Ok.ready.version c.in-Ok.ready.store.stored _ d
     c.in-Ok-settle.ensures.made c.self.view_is c.self.invariant fresh rewritten c.in-Ok.ensures.moved stands)
+
+pub returns-clause-drawn : goal.returns-clause-drawn
+returns-clause-drawn g c =
+    let last = c.self.inside.last in
+    subst (λ (s : Seen). Draws s.catalogue (at_epoch last c.in-Ok.ready.catalogue)) c.self.view_is (some_drawn c.self.inside.root c.in-Ok.ready.catalogue last last c.in-Ok.ensures.drawn)
