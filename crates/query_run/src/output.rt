@@ -9,6 +9,7 @@ ghost use Rattle.sql_bound.specs.Outputs.{output, IsSumTooGreat};
 ghost use Rattle.plain_query.specs.Bounded.{IsBoundedQuery};
 ghost use Rattle.plain_query.specs.Scopes.{is_shown, IsGroupOf};
 ghost use Rattle.plain_query.specs.declared.fault.QueryFault.{QueryFault};
+ghost use Rattle.query_order.specs.Enough.{IsEnough};
 ghost use Rattle.query_run.specs.Outputs.{HasCollected, items_in, scope_of, scopes_of, shown};
 
 use crate::collected::Collected;
@@ -19,7 +20,7 @@ use plain_query::QueryFault;
 use sql_bound::BoundQuery;
 use std::alloc::{AllocError, Global};
 
-/// The output rows of what was collected, and a fault where a SUM passes what a result holds in some group.
+/// Enough of the output rows of what was collected, and a fault where a SUM passes what a result holds in some group.
 pub fn output(
     alloc: Global,
     query: &BoundQuery,
@@ -27,7 +28,7 @@ pub fn output(
 ) -> Result<Vec<WideRow>, QueryFault>
     requires bounded { IsBoundedQuery query.now }
     requires some { (inputs : List (List (List Value))) × HasCollected query.now inputs collected }
-    ensures rows { IfOk result (λ v. (inputs : List (List (List Value))) → HasCollected query.now inputs collected → v.items ≡ output query.now inputs) }
+    ensures rows { IfOk result (λ v. (inputs : List (List (List Value))) → HasCollected query.now inputs collected → IsEnough query.now.order query.now.limit (output query.now inputs) v.items) }
     ensures in_range { OnOk result ((inputs : List (List (List Value))) → HasCollected query.now inputs collected → IsSumTooGreat query.now inputs → ⊥) }
     ensures great { IsErrOf result QueryFault.SumOutOfRange → (inputs : List (List (List Value))) → HasCollected query.now inputs collected → IsSumTooGreat query.now inputs }
 {

@@ -15,7 +15,7 @@ use crate::output::output;
 use crate::walk::collected;
 use col_value::{List, Row, WideRow};
 use plain_query::QueryFault;
-use query_order::order_rows;
+use query_order::{enough_is_printed, order_rows};
 use sql_bound::BoundQuery;
 use std::alloc::Global;
 
@@ -48,6 +48,7 @@ pub fn printed_of(
     ensures in_range { OnOk result ((inputs : List (List (List Value))) → HasCollected query.now inputs collected → IsSumTooGreat query.now inputs → ⊥) }
     ensures great { IsErrOf result QueryFault.SumOutOfRange → (inputs : List (List (List Value))) → HasCollected query.now inputs collected → IsSumTooGreat query.now inputs }
 {
+    enough_is_printed();
     match output(alloc, query, collected) {
         Ok(rows) => Ok(order_rows(rows, query.order.as_slice(), query.limit)?),
         Err(fault) => Err(fault),
