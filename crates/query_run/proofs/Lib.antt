@@ -2,3 +2,4 @@ pub mod Equal
 pub mod Leaves
 pub mod Walked
 pub mod Scopes
+pub mod Taken

@@ -1,2 +1,3 @@
 pub mod Outputs
 pub mod Sides
+pub mod Runs

@@ -1,38 +1,38 @@
 //! The output rows of a query.
 
-ghost use Rattle.std.specs.Prelude.{◌≡◌, ◌++◌, ◌∷◌, true, [], map, IfOk, OnOk, IsErrOf};
+ghost use Rattle.std.specs.Prelude.{◌≡◌, ◌++◌, ◌∷◌, true, List, [], map, IfOk, OnOk, IsErrOf};
 ghost use Rattle.std.specs.List.{All};
 ghost use Rattle.std.specs.Option.{option_map_or};
-ghost use Rattle.col_value.specs.Order.{IsRow};
+ghost use Rattle.col_value.specs.declared.value.Value.{Value};
 ghost use Rattle.sql_bound.specs.Bounds.{bound_of_aggregate, is_narrow};
 ghost use Rattle.sql_bound.specs.Outputs.{output, IsSumTooGreat};
 ghost use Rattle.plain_query.specs.Bounded.{IsBoundedQuery};
 ghost use Rattle.plain_query.specs.Scopes.{is_shown, IsGroupOf};
 ghost use Rattle.plain_query.specs.declared.fault.QueryFault.{QueryFault};
-ghost use Rattle.query_run.specs.Outputs.{items_in, scope_of, scopes_of, shown};
+ghost use Rattle.query_order.specs.Enough.{IsEnough};
+ghost use Rattle.query_run.specs.Outputs.{HasCollected, items_in, scope_of, scopes_of, shown};
 
 use crate::collected::Collected;
-use crate::walk::collected;
-use col_value::{List, Row, Value, Wide, WideRow};
+use col_value::{Value, Wide, WideRow};
 use exec_group::{GroupFault, Grouped};
 use expr_value::{Sight, is_true, items_at};
 use plain_query::QueryFault;
 use sql_bound::BoundQuery;
 use std::alloc::{AllocError, Global};
 
-/// The output rows, and a fault where a SUM passes what a result holds in some group.
+/// Enough of the output rows of what was collected, and a fault where a SUM passes what a result holds in some group.
 pub fn output(
     alloc: Global,
     query: &BoundQuery,
-    inputs: &[List<Row>],
+    collected: Collected,
 ) -> Result<Vec<WideRow>, QueryFault>
     requires bounded { IsBoundedQuery query.now }
-    requires rows { All (All IsRow) inputs.now }
-    ensures rows { IfOk result (λ v. v.items ≡ output query.now inputs.now) }
-    ensures in_range { OnOk result (IsSumTooGreat query.now inputs.now → ⊥) }
-    ensures great { IsErrOf result QueryFault.SumOutOfRange → IsSumTooGreat query.now inputs.now }
+    requires some { (inputs : List (List (List Value))) × HasCollected query.now inputs collected }
+    ensures rows { IfOk result (λ v. (inputs : List (List (List Value))) → HasCollected query.now inputs collected → IsEnough query.now.order query.now.limit (output query.now inputs) v.items) }
+    ensures in_range { OnOk result ((inputs : List (List (List Value))) → HasCollected query.now inputs collected → IsSumTooGreat query.now inputs → ⊥) }
+    ensures great { IsErrOf result QueryFault.SumOutOfRange → (inputs : List (List (List Value))) → HasCollected query.now inputs collected → IsSumTooGreat query.now inputs }
 {
-    let Collected { rows, groups, .. } = collected(alloc, query, inputs)?;
+    let Collected { rows, groups, .. } = collected;
     if !query.grouped {
         return Ok(rows);
     }

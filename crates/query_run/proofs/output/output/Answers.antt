@@ -1,22 +1,28 @@
-use Rattle.std.proofs.Common.{◌∙◌, refl}
+use Rattle.std.proofs.Common.{◌∙◌, refl, subst, sym}
 use Rattle.plain_query.proofs.TupleRows.{kept_are_rows}
-use Rattle.sql_bound.specs.Outputs.{kept}
+use Rattle.sql_bound.specs.Outputs.{kept, output}
+use Rattle.query_order.specs.Enough.{IsEnough}
+use Rattle.query_order.proofs.Enough.{enough_itself}
 use Rattle.exec_group.specs.Groups.{HoldsGroups}
-use Rattle.query_run.proofs.Scopes.{groups_put_out, held_few, scopes_fit}
+use Rattle.query_run.proofs.Scopes.{groups_put_out, held_few, rows_put_out, scopes_fit}
 use Rattle.query_run.proofs.output.output.Goals as goal
 
 pub of_groups-requires-clause-groups : goal.of_groups-requires-clause-groups
 of_groups-requires-clause-groups c =
     let q = c.args.query.now in
-    let rows = kept q c.args.inputs.now in
-    let held = c.in_ok-rows.ensures in
-    let groups : HoldsGroups q rows c.in_ok-rows.field-0.groups = held.groups c.if-not-query.false in
-    scopes_fit q rows c.in-Ok.grouped (c.in-Ok.ensures.groups q rows groups) (kept_are_rows q.keep c.args.inputs.now rows refl c.requires.rows)
-    (held_few q rows c.in_ok-rows.field-0 held) (c.in-Ok.ensures.in_range q rows groups)
+    let (inputs, has) = c.requires.some in
+    let rows = kept q inputs in
+    let groups : HoldsGroups q rows c.args.collected.groups = has.held.groups c.if-not-query.false in
+    scopes_fit q rows c.in-Ok.grouped (c.in-Ok.ensures.groups q rows groups) (kept_are_rows q.keep inputs rows refl has.rows)
+    (held_few q rows c.args.collected has.held) (c.in-Ok.ensures.in_range q rows groups)
 
 pub returns-in-Ok-clause-rows : goal.returns-in-Ok-clause-rows
-returns-in-Ok-clause-rows c =
+returns-in-Ok-clause-rows c = λ inputs has.
     let q = c.args.query.now in
-    let rows = kept q c.args.inputs.now in
-    let groups : HoldsGroups q rows c.in_ok-rows.field-0.groups = c.in_ok-rows.ensures.groups c.if-not-query.false in
-    c.in_ok-of_groups-in-Ok.ensures ∙ groups_put_out q c.args.inputs.now c.in-Ok.grouped c.if-not-query.false (c.in-Ok.ensures.groups q rows groups)
+    let rows = kept q inputs in
+    let groups : HoldsGroups q rows c.args.collected.groups = has.held.groups c.if-not-query.false in
+    let all = c.in_ok-of_groups-in-Ok.ensures ∙ groups_put_out q inputs c.in-Ok.grouped c.if-not-query.false (c.in-Ok.ensures.groups q rows groups) in
+    subst (IsEnough q.order q.limit (output q inputs)) (sym all) (enough_itself q.order q.limit (output q inputs))
+
+pub returns-then-not-query-clause-rows : goal.returns-then-not-query-clause-rows
+returns-then-not-query-clause-rows c = λ inputs has. rows_put_out c.args.query.now inputs c.args.collected c.if-not-query.true has.held
