@@ -5,3 +5,5 @@ mod Owners
 mod Marked
 mod Shaped
 mod Alike
+mod Early
+mod Carried
