@@ -7,3 +7,4 @@ mod Shaped
 mod Alike
 mod Early
 mod Carried
+mod Standing

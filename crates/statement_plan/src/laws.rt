@@ -1,6 +1,10 @@
 //! Laws of what is looked at before the rows.
 
-ghost use Rattle.std.specs.Prelude.{◌≡◌, true, Some};
+ghost use Rattle.std.specs.Prelude.{◌≡◌, true, List, Some};
+ghost use Rattle.common_laws.specs.Maps.{Contents};
+ghost use Rattle.catalog_types.specs.declared.catalogue.Catalogue.{Catalogue};
+ghost use Rattle.stored_rows.specs.Stored.{Projected};
+ghost use Rattle.folder_model.specs.Tables.{AreDatabase};
 ghost use Rattle.db_model.specs.Loading.{Files};
 ghost use Rattle.db_model.specs.Refusals.{Refuses};
 ghost use Rattle.db_model.specs.State.{State};
@@ -8,7 +12,7 @@ ghost use Rattle.sql_tree.specs.declared.refusal.Refusal.{Refusal};
 ghost use Rattle.db_model.specs.Views.{bound_in};
 ghost use Rattle.sql_tree.specs.declared.statement.Statement.{Statement};
 ghost use Rattle.sql_tree.specs.declared.query.Query.{Query};
-ghost use Rattle.statement_plan.specs.Bare.{IsBare};
+ghost use Rattle.statement_plan.specs.Bare.{bare_state, IsBare};
 ghost use Rattle.statement_plan.specs.declared.plans.Plan.{Plan};
 ghost use Rattle.statement_plan.specs.Planned.{early_refusal, is_settled, IsPlanned};
 
@@ -24,4 +28,9 @@ pub fn rows_decide_nothing_here()
 pub fn early_refusals_stand()
     ensures refused { (state : State) (files : Files) (s : Statement) (r : Refusal) → early_refusal state s ≡ Some r → Refuses state files s (Some r) }
     ensures settled { (state : State) (files : Files) (s : Statement) → is_settled s ≡ true → Refuses state files s (early_refusal state s) }
+{}
+
+/// A catalogue that stands for a state's database gives, with what the sessions have changed, the state without its rows.
+pub fn catalogues_give_frames()
+    ensures { (m : Contents) (c : Catalogue) (stores : List (List Projected)) (state : State) → AreDatabase m c stores state.database → IsBare (bare_state c.tables c.last c.ahm state.next state.sessions state.current) state }
 {}
