@@ -33,7 +33,7 @@ use Rattle.db_model.specs.Views.{bound_in, columns_found, table_found}
 use Rattle.statement_plan.specs.Bare.{IsBare, IsBareTable}
 use Rattle.statement_plan.specs.Planned.{early_refusal, select_refusal}
 
-abbrev pair : ℕ × Table → ℕ × List Column
+abbrev pub pair : ℕ × Table → ℕ × List Column
 pair e = (e.0, e.1.columns)
 
 -- the place and the columns of the table of a name
@@ -57,7 +57,7 @@ found_from name n (b ∷ bs) (t ∷ ts) z =
 abbrev pair_found : List Table → List ℕ → Option (ℕ × List Column)
 pair_found tables name = option_map pair (table_found name tables)
 
-found_same : (name : List ℕ) (bs ts : List Table) → AllZip IsBareTable bs ts → pair_found bs name ≡ pair_found ts name
+pub found_same : (name : List ℕ) (bs ts : List Table) → AllZip IsBareTable bs ts → pair_found bs name ≡ pair_found ts name
 found_same name bs ts z = found_from name 0 bs ts z
 
 -- what is said of a table that was found, by its place and its columns
@@ -191,7 +191,7 @@ selected_same bare state at q is =
     (ap₂ (λ (mark last : ℕ). epoch_refusal mark last at) is.mark is.last)
 
 -- a new projection
-one_said : {X : Type 0} (f : ℕ × Table → Option X) (b c : Bool) (n : ℕ) (t u : Table) (o p : Option (ℕ × Table)) → b ≡ c → f (n, t) ≡ f (n, u)
+pub one_said : {X : Type 0} (f : ℕ × Table → Option X) (b c : Bool) (n : ℕ) (t u : Table) (o p : Option (ℕ × Table)) → b ≡ c → f (n, t) ≡ f (n, u)
     → option_and_then f o ≡ option_and_then f p → option_and_then f (cond b (Some (n, t)) o) ≡ option_and_then f (cond c (Some (n, u)) p)
 one_said f true true n t u o p is here rest = here
 one_said f false false n t u o p is here rest = rest

@@ -5,3 +5,6 @@ mod Owners
 mod Marked
 mod Shaped
 mod Alike
+mod Early
+mod Carried
+mod Standing

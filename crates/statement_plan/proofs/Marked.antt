@@ -39,7 +39,7 @@ abbrev pub pair : ℕ × Table → ℕ × List Column
 pair e = (e.0, e.1.columns)
 
 -- a tree that was bound over a table that was found, with the table's place
-abbrev at_place : {X : Type 0} → (ℕ × List Column → X) → ℕ × Table → ℕ × X
+abbrev pub at_place : {X : Type 0} → (ℕ × List Column → X) → ℕ × Table → ℕ × X
 at_place f e = (e.0, f (pair e))
 
 pub placed : {X : Type 0} (f : ℕ × List Column → X) (o : Option (ℕ × Table)) (found : Option (ℕ × List Column)) (x : X) (place : ℕ)

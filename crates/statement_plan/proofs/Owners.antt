@@ -84,10 +84,10 @@ owner_has name tables found e is some none =
     none_before (Some s) none = absurd (cc)
 
 -- the places of both
-abbrev behind : ℕ → ℕ × Shape → ℕ × ℕ
-behind n s = (n, s.0)
+abbrev pub placed_at : ℕ → ℕ × Shape → ℕ × ℕ
+placed_at n s = (n, s.0)
 
-places_by : (n : ℕ) (o : Option (ℕ × Shape)) (place : ℕ) → option_map (λ (s : ℕ × Shape). s.0) o ≡ Some place → option_map (behind n) o ≡ Some (n, place)
+places_by : (n : ℕ) (o : Option (ℕ × Shape)) (place : ℕ) → option_map (λ (s : ℕ × Shape). s.0) o ≡ Some place → option_map (placed_at n) o ≡ Some (n, place)
 places_by n None place is = absurd (cc)
 places_by n (Some s) place is = ap (λ (i : ℕ). Some (n, i)) (same_Some s.0 place is)
 

@@ -54,7 +54,8 @@ is_planned Statement.Step = true
 abbrev pub select_refusal : State → At → Query → Option Refusal
 select_refusal state at q = first_of (query_refusal_in state q) (epoch_refusal state.database.ahm state.database.last at)
 
--- Why a statement is refused, whatever the rows are. The rows that an UPDATE matches and the file of a COPY may refuse it behind this.
+-- Why a statement is refused, whatever the rows are. Behind this are looked at the rows that an UPDATE matches, the file of a COPY, a sum
+-- that is too great, and the numbers that a moveout draws.
 abbrev pub early_refusal : State → Statement → Option Refusal
 early_refusal state (Statement.CreateTable name columns) = table_created_refusal state name columns
 early_refusal state (Statement.CreateProjection p) = projection_created_refusal state p
@@ -68,6 +69,20 @@ early_refusal state Statement.Commit = commit_refusal state
 early_refusal state (Statement.Select at q) = select_refusal state at q
 early_refusal state (Statement.Explain q) = query_refusal_in state q
 early_refusal state s = None
+
+-- the forms that are refused for nothing else: neither rows nor load files are looked at
+abbrev pub is_settled_call : Function → Bool
+is_settled_call Function.Lge = true
+is_settled_call Function.Ahm = true
+is_settled_call Function.Current = true
+is_settled_call f = false
+
+abbrev pub is_settled : Statement → Bool
+is_settled (Statement.Update u) = false
+is_settled (Statement.Copy table file) = false
+is_settled (Statement.Select at q) = false
+is_settled (Statement.Call f) = is_settled_call f
+is_settled s = true
 
 -- the bound tree of a query, whose expressions have static bounds
 pub record IsBoundIn (state : State) (q : Query) (b : BoundQuery) : Type 0 where

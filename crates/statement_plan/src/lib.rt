@@ -3,7 +3,8 @@
 //! A `Frame` is seen as a state of db_model whose tables have no rows (`bare_state` of `specs/Bare.antt`): refusals look at the tables'
 //! names, columns and projections, at the epochs, the next number and what the sessions have changed. `make_plan` gives what the statement
 //! does, or the refusal (`IsPlanned`, `early_refusal` of `specs/Planned.antt`); `rows_decide_nothing_here` says that it is that of each
-//! state of which this is the frame.
+//! state of which this is the frame, as a catalogue's is by `catalogues_give_frames`; and `early_refusals_stand` that db_model refuses the
+//! statement for it.
 #![tactic(auto)]
 
 mod changing;
@@ -20,6 +21,6 @@ mod querying;
 mod refusing;
 
 pub use frame::Frame;
-pub use laws::rows_decide_nothing_here;
+pub use laws::{catalogues_give_frames, early_refusals_stand, rows_decide_nothing_here};
 pub use planning::make_plan;
 pub use plans::Plan;
