@@ -9,3 +9,4 @@ pub mod Standing
 pub mod Moved
 pub mod Makes
 pub mod Drawn
+pub mod Shaped

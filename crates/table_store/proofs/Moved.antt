@@ -300,7 +300,7 @@ rewritten last root c tables i j version ps p new entry copy found mid left lt p
 
 -- ---- the projection in its place
 
-map_change : {X Y : Type 0} (g : X → Y) (i : ℕ) (f : X → X) (h : Y → Y) (xs : List X) → ((x : X) → g (f x) ≡ h (g x)) → map g (change_at i f xs) ≡ change_at i h (map g xs)
+pub map_change : {X Y : Type 0} (g : X → Y) (i : ℕ) (f : X → X) (h : Y → Y) (xs : List X) → ((x : X) → g (f x) ≡ h (g x)) → map g (change_at i f xs) ≡ change_at i h (map g xs)
 map_change g i f h [] one = refl
 map_change {X} {Y} g zero f h (x ∷ xs) one = ap (λ (y : Y). y ∷ map g xs) (one x)
 map_change {X} {Y} g (suc i) f h (x ∷ xs) one = ap (λ (ys : List Y). g x ∷ ys) (map_change g i f h xs one)
