@@ -10,3 +10,4 @@ pub mod Moved
 pub mod Makes
 pub mod Drawn
 pub mod Shaped
+pub mod Unshaped

@@ -141,7 +141,7 @@ table_moved read m n mark last next after j t ps u old new lt is fresh moved loa
 
 -- ---- the catalogue
 
-stand_changed : (m n : Contents) (mark : ℕ) (ts : List kept.Table) (pss : List (List Projected)) (us : List Table) (i : ℕ) (f : kept.Table → kept.Table) (g : List Projected → List Projected) (h : Table → Table)
+pub stand_changed : (m n : Contents) (mark : ℕ) (ts : List kept.Table) (pss : List (List Projected)) (us : List Table) (i : ℕ) (f : kept.Table → kept.Table) (g : List Projected → List Projected) (h : Table → Table)
     → ((t : kept.Table) (ps : List Projected) (u : Table) → ps ≡ get_or pss i ps → StandsForTable m mark t ps u → StandsForTable n mark t ps u → StandsForTable n mark (f t) (g ps) (h u))
     → StandForTables m mark ts pss us → StandForTables n mark ts pss us → StandForTables n mark (change_at i f ts) (change_at i g pss) (change_at i h us)
 stand_changed m n mark [] [] [] i f g h change before stand = tt

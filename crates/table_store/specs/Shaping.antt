@@ -1,6 +1,6 @@
--- A projection that comes.
+-- A projection that comes, and one that goes.
 use Rattle.std.specs.Prelude.{ℕ, ◌≡◌, ◌+◌, if◌then◌else◌, [], IsSomeAnd}
-use Rattle.std.specs.List.{insert, slice_get}
+use Rattle.std.specs.List.{insert, remove, slice_get}
 use Rattle.catalog_types.specs.declared.catalogue.Projection.{Projection}
 use Rattle.catalog_types.specs.declared.catalogue.Table as kept
 use Rattle.catalog_types.specs.declared.catalogue.Catalogue.{Catalogue}
@@ -37,3 +37,18 @@ new_shape p last = shape_of (new_entry p last)
 -- the table at a place retains no row from the ancient history mark on
 abbrev pub RetainsNone : ℕ → Database → Type 0
 RetainsNone i d = IsSomeAnd (slice_get d.tables i) (λ t. retained d.ahm t.rows ≡ [])
+
+-- a table with one projection less
+abbrev pub without_projection : ℕ → kept.Table → kept.Table
+without_projection place t = record t { projections = remove t.projections place }
+
+-- the catalogue where the table at a place has one projection less, whose version is the next number
+abbrev pub without_projection_at : ℕ → ℕ → ℕ → Catalogue → Catalogue
+without_projection_at last i place c = record { last = last; ahm = c.ahm; next = c.next + 1; tables = change_at i (without_projection place) c.tables }
+
+-- a table with one shape less, and a database where the table at a place lacks it
+abbrev pub unshaped_in : ℕ → Table → Table
+unshaped_in place t = record t { shapes = remove t.shapes place }
+
+abbrev pub unshaped_at : ℕ → ℕ → Database → Database
+unshaped_at i place d = record d { tables = change_at i (unshaped_in place) d.tables }

@@ -1,10 +1,10 @@
-//! A catalogue in which a table has one projection more.
+//! A catalogue in which a table has one projection more, or one less.
 
 ghost use Rattle.std.specs.Prelude.{◌≡◌, ◌≤◌, ◌<◌, ◌^◌, length, map, IfOk, IsSomeAnd};
 ghost use Rattle.std.specs.List.{slice_get};
 ghost use Rattle.sound_laws.specs.Moves.{change_at};
 ghost use Rattle.table_store.specs.Creating.{place_of};
-ghost use Rattle.table_store.specs.Shaping.{new_entry, with_projection, with_projection_at};
+ghost use Rattle.table_store.specs.Shaping.{new_entry, with_projection, with_projection_at, without_projection, without_projection_at};
 
 use crate::creating::is_before;
 use crate::moving::no_table;
@@ -108,6 +108,58 @@ pub fn with_projection_at(
 {
     let Catalogue { tables, .. } = root.copy(alloc)?;
     let tables = add_entry_at(alloc, tables.into_vec(), table, place, entry)?;
+    Ok(Catalogue {
+        last,
+        ahm: root.ahm,
+        next: root.next + 1,
+        tables: List::new(tables),
+    })
+}
+
+/// A table with one projection less.
+fn take_entry(table: Table, place: usize) -> Table
+    requires { place < length table.projections }
+    ensures { result ≡ without_projection place table }
+{
+    let Table {
+        name,
+        columns,
+        projections,
+    } = table;
+    let mut projections = projections.into_vec();
+    projections.remove(place);
+    Table {
+        name,
+        columns,
+        projections: List::new(projections),
+    }
+}
+
+/// Tables of which one has one projection less.
+fn take_entry_at(alloc: Global, tables: Vec<Table>, table: usize, place: usize) -> Vec<Table>
+    requires { IsSomeAnd (slice_get tables.items table) (λ t. place < length t.projections) }
+    ensures { result.items ≡ change_at table (without_projection place) tables.items }
+{
+    let mut tables = tables;
+    let old = std::mem::replace(&mut tables[table], no_table(alloc));
+    tables[table] = take_entry(old, place);
+    tables
+}
+
+/// The catalogue with one projection less.
+pub fn without_projection_at(
+    alloc: Global,
+    root: &Catalogue,
+    last: u64,
+    table: usize,
+    place: usize,
+) -> Result<Catalogue, AllocError>
+    requires there { IsSomeAnd (slice_get root.now.tables table) (λ t. place < length t.projections) }
+    requires next { root.now.next < 2 ^ 62 }
+    ensures { IfOk result (λ c. c ≡ without_projection_at last table place root.now) }
+{
+    let Catalogue { tables, .. } = root.copy(alloc)?;
+    let tables = take_entry_at(alloc, tables.into_vec(), table, place);
     Ok(Catalogue {
         last,
         ahm: root.ahm,

@@ -1,4 +1,4 @@
-//! Projections that come.
+//! Projections that come and go.
 
 ghost use Rattle.std.specs.Prelude.{◌≡◌, ◌≤◌, ◌<◌, ◌^◌, true, map, length, IfOk, OnOk, OnErr, IsSomeAnd};
 ghost use Rattle.std.specs.List.{All, slice_get};
@@ -10,11 +10,13 @@ ghost use Rattle.store_commit.specs.Seen.{Stands};
 ghost use Rattle.store_commit.specs.Making.{Makes};
 ghost use Rattle.table_store.specs.Creating.{bare, place_of};
 ghost use Rattle.table_store.specs.Drawing.{DrawsOne};
-ghost use Rattle.table_store.specs.Shaping.{RetainsNone, new_entry, new_shape, shaped_at, with_projection_at};
+ghost use Rattle.table_store.specs.Shaping.{RetainsNone, new_entry, new_shape, shaped_at, unshaped_at, with_projection_at};
 
 use super::TableStore;
 use crate::moving::entry_copy;
-use crate::shaping::{NewProjection, new_entry, place_among, with_projection_at};
+use crate::shaping::{
+    NewProjection, new_entry, place_among, with_projection_at, without_projection_at,
+};
 use catalog_types::Catalogue;
 use col_disk::{Disk, DiskFault};
 use proj_store::ProjStore;
@@ -94,6 +96,34 @@ impl TableStore {
             }
         }
         self.root = catalogue;
+        Ok(())
+    }
+
+    /// The projection at a place of the table at a place goes; it is gone after a stop once this has answered Ok. What a catalogue can't
+    /// lack is answered as want of memory.
+    pub fn drop_projection<D: Disk>(
+        &mut self,
+        alloc: Global,
+        table: usize,
+        place: usize,
+        disk: &mut D,
+    ) -> Result<(), DiskFault>
+        requires { IsSomeAnd (slice_get self.old.catalogue.tables table) (λ t. place < length t.projections) }
+        ensures made { (d : Database) → Stands ⟦<D as Disk>⟧ self.old disk.old d → IsSoundDatabase (unshaped_at table place d) → Makes ⟦<D as Disk>⟧ Memory self.old self.new disk.old disk.new result d (unshaped_at table place d) }
+        ensures drawn { OnOk result (DrawsOne self.old.catalogue self.new.catalogue) }
+        ensures same { OnErr result (self.new ≡ self.old) }
+        ensures cause { HasCause DiskFault.Failed (D.faults disk.old) (D.faults disk.new) result }
+    {
+        let catalogue = match without_projection_at(alloc, &self.root, self.last, table, place) {
+            Ok(catalogue) => catalogue,
+            Err(AllocError) => return Err(DiskFault::Memory),
+        };
+        match settle(alloc, disk, self.root.next, &catalogue) {
+            Ok(()) => {}
+            Err(fault) => return Err(fault),
+        }
+        self.root = catalogue;
+        self.tables[table].remove(place);
         Ok(())
     }
 }
