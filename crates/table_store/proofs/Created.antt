@@ -40,7 +40,7 @@ columns_shaped n (c ∷ columns) = ap (λ (xs : List (ℕ × Encoding)). (n, Enc
 
 -- ---- a list with one element more
 
-insert_next : {X : Type 0} (x : X) (xs : List X) (k : ℕ) (y : X) → insert (x ∷ xs) (k + 1) y ≡ x ∷ insert xs k y
+pub insert_next : {X : Type 0} (x : X) (xs : List X) (k : ℕ) (y : X) → insert (x ∷ xs) (k + 1) y ≡ x ∷ insert xs k y
 insert_next x xs k y = let is : k + 1 ≡ suc k = omega arith in ap (λ (n : ℕ). insert (x ∷ xs) n y) is
 
 put_placed : (t : Table) (us : List Table) → put_table t us ≡ insert us (place_of t.name (map (λ u. u.name) us)) t

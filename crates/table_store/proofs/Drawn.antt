@@ -69,7 +69,7 @@ ordinals_distinct (k ∷ ks) (here, more) = IsDistinct-cons eqb k.ordinal (map (
     each [] all = tt
     each (l ∷ ls) all = (ne_eqb k.ordinal l.ordinal (All-head (λ m. k.ordinal ≢ m.ordinal) l ls all), each ls (All-tail (λ m. k.ordinal ≢ m.ordinal) l ls all))
 
-place_within : {X : Type 0} (xs : List X) (i : ℕ) (P : X → Type 0) → IsSomeAnd (slice_get xs i) P → i < length xs
+pub place_within : {X : Type 0} (xs : List X) (i : ℕ) (P : X → Type 0) → IsSomeAnd (slice_get xs i) P → i < length xs
 place_within [] i P is = absurd is
 place_within (x ∷ xs) zero P is = omega arith
 place_within (x ∷ xs) (suc i) P is = let below : i < length xs = place_within xs i P is in omega arith

@@ -9,3 +9,5 @@ pub mod Standing
 pub mod Moved
 pub mod Makes
 pub mod Drawn
+pub mod Shaped
+pub mod Unshaped

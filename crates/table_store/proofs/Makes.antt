@@ -89,7 +89,7 @@ new_stores : (tables after : List (List Loaded)) (place : ℕ) (parts : List Loa
 new_stores tables after place parts one is same =
     sym (ap (map projections_of) is ∙ map_insert projections_of tables place parts ∙ ap (insert (map projections_of tables) place) same)
 
-at_own : (c : Catalogue) (n : ℕ) → n ≡ c.last → c ≡ at_epoch n c
+pub at_own : (c : Catalogue) (n : ℕ) → n ≡ c.last → c ≡ at_epoch n c
 at_own c n same = ap (λ (k : ℕ). at_epoch k c) (sym same)
 
 pub create_seen : (root : Catalogue) (last : ℕ) (tables after : List (List Loaded)) (name : List ℕ) (columns : List Column) (place : ℕ) (catalogue : Catalogue) (parts : List Loaded)

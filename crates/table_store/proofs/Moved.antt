@@ -141,7 +141,7 @@ table_moved read m n mark last next after j t ps u old new lt is fresh moved loa
 
 -- ---- the catalogue
 
-stand_changed : (m n : Contents) (mark : ℕ) (ts : List kept.Table) (pss : List (List Projected)) (us : List Table) (i : ℕ) (f : kept.Table → kept.Table) (g : List Projected → List Projected) (h : Table → Table)
+pub stand_changed : (m n : Contents) (mark : ℕ) (ts : List kept.Table) (pss : List (List Projected)) (us : List Table) (i : ℕ) (f : kept.Table → kept.Table) (g : List Projected → List Projected) (h : Table → Table)
     → ((t : kept.Table) (ps : List Projected) (u : Table) → ps ≡ get_or pss i ps → StandsForTable m mark t ps u → StandsForTable n mark t ps u → StandsForTable n mark (f t) (g ps) (h u))
     → StandForTables m mark ts pss us → StandForTables n mark ts pss us → StandForTables n mark (change_at i f ts) (change_at i g pss) (change_at i h us)
 stand_changed m n mark [] [] [] i f g h change before stand = tt
@@ -300,7 +300,7 @@ rewritten last root c tables i j version ps p new entry copy found mid left lt p
 
 -- ---- the projection in its place
 
-map_change : {X Y : Type 0} (g : X → Y) (i : ℕ) (f : X → X) (h : Y → Y) (xs : List X) → ((x : X) → g (f x) ≡ h (g x)) → map g (change_at i f xs) ≡ change_at i h (map g xs)
+pub map_change : {X Y : Type 0} (g : X → Y) (i : ℕ) (f : X → X) (h : Y → Y) (xs : List X) → ((x : X) → g (f x) ≡ h (g x)) → map g (change_at i f xs) ≡ change_at i h (map g xs)
 map_change g i f h [] one = refl
 map_change {X} {Y} g zero f h (x ∷ xs) one = ap (λ (y : Y). y ∷ map g xs) (one x)
 map_change {X} {Y} g (suc i) f h (x ∷ xs) one = ap (λ (ys : List Y). g x ∷ ys) (map_change g i f h xs one)

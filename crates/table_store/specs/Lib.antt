@@ -4,3 +4,4 @@ pub mod Changing
 pub mod Committing
 pub mod Moving
 pub mod Drawing
+pub mod Shaping

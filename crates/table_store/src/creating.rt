@@ -86,7 +86,7 @@ pub fn first_table(
     })
 }
 
-fn is_before(name: &Name, other: &Name) -> bool
+pub fn is_before(name: &Name, other: &Name) -> bool
     ensures { result ≡ is_lt (slice_cmp nat_cmp name.now other.now) }
 {
     name.as_slice().cmp(&other.as_slice()).is_lt()

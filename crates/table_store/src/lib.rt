@@ -11,8 +11,10 @@ mod dropping;
 mod moving;
 mod part;
 mod parts;
+mod shaping;
 mod store;
 
 pub use moving::entry_copy;
 pub use parts::Parts;
+pub use shaping::NewProjection;
 pub use store::TableStore;

@@ -47,7 +47,8 @@ fn put_entry(table: Table, place: usize, entry: Projection) -> Table
     }
 }
 
-fn no_table(alloc: Global) -> Table {
+/// A table to stand where another is taken from.
+pub fn no_table(alloc: Global) -> Table {
     Table {
         name: Name::new(Vec::new(alloc)),
         columns: List::new(Vec::new(alloc)),

@@ -1,7 +1,7 @@
 //! The projections of a table.
 
-ghost use Rattle.std.specs.Prelude.{◌≡◌, ◌<◌, ◌∷◌, [], Some, length, slice_set, IfOk};
-ghost use Rattle.std.specs.List.{All, AllZip};
+ghost use Rattle.std.specs.Prelude.{◌≡◌, ◌≤◌, ◌<◌, ◌∷◌, [], Some, length, slice_set, IfOk, OnOk, OnErr};
+ghost use Rattle.std.specs.List.{All, AllZip, insert, remove};
 ghost use Rattle.common_laws.specs.Causes.{HasCause};
 ghost use Rattle.common_laws.specs.Maps.{Contents};
 ghost use Rattle.col_disk.specs.Moved.{Moved, NoName};
@@ -65,6 +65,26 @@ impl Parts {
         ensures { self.new ≡ slice_set self.old place projection }
     {
         self.projections[place] = projection;
+    }
+
+    /// A projection takes its place.
+    pub fn insert(&mut self, place: usize, projection: ProjStore) -> Result<(), AllocError>
+        requires { place ≤ length self.old }
+        ensures put { OnOk result (self.new ≡ insert self.old place projection) }
+        ensures same { OnErr result (self.new ≡ self.old) }
+    {
+        match self.projections.insert(place, projection) {
+            Ok(()) => Ok(()),
+            Err(_) => Err(AllocError),
+        }
+    }
+
+    /// The projection at a place goes. It takes no memory.
+    pub fn remove(&mut self, place: usize)
+        requires { place < length self.old }
+        ensures { self.new ≡ remove self.old place }
+    {
+        self.projections.remove(place);
     }
 
     /// Makes ready what a commit of these rows and deletes of the table does to each projection; nothing changes but the room.

@@ -34,6 +34,8 @@ use store_commit::settle;
 use stored_rows::what_is_read_is_stored;
 use txn_core::Session;
 
+mod projections;
+
 // The last epoch that can be closed.
 const MOST_EPOCHS: u64 = i64::MAX as u64;
 
