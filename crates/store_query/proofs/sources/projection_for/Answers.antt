@@ -19,7 +19,7 @@ returns c =
     let f = c.args.item in
     let table = c.in-Some.table.now in
     let parts = c.in-Some-get.parts.now in
-    let tables : s.catalogue.tables ≡ c.as_slice.result.now = ap (λ (x : Catalogue). x.tables) c.root.ensures ∙ sym c.as_slice.ensures in
+    let tables : s.catalogue.tables ≡ c.as_slice.result.now = ap (λ (x : Catalogue). x.tables) c.root.ensures.root ∙ sym c.as_slice.ensures in
     let loaded : slice_get c.tables.result.now f.table ≡ Some parts = got_at c.tables.result.now f.table parts c.in-Some-get.ensures.lookup.0 c.in-Some-get.ensures.lookup.1 in
     let one : slice_get c.as_slice-3.result.now c.in-Some-choose.place ≡ Some c.in-Some-get-2.store.now =
     got_at c.as_slice-3.result.now c.in-Some-choose.place c.in-Some-get-2.store.now c.in-Some-get-2.ensures.lookup.0 c.in-Some-get-2.ensures.lookup.1 in
