@@ -1,12 +1,12 @@
 -- What is collected, and the groups as their expressions see them.
-use Rattle.std.proofs.Common.{◌≡◌, ℕ, zero, suc, ◌+◌, ◌<◌, ◌≤◌, ◌++◌, Bool, true, false, cond, if◌then◌else◌, List, [], ◌∷◌, length, get_or, drop, map, filter, Option, Some, None, refl, sym, ap, ap₂, ◌∙◌, arith, append_assoc, subst, add-one, drop-cons}
-use Rattle.std.proofs.lemmas.List.{drop_all, length-append, map-append}
+use Rattle.std.proofs.Common.{◌≡◌, ℕ, zero, suc, ◌+◌, ◌<◌, ◌≤◌, ◌++◌, Bool, true, false, cond, if◌then◌else◌, List, [], ◌∷◌, length, get_or, drop, map, filter, refl, sym, ap, ap₂, ◌∙◌, arith, append_assoc, subst, add-one, drop-cons}
+use Rattle.std.proofs.lemmas.List.{drop_all, map-append}
 use Rattle.std.proofs.lemmas.List.Elements.{All-get_or, All-contains_itself, filter-append}
 use Rattle.std.specs.List.{All, Contains}
 use Rattle.col_value.specs.Order.{IsRow}
 use Rattle.col_value.specs.declared.value.Value.{Value}
 use Rattle.col_value.specs.declared.wide.Wide.{Wide}
-use Rattle.exec_group.specs.Groups.{AreGroups, HasGreatSum, HoldsGroups}
+use Rattle.exec_group.specs.Groups.{AreGroups, HasGreatSum}
 use Rattle.exec_group.specs.declared.groups.Grouped.{Grouped}
 use Rattle.plain_query.proofs.AtMost.{group_fits, group_is_row, members_are_rows}
 use Rattle.plain_query.specs.Scopes.{IsGroupOf, is_shown}
@@ -15,7 +15,7 @@ use Rattle.sql_bound.specs.Bounds.{column_bound}
 use Rattle.sql_bound.specs.Outputs.{aggregate_over, group_keys, group_scope, group_scopes, keys_of, kept, members, output, same_keys}
 use Rattle.sql_bound.specs.Values.{Scope, of_row}
 use Rattle.query_order.specs.Enough.{AreFew, IsEnough}
-use Rattle.query_order.proofs.Enough.{enough_itself, enough_more}
+use Rattle.query_order.proofs.Enough.{enough_more}
 use Rattle.query_run.specs.Outputs.{HoldsOutput, IsAdded, items_in, scope_of, scopes_of, shown}
 use Rattle.query_run.specs.declared.collected.Collected.{Collected}
 
@@ -59,40 +59,8 @@ groups_behind q keys aggs i k a h is g are fit =
     let here : All (IsGroupOf q) (scope_of k a ∷ scopes_of (drop (i + 1) keys) (drop (i + 1) aggs)) = subst (All (IsGroupOf q)) (next_scope keys aggs i k a h is g are) fit in
     λ j d l. here (suc j) d (omega arith)
 
-few_none : (limit : Option ℕ) → AreFew limit []
-few_none None = tt
-few_none (Some n) = omega arith
-
-pub none_collected : (q : BoundQuery) (c : Collected) → c.taken ≡ 0 → c.rows.items ≡ [] → HoldsGroups q [] c.groups → HoldsOutput q [] c
-none_collected q c taken rows groups = record {
-  taken = taken;
-  few = omega arith;
-  rows = λ e. subst (IsEnough q.order q.limit []) (sym rows) (enough_itself q.order q.limit []);
-  cut = subst (AreFew q.limit) (sym rows) (few_none q.limit);
-  groups = λ e. groups;
-}
-
 pub held_few : (q : BoundQuery) (rows : List (List Value)) (c : Collected) → HoldsOutput q rows c → length rows ≤ column_bound
 held_few q rows c held = subst (λ (n : ℕ). n ≤ column_bound) held.taken held.few
-
-pub row_collected : (q : BoundQuery) (old new : Collected) (tuple : List Value) (row : List Wide) (rows : List (List Value)) → HoldsOutput q rows old → q.grouped ≡ false → old.taken < column_bound → new.taken ≡ old.taken + 1
-    → IsAdded q row old.rows.items new.rows.items → row ≡ items_in q (of_row tuple) → HoldsOutput q (rows ++ tuple ∷ []) new
-row_collected q old new tuple row rows held plain few more added is =
-    let all = length-append rows (tuple ∷ []) in record {
-      taken = more ∙ omega (arith, all, held.taken);
-      few = omega arith;
-      rows = λ e. subst (λ (l : List (List Wide)). IsEnough q.order q.limit l new.rows.items) one_more (added.enough (map (items_in q) (map of_row rows)) (held.rows plain));
-      cut = added.few;
-      groups = λ e. absurd (no (sym e ∙ plain));
-    }
-  where
-    no : true ≡ false → ⊥
-    no h = cc
-
-    one_more : map (items_in q) (map of_row rows) ++ row ∷ [] ≡ map (items_in q) (map of_row (rows ++ tuple ∷ []))
-    one_more =
-        ap (λ (r : List Wide). map (items_in q) (map of_row rows) ++ r ∷ []) is
-        ∙ sym (ap (map (items_in q)) (map-append of_row rows (tuple ∷ [])) ∙ map-append (items_in q) (map of_row rows) (of_row tuple ∷ []))
 
 -- a row more, and the rows cut back behind it
 pub row_added : (q : BoundQuery) (order : List (ℕ × Bool)) (row : List Wide) (old all new : List (List Wide)) → order ≡ q.order → all ≡ old ++ row ∷ []
@@ -104,20 +72,6 @@ row_added q order row old all new own is enough few = record {
       (subst (IsEnough q.order q.limit (l ++ row ∷ [])) (sym is) (enough_more q.order q.limit l old (row ∷ []) before))));
   few = few;
 }
-
-pub group_collected : (q : BoundQuery) (old new : Collected) (tuple : List Value) (rows : List (List Value)) → HoldsOutput q rows old → q.grouped ≡ true → old.taken < column_bound → new.taken ≡ old.taken + 1
-    → new.rows.items ≡ old.rows.items → HoldsGroups q (rows ++ tuple ∷ []) new.groups → HoldsOutput q (rows ++ tuple ∷ []) new
-group_collected q old new tuple rows held grouped few more same groups =
-    let all = length-append rows (tuple ∷ []) in record {
-      taken = more ∙ omega (arith, all, held.taken);
-      few = omega arith;
-      rows = λ e. absurd (no (sym grouped ∙ e));
-      cut = subst (AreFew q.limit) (sym same) held.cut;
-      groups = λ e. groups;
-    }
-  where
-    no : true ≡ false → ⊥
-    no h = cc
 
 made_scopes : {X : Type 0} (keys : X → List Value) (aggs : X → List Wide) (xs : List X) → scopes_of (map keys xs) (map aggs xs) ≡ map (λ x. scope_of (keys x) (aggs x)) xs
 made_scopes keys aggs [] = refl
