@@ -1,0 +1,100 @@
+-- The events of the tables, over a running store.
+use Rattle.std.proofs.Common.{◌≡◌, ◌+◌, ◌-◌, ◌≤◌, ◌⊎◌, inl, inr, ℕ, Bool, true, false, List, [], map, filter, set, refl, sym, ◌∙◌, ap, ap₂, subst, arith}
+use Rattle.std.specs.Prelude.{Result, Ok, Err, Option, Some, None, OnOk, not, slice_set, IsSomeAnd}
+use Rattle.std.specs.List.{slice_get, slice_index_or}
+use Rattle.std.proofs.lemmas.Result.{on_ok_weaker}
+use Rattle.col_disk.specs.declared.disk.Disk.{Ghosts}
+use Rattle.catalog_types.specs.declared.catalogue.Catalogue.{Catalogue}
+use Rattle.col_value.specs.declared.column.Column.{Column}
+use Rattle.db_model.specs.Database.{Database}
+use Rattle.db_model.specs.State.{State, Changes, own_changes, with_changes}
+use Rattle.db_model.specs.Events.{table_created, table_dropped, is_not_named, is_of_table}
+use Rattle.db_model.specs.Numbers.{IsDrawn}
+use Rattle.db_model.specs.Sound.{IsSoundDatabase, IsSound}
+use Rattle.sound_laws.specs.Moves.{moved_at}
+use Rattle.store_commit.specs.Seen.{Seen, Stands}
+use Rattle.store_commit.specs.Making.{Makes}
+use Rattle.table_store.specs.Creating.{created, dropped}
+use Rattle.table_store.specs.Drawing.{FewContainers, Draws, DrawsOne}
+use Rattle.store_core.specs.Running.{Running, running, IsState}
+use Rattle.store_core.specs.Events.{Does}
+use Rattle.store_core.proofs.Doing.{numbered, Grown, Beside, drawn_does, grown_one}
+
+-- other numbers leave a state sound
+pub renumbered : (s : State) → IsSound s → (next parts : ℕ) → IsSound (numbered s next parts)
+renumbered s is next parts = record {
+  database = is.database;
+  eight = is.eight;
+  first = is.first;
+  current = is.current;
+  sessions = is.sessions;
+  apart = is.apart;
+  asked = is.asked;
+}
+
+pub viewed : {D : Type 0} (disk : Ghosts D) (old : D) (r now : Running) (state : State) → r ≡ now → IsState disk now old state → IsState disk r old state
+viewed disk old r now state view here = subst (λ (x : Running). IsState disk x old state) (sym view) here
+
+grown_by_one : {F : Type 0} (result : Result (Unit {0}) F) (state : State) (was is : Seen) → state.next ≡ was.catalogue.next → FewContainers state.parts was.catalogue → OnOk result (DrawsOne was.catalogue is.catalogue) → OnOk result (Grown state is state.parts)
+grown_by_one result state was is next few draws = on_ok_weaker result (λ one. grown_one state was.catalogue is.catalogue is.stores next few one) draws
+
+grown_some : {F : Type 0} (result : Result (Unit {0}) F) (state : State) (was is : Seen) → state.next ≡ was.catalogue.next → FewContainers state.parts was.catalogue → OnOk result (Draws was.catalogue is.catalogue) → OnOk result (Grown state is (state.parts + 2))
+grown_some result state was is next few draws = on_ok_weaker result (λ some. one some) draws
+  where
+    one : Draws was.catalogue is.catalogue → Grown state is (state.parts + 2)
+    one some =
+        let from = some.from in
+        let upto = some.upto state.parts few in
+        record { from = omega (arith, from, next); upto = omega (arith, upto, next); few = some.few state.parts few; most = omega arith }
+
+-- ---- CREATE TABLE
+
+pub create_does : {D F : Type 0} (disk : Ghosts D) (short : F) {old new : D} (was is : Seen) (sessions : List (List Changes)) (current : ℕ) (now : Running) (name : List ℕ) (columns : List Column) (result : Result (Unit {0}) F) (state : State)
+    → running was sessions current ≡ now → IsState disk now old state → IsSound (table_created name columns state)
+    → ((d : Database) → Stands disk was old d → IsSoundDatabase (created name columns d) → Makes disk short was is old new result d (created name columns d)) → OnOk result (DrawsOne was.catalogue is.catalogue)
+    → Does disk short now (running is sessions current) old new result state (IsDrawn state (table_created name columns state))
+create_does disk short {old} {new} was is sessions current now name columns result state view here sound makes draws =
+    let own = viewed disk old (running was sessions current) now state view here in
+    subst (λ (r : Running). Does disk short r (running is sessions current) old new result state (IsDrawn state (table_created name columns state))) view
+    (drawn_does disk short was is sessions sessions current result state (table_created name columns state) state.parts own (makes state.database own.database sound.database)
+    (grown_by_one result state was is own.next own.parts draws)
+    (record { sessions = own.sessions; current = own.current; asked = own.asked; busy = own.busy; sound = renumbered (table_created name columns state) sound }))
+
+-- ---- DROP TABLE
+
+abbrev pub without_own : List ℕ → List (List Changes) → ℕ → List (List Changes)
+without_own name sessions current = slice_set sessions (current - 1) (filter (λ c. is_not_named name c.table) (slice_index_or sessions (current - 1) []))
+
+pub drop_does : {D F : Type 0} (disk : Ghosts D) (short : F) {old new : D} (was is : Seen) (sessions others : List (List Changes)) (current : ℕ) (now : Running) (table : ℕ) (name : List ℕ) (result : Result (Unit {0}) F) (state : State)
+    → running was sessions current ≡ now → others ≡ without_own name sessions current → IsState disk now old state → IsSound (table_dropped name state)
+    → IsSomeAnd (slice_get now.seen.catalogue.tables table) (λ t. t.name ≡ name)
+    → ((d : Database) (n : List ℕ) → Stands disk was old d → IsSomeAnd (slice_get was.catalogue.tables table) (λ t. t.name ≡ n) → Makes disk short was is old new result d (dropped n d)) → OnOk result (DrawsOne was.catalogue is.catalogue)
+    → Does disk short now (running is others current) old new result state (IsDrawn state (table_dropped name state))
+drop_does disk short {old} {new} was is sessions others current now table name result state view left here sound there makes draws =
+    let own = viewed disk old (running was sessions current) now state view here in
+    subst (λ (r : Running). Does disk short r (running is others current) old new result state (IsDrawn state (table_dropped name state))) view
+    (drawn_does disk short was is sessions others current result state (table_dropped name state) state.parts own
+    (makes state.database name own.database (subst (λ (r : Running). IsSomeAnd (slice_get r.seen.catalogue.tables table) (λ t. t.name ≡ name)) (sym view) there))
+    (grown_by_one result state was is own.next own.parts draws)
+    (record {
+      sessions = ap₂ (without_own name) own.sessions own.current ∙ sym left;
+      current = own.current;
+      asked = ap (filter (λ n. not (is_of_table name state.database.tables n))) own.asked;
+      busy = refl;
+      sound = renumbered (table_dropped name state) sound;
+    }))
+
+-- ---- a moveout
+
+abbrev pub moved_state : ℕ → ℕ → State → State
+moved_state i j state = record state { database = moved_at i j state.database }
+
+pub move_does : {D F : Type 0} (disk : Ghosts D) (short : F) {old new : D} (was is : Seen) (sessions : List (List Changes)) (current : ℕ) (now : Running) (i j : ℕ) (result : Result (Unit {0}) F) (state : State)
+    → running was sessions current ≡ now → IsState disk now old state → IsSound (moved_state i j state) → ((d : Database) → Stands disk was old d → Makes disk short was is old new result d (moved_at i j d)) → OnOk result (Draws was.catalogue is.catalogue)
+    → Does disk short now (running is sessions current) old new result state (IsDrawn state (moved_state i j state))
+move_does disk short {old} {new} was is sessions current now i j result state view here sound makes draws =
+    let own = viewed disk old (running was sessions current) now state view here in
+    subst (λ (r : Running). Does disk short r (running is sessions current) old new result state (IsDrawn state (moved_state i j state))) view
+    (drawn_does disk short was is sessions sessions current result state (moved_state i j state) (state.parts + 2) own (makes state.database own.database)
+    (grown_some result state was is own.next own.parts draws)
+    (record { sessions = own.sessions; current = own.current; asked = own.asked; busy = own.busy; sound = renumbered (moved_state i j state) sound }))

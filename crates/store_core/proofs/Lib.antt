@@ -1,0 +1,6 @@
+pub mod Doing
+pub mod Sessions
+pub mod Opening
+pub mod Asking
+pub mod Events
+pub mod First

@@ -1,0 +1,36 @@
+use Rattle.std.proofs.Common.{◌≡◌, ◌+◌, [], true, false, refl, rules}
+use Rattle.std.specs.Prelude.{Ok, Err}
+use Rattle.col_disk.specs.declared.disk.StoreFault.TheVariants.{Memory}
+use Rattle.db_model.specs.State.{has_changes}
+use Rattle.db_model.specs.Events.{changes_committed}
+use Rattle.store_core.specs.Running.{running}
+use Rattle.store_core.proofs.Doing.{does_failed}
+use Rattle.store_core.proofs.Sessions.{put_at, commit_at, idle_at}
+use Rattle.store_core.proofs.store.Store.commit.Goals as goal
+
+pub returns-then-not-has_changes-clause-does : goal.returns-then-not-has_changes-clause-does
+returns-then-not-has_changes-clause-does g c = λ state here.
+    let none : has_changes c.session.result.now ≡ false = search rules in
+    idle_at g.D.Disk c.args.disk.now c.self.inside.tables c.self.inside.txns c.take.new.self c.self.inside.current c.args.self.now state c.session.result.now c.self.view_is c.session.ensures none here
+    (c.commits_of_a_session_are_sound.ensures state here.asked here.sound) c.take.ensures.left
+
+pub returns-in-Err-clause-does : goal.returns-in-Err-clause-does
+returns-in-Err-clause-does g c = λ state here.
+    let was = c.self.inside.tables in
+    let sessions = c.self.inside.txns in
+    let current = c.self.inside.current in
+    let some : has_changes c.session.result.now ≡ true = search rules in
+    let has : has_changes c.session-changes.result.now ≡ true = search (rules, some) in
+    does_failed g.D.Disk Memory c.args.self.now (running c.commit.new.self (put_at [] sessions current) current) _ c.in-Err.fault state (λ after. after ≡ changes_committed state)
+    (commit_at g.D.Disk was c.commit.new.self sessions (put_at [] sessions current) current c.args.self.now (Err c.in-Err.fault) state c.session-changes.result.now (was.catalogue.last + 1) c.self.view_is c.session-changes.ensures has here
+    (c.commits_of_a_session_are_sound.ensures state here.asked here.sound) refl c.in-Err.ensures.made c.in-Err.ensures.catalogue)
+
+pub returns-clause-does : goal.returns-clause-does
+returns-clause-does g c = λ state here.
+    let was = c.self.inside.tables in
+    let sessions = c.self.inside.txns in
+    let current = c.self.inside.current in
+    let some : has_changes c.session.result.now ≡ true = search rules in
+    let has : has_changes c.session-changes.result.now ≡ true = search (rules, some) in
+    commit_at g.D.Disk was c.commit.new.self sessions c.take-2.new.self current c.args.self.now (Ok tt) state c.session-changes.result.now (was.catalogue.last + 1) c.self.view_is c.session-changes.ensures has here
+    (c.commits_of_a_session_are_sound.ensures state here.asked here.sound) c.take-2.ensures.left c.in-Ok.ensures.made c.in-Ok.ensures.catalogue

@@ -1,0 +1,4 @@
+pub mod Running
+pub mod Sessions
+pub mod Events
+pub mod Asking

@@ -1,0 +1,22 @@
+-- What events make of the sessions alone.
+use Rattle.std.specs.Prelude.{ℕ, ◌-◌, List, [], slice_set}
+use Rattle.std.specs.List.{slice_index_or}
+use Rattle.col_value.specs.declared.value.Value.{Value}
+use Rattle.db_model.specs.State.{Changes, with_rows}
+use Rattle.store_core.specs.Running.{Running}
+
+-- the current session's changes
+abbrev pub own_of : Running → List Changes
+own_of r = slice_index_or r.sessions (r.current - 1) []
+
+-- these are the current session's changes
+abbrev pub with_own : List Changes → Running → Running
+with_own changes r = record r { sessions = slice_set r.sessions (r.current - 1) changes }
+
+-- rows join the current session's pending rows of a table
+abbrev pub with_pending : List ℕ → List (List Value) → Running → Running
+with_pending name rows r = with_own (with_rows name rows (own_of r)) r
+
+-- another session is the current one
+abbrev pub with_current : ℕ → Running → Running
+with_current n r = record r { current = n }
