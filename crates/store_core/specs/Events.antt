@@ -17,7 +17,7 @@ ReopensTo state x = Reopens x (cut (last_good state.database) state.database)
 abbrev pub BeforeOrAfter : State → (State → Type 0) → Contents → Type 0
 BeforeOrAfter state After x = ReopensTo state x ⊎ ((new : State) × After new × ReopensTo new x)
 
--- An event over a state makes one of these of it. Where memory was short the store is the state as before; and whatever a crash leaves at
+-- An event over a state makes one of these of it. Where memory was short the store as it was is the state as before; and whatever a crash leaves at
 -- any moment reopens to the one before or to one after.
 pub record Does {D R F : Type 0} (disk : Ghosts D) (short : F) (was is : Running) (old new : D) (result : Result R F) (state : State) (After : State → Type 0) : Type 0 where
   pub done : OnOk result ((after : State) × After after × IsState disk is new after)

@@ -140,6 +140,7 @@ impl Store {
     ) -> Result<(), DiskFault>
         ensures does { (state : State) → IsState ⟦<D as Disk>⟧ self.old disk.old state → table_created_refusal state name columns ≡ None
             → Does ⟦<D as Disk>⟧ Memory self.old self.new disk.old disk.new result state (IsDrawn state (table_created name columns state)) }
+        ensures same { OnErr result (self.new ≡ self.old) }
         ensures cause { HasCause DiskFault.Failed (D.faults disk.old) (D.faults disk.new) result }
     {
         a_new_table_is_sound();
@@ -158,6 +159,7 @@ impl Store {
         requires { IsSomeAnd (slice_get self.old.seen.catalogue.tables table) (λ t. t.name ≡ name.now) }
         ensures does { (state : State) → IsState ⟦<D as Disk>⟧ self.old disk.old state → table_dropped_refusal state name.now ≡ None
             → Does ⟦<D as Disk>⟧ Memory self.old self.new disk.old disk.new result state (IsDrawn state (table_dropped name.now state)) }
+        ensures same { OnErr result (self.new ≡ self.old) }
         ensures cause { HasCause DiskFault.Failed (D.faults disk.old) (D.faults disk.new) result }
     {
         tables_may_be_dropped();
@@ -183,6 +185,7 @@ impl Store {
     pub fn commit<D: Disk>(&mut self, alloc: Global, disk: &mut D) -> Result<(), StoreFault>
         ensures does { (state : State) → IsState ⟦<D as Disk>⟧ self.old disk.old state
             → Does ⟦<D as Disk>⟧ no_memory self.old self.new disk.old disk.new result state (λ new. new ≡ changes_committed state) }
+        ensures same { OnErr result (self.new ≡ self.old) }
         ensures cause { HasCause StoreFault.Disk (D.faults disk.old) (D.faults disk.new) result }
     {
         commits_of_a_session_are_sound();
@@ -227,6 +230,7 @@ impl Store {
         requires { IsFreshAt self.old.seen.stores table place }
         ensures does { (state : State) → IsState ⟦<D as Disk>⟧ self.old disk.old state
             → Does ⟦<D as Disk>⟧ no_memory self.old self.new disk.old disk.new result state (IsDrawn state (record state { database = moved_at table place state.database })) }
+        ensures same { OnErr result (self.new ≡ self.old) }
         ensures cause { HasCause StoreFault.Disk (D.faults disk.old) (D.faults disk.new) result }
     {
         moved_states_are_sound();
@@ -237,6 +241,7 @@ impl Store {
     /// The projection that comes first of those that are behind is moved out. Answers whether there was one.
     pub fn move_first<D: Disk>(&mut self, alloc: Global, disk: &mut D) -> Result<bool, StoreFault>
         ensures does { (state : State) → IsState ⟦<D as Disk>⟧ self.old disk.old state → MovesFirstOf ⟦<D as Disk>⟧ no_memory self.old self.new disk.old disk.new result state }
+        ensures same { OnErr result (self.new ≡ self.old) }
         ensures cause { HasCause StoreFault.Disk (D.faults disk.old) (D.faults disk.new) result }
     {
         let at = match first_behind(self.tables.root().tables.as_slice(), self.tables.last()) {
