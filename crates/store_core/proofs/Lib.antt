@@ -4,3 +4,4 @@ pub mod Opening
 pub mod Asking
 pub mod Events
 pub mod First
+pub mod Framed

@@ -9,5 +9,5 @@
 mod laws;
 mod store;
 
-pub use laws::{pending_rows_stand, rollbacks_stand, sessions_stand};
+pub use laws::{frames_are_of_the_state, pending_rows_stand, rollbacks_stand, sessions_stand};
 pub use store::Store;
