@@ -41,24 +41,30 @@ fn read_statement(alloc: Global, text: &[u8]) -> Result<Result<Statement, u64>, 
     }
 }
 
-/// Whether the statement is one of those that are run here.
-fn is_run(statement: &Statement) -> bool
+/// Whether the statement is one of those that are planned.
+fn has_plan(statement: &Statement) -> bool
     ensures { result ≡ true → is_planned statement.now ≡ true }
 {
     match statement {
         Statement::CreateTable(_, _)
+        | Statement::CreateProjection(_)
         | Statement::DropTable(_)
+        | Statement::DropProjection(_)
         | Statement::Insert(_)
+        | Statement::Delete(_)
+        | Statement::Update(_)
+        | Statement::Copy(_, _)
         | Statement::Commit
         | Statement::Rollback
         | Statement::Select(_, _)
+        | Statement::Explain(_)
         | Statement::Session(_) => true,
         Statement::Call(function) => matches!(function, Function::Current),
         _ => false,
     }
 }
 
-/// What the statement does, and what it prints.
+/// What the statement does, and what it prints: `planned` where it changes rows or projections, or explains, which no event of the store does.
 fn perform(
     alloc: Global,
     store: &mut Store,
@@ -107,7 +113,7 @@ fn perform(
             Ok(String::new(alloc))
         },
         (Statement::Call(_), _) => as_text(epoch_text(alloc, store.last())?),
-        _ => Ok(String::from_str(alloc, "not run here\n")?),
+        _ => Ok(String::from_str(alloc, "planned\n")?),
     }
 }
 
@@ -132,7 +138,7 @@ pub fn answer(
         Ok(statement) => statement,
         Err(place) => return refused(alloc, Refusal::Syntax(place)),
     };
-    if !is_run(&statement) {
+    if !has_plan(&statement) {
         return Ok(String::from_str(alloc, "not run here\n")?);
     }
     let planned = make_plan(alloc, &store.frame(), &statement);
