@@ -15,7 +15,7 @@ use Rattle.sql_binding.specs.Queries.{columns_of, over_groups, over_rows}
 use Rattle.sql_binding.specs.Sight.{sight}
 use Rattle.sql_binding.specs.Uses.{is_grouped}
 use Rattle.col_value.specs.declared.column.Column.{Column}
-use Rattle.db_model.specs.Database.{Database, Table}
+use Rattle.db_model.specs.Database.{Database}
 use Rattle.db_model.specs.State.{State, Changes, own_changes}
 use Rattle.db_model.specs.Views.{bound_in, inputs, source_tables}
 use Rattle.db_model.specs.Refusing.{epoch_refusal}

@@ -1,24 +1,18 @@
 -- What an event of the tables makes of a running store.
-use Rattle.std.proofs.Common.{◌≡◌, ◌+◌, ◌*◌, ◌≤◌, ◌<◌, ◌⊎◌, inl, inr, ℕ, List, [], length, refl, sym, ◌∙◌, ap, subst, arith}
-use Rattle.std.specs.Prelude.{Result, Ok, Err, OnOk, IsErrOf}
-use Rattle.std.specs.List.{All}
-use Rattle.std.proofs.lemmas.List.Elements.{All-weaker}
+use Rattle.std.proofs.Common.{◌≡◌, ◌+◌, ◌*◌, ◌≤◌, inl, inr, ℕ, List, [], refl, arith}
+use Rattle.std.specs.Prelude.{Result, Ok, Err, OnOk}
 use Rattle.common_laws.specs.Maps.{Contents}
-use Rattle.col_disk.specs.Moved.{Leaves}
 use Rattle.col_disk.specs.declared.disk.Disk.{Ghosts}
 use Rattle.col_disk.proofs.Moving.{leaves_wider}
 use Rattle.catalog_types.specs.declared.catalogue.Catalogue.{Catalogue}
-use Rattle.db_model.specs.Database.{Database}
 use Rattle.db_model.specs.State.{State, Changes}
-use Rattle.db_model.specs.Epochs.{last_good, cut}
-use Rattle.db_model.specs.Numbers.{most_drawn, DrawsWithin, IsDrawn}
+use Rattle.db_model.specs.Numbers.{most_drawn, IsDrawn}
 use Rattle.db_model.specs.Sound.{IsSound}
-use Rattle.folder_model.specs.Reopening.{Reopens}
 use Rattle.store_commit.specs.Seen.{Seen, Stands}
 use Rattle.store_commit.specs.Making.{ReopensToEither, Makes}
-use Rattle.table_store.specs.Drawing.{FewContainers, Draws, DrawsOne}
+use Rattle.table_store.specs.Drawing.{FewContainers, DrawsOne}
 use Rattle.store_core.specs.Running.{Running, running, IsState}
-use Rattle.store_core.specs.Events.{ReopensTo, BeforeOrAfter, Does}
+use Rattle.store_core.specs.Events.{BeforeOrAfter, Does}
 
 -- a state with other numbers of the storage
 abbrev pub numbered : State → ℕ → ℕ → State

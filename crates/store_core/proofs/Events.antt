@@ -1,13 +1,12 @@
 -- The events of the tables, over a running store.
-use Rattle.std.proofs.Common.{◌≡◌, ◌+◌, ◌-◌, ◌≤◌, ◌⊎◌, inl, inr, ℕ, Bool, true, false, List, [], map, filter, set, refl, sym, ◌∙◌, ap, ap₂, subst, arith}
-use Rattle.std.specs.Prelude.{Result, Ok, Err, Option, Some, None, OnOk, not, slice_set, IsSomeAnd}
+use Rattle.std.proofs.Common.{◌≡◌, ◌+◌, ◌-◌, ℕ, List, [], filter, refl, sym, ◌∙◌, ap, ap₂, subst, arith}
+use Rattle.std.specs.Prelude.{Result, OnOk, not, slice_set, IsSomeAnd}
 use Rattle.std.specs.List.{slice_get, slice_index_or}
 use Rattle.std.proofs.lemmas.Result.{on_ok_weaker}
 use Rattle.col_disk.specs.declared.disk.Disk.{Ghosts}
-use Rattle.catalog_types.specs.declared.catalogue.Catalogue.{Catalogue}
 use Rattle.col_value.specs.declared.column.Column.{Column}
 use Rattle.db_model.specs.Database.{Database}
-use Rattle.db_model.specs.State.{State, Changes, own_changes, with_changes}
+use Rattle.db_model.specs.State.{State, Changes}
 use Rattle.db_model.specs.Events.{table_created, table_dropped, is_not_named, is_of_table}
 use Rattle.db_model.specs.Numbers.{IsDrawn}
 use Rattle.db_model.specs.Sound.{IsSoundDatabase, IsSound}
@@ -18,7 +17,7 @@ use Rattle.table_store.specs.Creating.{created, dropped}
 use Rattle.table_store.specs.Drawing.{FewContainers, Draws, DrawsOne}
 use Rattle.store_core.specs.Running.{Running, running, IsState}
 use Rattle.store_core.specs.Events.{Does}
-use Rattle.store_core.proofs.Doing.{numbered, Grown, Beside, drawn_does, grown_one}
+use Rattle.store_core.proofs.Doing.{numbered, Grown, drawn_does, grown_one}
 
 -- other numbers leave a state sound
 pub renumbered : (s : State) → IsSound s → (next parts : ℕ) → IsSound (numbered s next parts)

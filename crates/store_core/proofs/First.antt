@@ -1,10 +1,9 @@
 -- The projection that is moved out first.
-use Rattle.std.proofs.Common.{◌≡◌, ◌<◌, ◌⊎◌, inl, inr, ℕ, zero, suc, length, get_or, arith, Bool, true, false, cond, List, [], ◌∷◌, map, filter, refl, sym, ◌∙◌, ap, ap₂, subst}
-use Rattle.std.specs.Prelude.{◌&&◌, not, find, is_some, Result, Ok, Err, Option, Some, None, option_map, option_and_then, IfOk, OnOk, IsErrOf, IsSomeAnd}
+use Rattle.std.proofs.Common.{◌≡◌, ◌<◌, inl, inr, ℕ, zero, suc, length, get_or, arith, Bool, true, false, cond, List, [], ◌∷◌, map, refl, sym, ◌∙◌, ap, subst}
+use Rattle.std.specs.Prelude.{◌&&◌, not, find, is_some, Result, Ok, Err, Option, Some, None, option_map, option_and_then, IsErrOf, IsSomeAnd}
 use Rattle.std.specs.List.{All, list_all, slice_get}
 use Rattle.std.proofs.lemmas.List.Elements.{All-head, All-tail, filter_passes}
 use Rattle.common_laws.specs.Maps.{Contents}
-use Rattle.col_disk.specs.Moved.{Leaves}
 use Rattle.col_disk.specs.declared.disk.Disk.{Ghosts}
 use Rattle.col_disk.specs.declared.disk.StoreFault.{StoreFault}
 use Rattle.col_disk.specs.declared.disk.StoreFault.TheVariants as fault
@@ -15,7 +14,7 @@ use Rattle.catalog_types.specs.declared.catalogue.Table as kept
 use Rattle.stored_rows.specs.Stored.{Projected}
 use Rattle.db_model.specs.Database.{Database, Shape, Table, is_behind}
 use Rattle.db_model.specs.State.{State, Changes}
-use Rattle.db_model.specs.Mover.{behind, first_behind, moved_one, moves_first, reached_to, with_change, MovesFirst}
+use Rattle.db_model.specs.Mover.{first_behind, moved_one, moves_first, reached_to, with_change, MovesFirst}
 use Rattle.db_model.specs.Numbers.{IsDrawn}
 use Rattle.folder_model.specs.Projections.{shape_of}
 use Rattle.folder_model.specs.Tables.{StandForTables, AreDatabase}
@@ -24,13 +23,12 @@ use Rattle.mover_policy.specs.declared.first.Place.{Place}
 use Rattle.mover_policy.specs.First.{all_projections, behind_in, first_in, projection_at, shape_at}
 use Rattle.mover_policy.proofs.Shapes.{behind_are}
 use Rattle.mover_policy.proofs.ByName.{moved_by_name}
-use Rattle.store_commit.specs.Seen.{Seen, Stands}
+use Rattle.store_commit.specs.Seen.{Seen}
 use Rattle.store_commit.specs.Making.{ReopensToEither, Makes}
-use Rattle.table_store.specs.Held.{at_epoch}
 use Rattle.table_store.specs.Moving.{IsFreshAt}
 use Rattle.table_store.proofs.Standing.{reads_only}
 use Rattle.store_core.specs.Running.{Running, running, IsState}
-use Rattle.store_core.specs.Events.{BeforeOrAfter, Does, MovesIf, MovesFirstOf}
+use Rattle.store_core.specs.Events.{BeforeOrAfter, Does, MovesFirstOf}
 use Rattle.store_core.proofs.Events.{moved_state}
 
 -- ---- what the search found

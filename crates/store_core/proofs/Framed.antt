@@ -1,5 +1,5 @@
 -- The frame of a running store.
-use Rattle.std.proofs.Common.{◌≡◌, ℕ, List, sym, subst}
+use Rattle.std.proofs.Common.{◌≡◌, ℕ, List, subst}
 use Rattle.catalog_types.specs.declared.catalogue.Table as kept
 use Rattle.db_model.specs.State.{State, Changes}
 use Rattle.statement_plan.specs.Bare.{bare_state, IsBare}

@@ -1,17 +1,15 @@
 -- A store that was opened.
-use Rattle.std.proofs.Common.{◌≡◌, ◌+◌, ◌≤◌, ℕ, List, [], ◌∷◌, length, refl, sym, subst, arith}
+use Rattle.std.proofs.Common.{◌≡◌, ◌+◌, ◌≤◌, ℕ, List, [], ◌∷◌, length, refl, sym, arith}
 use Rattle.std.specs.List.{All}
 use Rattle.std.proofs.lemmas.List.Elements.{All-cons, All-nil, All-weaker}
 use Rattle.col_disk.specs.declared.disk.Disk.{Ghosts}
 use Rattle.catalog_types.specs.declared.catalogue.Projection.{Projection}
 use Rattle.catalog_types.specs.declared.catalogue.Table as kept
-use Rattle.catalog_types.specs.declared.catalogue.Catalogue.{Catalogue}
 use Rattle.db_model.specs.Database.{Database}
 use Rattle.db_model.specs.State.{Changes, idle_sessions, opened_with}
 use Rattle.db_laws.proofs.Sounds.{opened_sound}
 use Rattle.store_commit.specs.Seen.{Seen, Stands}
-use Rattle.table_store.specs.Drawing.{FewContainers}
-use Rattle.store_core.specs.Running.{Running, running, IsState}
+use Rattle.store_core.specs.Running.{running, IsState}
 
 abbrev HasFew : ℕ → Projection → Type 0
 HasFew n p = length p.containers ≤ n

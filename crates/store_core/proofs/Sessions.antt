@@ -1,16 +1,15 @@
 -- What is done to the sessions, over a running store.
-use Rattle.std.proofs.Common.{◌≡◌, ◌+◌, ◌-◌, ◌≤◌, ◌⊎◌, inl, inr, ℕ, Bool, true, false, cond, List, [], length, set, refl, sym, ◌∙◌, ap, ap₂, subst}
-use Rattle.std.specs.Prelude.{Result, Ok, Err, Some, None, OnOk, IsErrOf, slice_set}
-use Rattle.std.specs.List.{All, slice_index_or}
+use Rattle.std.proofs.Common.{◌≡◌, ◌-◌, inl, inr, ℕ, Bool, true, false, cond, List, [], refl, sym, ◌∙◌, ap, ap₂, subst}
+use Rattle.std.specs.Prelude.{Result, Ok, Err, OnOk, slice_set}
+use Rattle.std.specs.List.{slice_index_or}
 use Rattle.common_laws.specs.Maps.{Contents}
-use Rattle.col_disk.specs.Moved.{Leaves}
 use Rattle.col_disk.specs.declared.disk.Disk.{Ghosts}
 use Rattle.col_disk.specs.declared.disk.StoreFault.{StoreFault}
 use Rattle.col_disk.specs.declared.disk.StoreFault.TheVariants as fault
 use Rattle.col_disk.proofs.Moving.{leaves_wider, moved_none}
 use Rattle.catalog_types.specs.declared.catalogue.Catalogue.{Catalogue}
 use Rattle.col_value.specs.declared.value.Value.{Value}
-use Rattle.db_model.specs.Database.{Database, Table, table_named}
+use Rattle.db_model.specs.Database.{Database}
 use Rattle.db_model.specs.State.{State, Changes, own_changes, with_changes, with_rows, has_changes, committed}
 use Rattle.db_model.specs.Events.{changes_committed, changes_dropped, rows_pending}
 use Rattle.db_model.specs.Sound.{IsSoundDatabase, IsSoundSession, IsSound}

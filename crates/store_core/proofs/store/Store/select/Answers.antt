@@ -1,7 +1,4 @@
-use Rattle.std.specs.Prelude.{IsErrOf}
 use Rattle.std.proofs.lemmas.Result.{IfOk-weaker, IfErr-weaker, on_ok_weaker}
-use Rattle.std.proofs.Common.{sym, subst}
-use Rattle.sql_bound.specs.Outputs.{IsSumTooGreat}
 use Rattle.store_core.specs.Running.{running}
 use Rattle.store_core.proofs.Asking.{can_read, rows_same, listed_so, too_great, not_too_great}
 use Rattle.store_core.proofs.Events.{viewed}
