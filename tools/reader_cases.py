@@ -5,6 +5,7 @@ The places come from the grammar alone: from its productions, as a general parse
 tools/reader_cases.py > crates/reader_cases/stdin
 """
 import random
+import re
 
 GRAMMAR = '''
 statement = CREATE TABLE name ( columns )
@@ -62,7 +63,14 @@ set = name = expr
 where =
 where = WHERE expr
 function = GET_LAST_GOOD_EPOCH ( )
+function = GET_AHM_EPOCH ( )
 function = GET_CURRENT_EPOCH ( )
+function = MAKE_AHM_NOW ( )
+function = START_REFRESH ( )
+function = SET_AHM_EPOCH ( int )
+function = DO_TM_TASK ( task )
+function = PURGE_TABLE ( spelled )
+function = REFRESH ( spelled )
 query = items FROM sources where groupby having orderby limit
 items = *
 items = list
@@ -168,14 +176,20 @@ START = 'statement'
 # Tokens of a class: what is written, and the classes of the grammar that it is.
 SAMPLES = {
     'name': ['t', 'Sale', '_x1', 'inte'], 'text': ["'a'", "''", "'it''s; -- no'"], 'int': ['0', '7', '00099', '170141183460469231731687303715884105727'],
-    'width': ['0', '20', '4294967295'], 'eight': ['1', '8'],
+    'width': ['0', '20', '4294967295'], 'eight': ['1', '8'], 'task': ["'moveout'", "'mergeout'"], 'spelled': ["'t'", "'Sale'", "'_x1'", "'moveout'"],
 }
+
+# Texts for the functions that take one: tasks, names, and what is nearly one.
+TEXTS = '''moveout mergeout Moveout MERGEOUT moveout_ mergeou t T Sale _ _x1 a9 inte 9 9t t.u t''u t; t--x -- é té select REFRESH purge_table Lateral'''.split()
+TEXTS = ["'" + text + "'" for text in TEXTS] + ["''", "' moveout'", "'mergeout '", "' t'", "'t '", "'t u'", "'t-- u'"]
 
 
 def classes(token):
     """The terminals of the grammar that a token is."""
     if token[0] == "'":
-        return {'text'}
+        inner = token[1:-1]
+        is_name = re.fullmatch('[A-Za-z_][A-Za-z0-9_]*', inner) and inner.upper() not in KEYWORDS
+        return {'text'} | ({'task'} if inner in ('moveout', 'mergeout') else set()) | ({'spelled'} if is_name else set())
     if token.isdigit():
         n = int(token)
         return {'int'} | ({'width'} if n < 2 ** 32 else set()) | ({'eight'} if 1 <= n <= 8 else set())
@@ -290,6 +304,8 @@ def main():
             for x in body:
                 tokens += sentence(x, rng.choice([3, 7, 12]), rng) if x in RULES else [rng.choice(SAMPLES[x]) if x in SAMPLES else x]
             sentences.append(tokens)
+    for body in RULES['function']:
+        sentences.append(['SELECT'] + [rng.choice(SAMPLES[x]) if x in SAMPLES else x for x in body])
     sentences.sort(key=len)
     seen = set()
     for tokens in sentences:
@@ -303,6 +319,14 @@ def main():
             seen.add(front)
             add(tokens[:k])
             add(tokens[:k] + [rng.choice(wrong)] + tokens[k:k + 2])
+    # what a function's parentheses hold
+    for function in ('SET_AHM_EPOCH', 'DO_TM_TASK', 'PURGE_TABLE', 'REFRESH', 'MAKE_AHM_NOW'):
+        for held in TEXTS if function != 'MAKE_AHM_NOW' else TEXTS[:2]:
+            add(['SELECT', function, '(', held, ')'])
+        for held in (['7'], ['-', '7'], ['t'], ['LATEST'], ["'t'", ',', "'t'"], ["'moveout'", 'AND']):
+            add(['SELECT', function, '('] + held + [')'])
+        add(['SELECT', function, 'FROM', 't'])
+        add(['SELECT', '(', function, '(', ')', ')'])
     # parentheses: 32 may stand in one another
     for n in (31, 32, 33, 40):
         text = ['SELECT'] + ['('] * n + ['a'] + [')'] * n + ['FROM', 't']

@@ -14,13 +14,13 @@ use Rattle.sql_tree.specs.declared.statement.NewPart.{NewPart}
 use Rattle.sql_tree.specs.declared.statement.Setting.{Setting}
 use Rattle.sql_tree.specs.declared.statement.Statement.{Statement}
 use Rattle.sql_tree.specs.declared.tree.Tree.{Tree}
-use Rattle.sql_tree.specs.Spells.{Kind, NotNull, NewColumns, CreatesTable, EncodingName, Encoded, NewParts, SortedBy, CreatesProjection, Creates, Drops, Tuple, Inserts, Deletes, Sets, Updates, Copies, Calls, Selects, Epochs, SelectsAt, Explains, Sessions, Controls, Spells}
+use Rattle.sql_tree.specs.Spells.{Kind, NotNull, NewColumns, CreatesTable, EncodingName, Encoded, NewParts, SortedBy, CreatesProjection, Creates, Drops, Tuple, Inserts, Deletes, Sets, Updates, Copies, Bare, SetsAhm, Tasks, Purges, Refreshes, Calls, Selects, Epochs, SelectsAt, Explains, Sessions, Controls, Spells}
 use Rattle.sql_phrases.specs.Classes.{Class, in_set, name_classes, number_classes, call_classes}
-use Rattle.sql_phrases.specs.Readers.{kind, not_null, new_column, creates_table, encoding_name, encoded, new_part, sorted_by, creates_projection, creates, drops, tuple, inserts, deletes, sets, updates, copies, calls, selects, epochs, selects_at, explains, sessions, controls, reads}
+use Rattle.sql_phrases.specs.Readers.{kind, not_null, new_column, creates_table, encoding_name, encoded, new_part, sorted_by, creates_projection, creates, drops, tuple, inserts, deletes, sets, updates, copies, bare, sets_ahm, tasks, purges, refreshes, calls, selects, epochs, selects_at, explains, sessions, controls, reads}
 use Rattle.sql_phrases.proofs.Agains.{again_one_value}
 use Rattle.sql_phrases.proofs.Goods.{Good, good_nothing, good_key, good_sign, good_back, good_then, good_made, good_wider}
 use Rattle.sql_phrases.proofs.Shapes.{good_at_key, good_at_back, good_at_set, good_inside, good_listed}
-use Rattle.sql_phrases.proofs.Picks.{good_name, good_number, good_text, good_width, good_session}
+use Rattle.sql_phrases.proofs.Picks.{good_name, good_number, good_text, good_width, good_session, good_task, good_table}
 use Rattle.sql_phrases.proofs.GoodExpressions.{good_literal, good_expr}
 use Rattle.sql_phrases.proofs.GoodQueries.{good_where, good_queries}
 use Rattle.sql_phrases.proofs.Sets.{of_keys, over_more, where_more, query_more, kind_first, encoding_first, sorted_more, control_first, statement_first}
@@ -107,9 +107,29 @@ pub good_copies : Good Copies copies (of_keys (Key.Copy ∷ [])) false []
 unfolding copies
 good_copies = good_key Key.Copy (good_then refl good_name (λ t. good_key Key.From (good_made (λ f. Statement.Copy t f) good_text)))
 
+pub good_bare : (k : Key) (f : Function) → Good (Bare k f) (bare k f) (Class.OfKey k ∷ []) false []
+unfolding bare
+good_bare k f = good_key k (good_sign Sign.Open (good_sign Sign.Close (good_nothing f)))
+
+pub good_sets_ahm : Good SetsAhm sets_ahm (of_keys (Key.SetAhmEpoch ∷ [])) false []
+unfolding sets_ahm
+good_sets_ahm = good_key Key.SetAhmEpoch (good_made (λ n. Function.SetAhm n) (good_inside refl good_number))
+
+pub good_tasks : Good Tasks tasks (of_keys (Key.DoTmTask ∷ [])) false []
+unfolding tasks
+good_tasks = good_key Key.DoTmTask (good_inside refl good_task)
+
+pub good_purges : Good Purges purges (of_keys (Key.PurgeTable ∷ [])) false []
+unfolding purges
+good_purges = good_key Key.PurgeTable (good_made (λ t. Function.Purge t) (good_inside refl good_table))
+
+pub good_refreshes : Good Refreshes refreshes (of_keys (Key.Refresh ∷ [])) false []
+unfolding refreshes
+good_refreshes = good_key Key.Refresh (good_made (λ t. Function.Refresh t) (good_inside refl good_table))
+
 pub good_calls : Good Calls calls call_classes false []
 unfolding calls
-good_calls = good_at_key Key.GetLastGoodEpoch refl (good_key Key.GetLastGoodEpoch (good_sign Sign.Open (good_sign Sign.Close (good_nothing Function.Lge)))) (good_key Key.GetCurrentEpoch (good_sign Sign.Open (good_sign Sign.Close (good_nothing Function.Current))))
+good_calls = good_at_key Key.GetLastGoodEpoch refl (good_bare Key.GetLastGoodEpoch Function.Lge) (good_at_key Key.GetAhmEpoch refl (good_bare Key.GetAhmEpoch Function.Ahm) (good_at_key Key.GetCurrentEpoch refl (good_bare Key.GetCurrentEpoch Function.Current) (good_at_key Key.MakeAhmNow refl (good_bare Key.MakeAhmNow Function.MakeAhmNow) (good_at_key Key.StartRefresh refl (good_bare Key.StartRefresh Function.StartRefresh) (good_at_key Key.SetAhmEpoch refl good_sets_ahm (good_at_key Key.DoTmTask refl good_tasks (good_at_key Key.PurgeTable refl good_purges good_refreshes)))))))
 
 pub good_selects : Good Selects selects (of_keys (Key.Select ∷ [])) false query_more
 unfolding selects

@@ -1,10 +1,12 @@
 -- The symbols that carry values are good.
-use Rattle.std.proofs.Common.{◌≡◌, ℕ, false, true, List, [], Some, refl}
+use Rattle.std.proofs.Common.{◌≡◌, ℕ, false, true, List, [], Some, codes, refl}
 use Rattle.sql_words.specs.declared.token.Sign.{Sign}
 use Rattle.sql_words.specs.Symbols.{Symbol}
+use Rattle.sql_words.specs.Words.{key_in, key_of, piece_of}
+use Rattle.sql_tree.specs.declared.statement.Function.{Function}
 use Rattle.sql_tree.specs.declared.tree.Cmp.{Cmp}
 use Rattle.sql_tree.specs.Phrases.{One}
-use Rattle.sql_tree.specs.Symbols.{name_of, text_of, number_of, width_of, session_of, compares, cmp_of}
+use Rattle.sql_tree.specs.Symbols.{name_of, text_of, number_of, width_of, session_of, task_named, task_of, table_named, table_of, compares, cmp_of}
 use Rattle.sql_phrases.specs.Readings.{one}
 use Rattle.sql_phrases.specs.Classes.{in_set, name_classes, text_classes, number_classes, cmp_classes}
 use Rattle.sql_phrases.proofs.Goods.{Good, good_one}
@@ -68,6 +70,38 @@ session_only Symbol.Unknown w h = cc
 
 pub good_session : Good (One session_of) (one session_of) number_classes false []
 good_session = good_one session_of number_classes (Symbol.Number 1) 1 refl session_only
+
+task_only : (u : Symbol) (w : Function) → task_of u ≡ Some w → in_set text_classes u ≡ true
+task_only (Symbol.Keyword k) w h = cc
+task_only (Symbol.Name n) w h = cc
+task_only (Symbol.Number n) w h = cc
+task_only (Symbol.Text t) w h = refl
+task_only (Symbol.Mark s) w h = cc
+task_only (Symbol.Command b) w h = cc
+task_only Symbol.Unknown w h = cc
+
+some_task : task_named (codes "moveout") ≡ Some Function.Moveout
+unfolding task_named
+some_task = refl
+
+pub good_task : Good (One task_of) (one task_of) text_classes false []
+good_task = good_one task_of text_classes (Symbol.Text (codes "moveout")) Function.Moveout some_task task_only
+
+table_only : (u : Symbol) (w : List ℕ) → table_of u ≡ Some w → in_set text_classes u ≡ true
+table_only (Symbol.Keyword k) w h = cc
+table_only (Symbol.Name n) w h = cc
+table_only (Symbol.Number n) w h = cc
+table_only (Symbol.Text t) w h = refl
+table_only (Symbol.Mark s) w h = cc
+table_only (Symbol.Command b) w h = cc
+table_only Symbol.Unknown w h = cc
+
+some_table : table_named (codes "t") ≡ Some (codes "t")
+unfolding table_named piece_of key_of key_in
+some_table = refl
+
+pub good_table : Good (One table_of) (one table_of) text_classes false []
+good_table = good_one table_of text_classes (Symbol.Text (codes "t")) (codes "t") some_table table_only
 
 sign_compares : (s : Sign) (w : Cmp) → compares s ≡ Some w → in_set cmp_classes (Symbol.Mark s) ≡ true
 sign_compares Sign.Open w h = cc

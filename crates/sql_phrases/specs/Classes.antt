@@ -108,4 +108,4 @@ source_classes = Class.OfSign Sign.Comma ∷ (Class.OfKey Key.Inner ∷ (Class.O
 
 -- what begins the call of a function
 abbrev pub call_classes : List Class
-call_classes = Class.OfKey Key.GetLastGoodEpoch ∷ (Class.OfKey Key.GetCurrentEpoch ∷ [])
+call_classes = Class.OfKey Key.GetLastGoodEpoch ∷ (Class.OfKey Key.GetAhmEpoch ∷ (Class.OfKey Key.GetCurrentEpoch ∷ (Class.OfKey Key.MakeAhmNow ∷ (Class.OfKey Key.StartRefresh ∷ (Class.OfKey Key.SetAhmEpoch ∷ (Class.OfKey Key.DoTmTask ∷ (Class.OfKey Key.PurgeTable ∷ (Class.OfKey Key.Refresh ∷ []))))))))

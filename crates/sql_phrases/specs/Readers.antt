@@ -25,7 +25,7 @@ use Rattle.sql_tree.specs.declared.tree.AggKind.{AggKind}
 use Rattle.sql_tree.specs.declared.tree.ColRef.{ColRef}
 use Rattle.sql_tree.specs.declared.tree.Tree.{Tree}
 use Rattle.sql_tree.specs.declared.tree.Tree
-use Rattle.sql_tree.specs.Symbols.{name_of, text_of, number_of, width_of, session_of, cmp_of}
+use Rattle.sql_tree.specs.Symbols.{name_of, text_of, number_of, width_of, session_of, task_of, table_of, cmp_of}
 use Rattle.sql_tree.specs.Makers.{constant, column, negated, denied, is_null, compared, between, one_of, chained, addend, summed, count_all, aggregated}
 use Rattle.sql_tree.specs.Queries.{joined_on}
 use Rattle.sql_phrases.specs.Readings.{Read, one, nothing, both, choose, refuse, mark, many}
@@ -259,8 +259,23 @@ updates = word Key.Update (both (one name_of) (λ t. word Key.Set (both (listed 
 unfoldable pub copies : Reads Statement
 copies = word Key.Copy (both (one name_of) (λ t. word Key.From (both (one text_of) (λ f. nothing (Statement.Copy t f)))))
 
+unfoldable pub bare : Key → Function → Reads Function
+bare k f = word k (glyph Sign.Open (glyph Sign.Close (nothing f)))
+
+unfoldable pub sets_ahm : Reads Function
+sets_ahm = word Key.SetAhmEpoch (both (inside (one number_of)) (λ n. nothing (Function.SetAhm n)))
+
+unfoldable pub tasks : Reads Function
+tasks = word Key.DoTmTask (inside (one task_of))
+
+unfoldable pub purges : Reads Function
+purges = word Key.PurgeTable (both (inside (one table_of)) (λ t. nothing (Function.Purge t)))
+
+unfoldable pub refreshes : Reads Function
+refreshes = word Key.Refresh (both (inside (one table_of)) (λ t. nothing (Function.Refresh t)))
+
 unfoldable pub calls : Reads Function
-calls = choose (is_key Key.GetLastGoodEpoch) (word Key.GetLastGoodEpoch (glyph Sign.Open (glyph Sign.Close (nothing Function.Lge)))) (word Key.GetCurrentEpoch (glyph Sign.Open (glyph Sign.Close (nothing Function.Current))))
+calls = choose (is_key Key.GetLastGoodEpoch) (bare Key.GetLastGoodEpoch Function.Lge) (choose (is_key Key.GetAhmEpoch) (bare Key.GetAhmEpoch Function.Ahm) (choose (is_key Key.GetCurrentEpoch) (bare Key.GetCurrentEpoch Function.Current) (choose (is_key Key.MakeAhmNow) (bare Key.MakeAhmNow Function.MakeAhmNow) (choose (is_key Key.StartRefresh) (bare Key.StartRefresh Function.StartRefresh) (choose (is_key Key.SetAhmEpoch) sets_ahm (choose (is_key Key.DoTmTask) tasks (choose (is_key Key.PurgeTable) purges refreshes)))))))
 
 unfoldable pub selects : Reads Statement
 selects = word Key.Select (choose (in_set call_classes) (both calls (λ f. nothing (Statement.Call f))) (both queries (λ q. nothing (Statement.Select At.View q))))

@@ -2,14 +2,15 @@
 #![tactic(auto)]
 
 ghost use Rattle.std.specs.Prelude.{◌≡◌, ◌<◌, ◌^◌, IfOk};
-ghost use Rattle.sql_tree.specs.Symbols.{name_of, text_of, number_of, width_of, session_of, cmp_of, compares};
+ghost use Rattle.sql_tree.specs.Symbols.{name_of, text_of, number_of, width_of, session_of, task_of, table_of, cmp_of, compares};
 ghost use Rattle.sql_phrases.specs.Readings.{one, the};
 ghost use Rattle.sql_phrases.specs.Classes.{is_key, is_sign, is_back};
 ghost use Rattle.sql_phrases.specs.Gives.{Gives};
 
+use crate::texts::{table_named, task_named};
 use crate::{Stop, Tokens};
 use col_value::{Name, Text};
-use sql_tree::Cmp;
+use sql_tree::{Cmp, Function};
 use sql_words::{Back, Key, Sign, TokenKind, name_bytes, number_at, text_bytes};
 use std::alloc::Global;
 
@@ -176,6 +177,52 @@ impl<'a> Tokens<'a> {
                     }
                     None => Err(Stop::Here),
                 },
+                _ => Err(Stop::Here),
+            },
+            [] => Err(Stop::Here),
+        }
+    }
+
+    /// Takes the text of DO_TM_TASK.
+    #[tactic(auto, unfolding(crate::specs::Readings::one))]
+    pub fn task(&mut self, alloc: Global) -> Result<Function, Stop>
+        ensures { Gives result self.new (one task_of self.old) }
+    {
+        match self.left {
+            [token, rest @ ..] => match token.kind {
+                TokenKind::Text => {
+                    let bytes = text_bytes(alloc, self.text, token)?;
+                    match task_named(bytes.as_slice()) {
+                        Some(task) => {
+                            self.left = rest;
+                            Ok(task)
+                        }
+                        None => Err(Stop::Here),
+                    }
+                }
+                _ => Err(Stop::Here),
+            },
+            [] => Err(Stop::Here),
+        }
+    }
+
+    /// Takes a text that is the name of a table, in lower case.
+    #[tactic(auto, unfolding(crate::specs::Readings::one))]
+    pub fn table(&mut self, alloc: Global) -> Result<Name, Stop>
+        ensures { Gives result self.new (one table_of self.old) }
+    {
+        match self.left {
+            [token, rest @ ..] => match token.kind {
+                TokenKind::Text => {
+                    let bytes = text_bytes(alloc, self.text, token)?;
+                    match table_named(alloc, bytes.as_slice())? {
+                        Some(name) => {
+                            self.left = rest;
+                            Ok(name)
+                        }
+                        None => Err(Stop::Here),
+                    }
+                }
                 _ => Err(Stop::Here),
             },
             [] => Err(Stop::Here),

@@ -10,6 +10,7 @@
 mod leaves;
 mod list;
 mod stop;
+mod texts;
 mod tokens;
 
 pub use list::{Spelled, listed};

@@ -191,7 +191,19 @@ impl<'a> Tokens<'a> {
     {
         match self.left {
             [token, ..] => match token.kind {
-                TokenKind::Word(Some(Key::GetLastGoodEpoch | Key::GetCurrentEpoch)) => true,
+                TokenKind::Word(
+                    Some(
+                        Key::GetLastGoodEpoch
+                        | Key::GetAhmEpoch
+                        | Key::GetCurrentEpoch
+                        | Key::MakeAhmNow
+                        | Key::StartRefresh
+                        | Key::SetAhmEpoch
+                        | Key::DoTmTask
+                        | Key::PurgeTable
+                        | Key::Refresh,
+                    ),
+                ) => true,
                 _ => false,
             },
             [] => false,

@@ -6,6 +6,7 @@
 //! exact one, by `IsPlace`. Time is linear in the tokens; lists are read by loops.
 #![tactic(auto)]
 
+mod calls;
 mod changes;
 mod clauses;
 mod creations;

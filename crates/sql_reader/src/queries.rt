@@ -1,11 +1,12 @@
 ghost use Rattle.sql_phrases.specs.Gives.{Gives};
-ghost use Rattle.sql_phrases.specs.Readers.{select_item, select_list, queries, calls, selects, epochs, selects_at, explains};
+ghost use Rattle.sql_phrases.specs.Readers.{select_item, select_list, queries, selects, epochs, selects_at, explains};
 
+use crate::calls::calls;
 use crate::clauses::{alias, group_by, having, limit, order_by, where_clause};
 use crate::sources::sources;
 use sql_expr::grouped_expr;
 use sql_phrases::{Spelled, Stop, Tokens, listed};
-use sql_tree::{At, Function, Item, Items, Query, Statement};
+use sql_tree::{At, Item, Items, Query, Statement};
 use sql_words::{Key, Sign};
 use std::alloc::Global;
 
@@ -68,23 +69,6 @@ fn query(alloc: Global, tokens: &mut Tokens<'_>) -> Result<Query, Stop>
     })
 }
 
-/// `GET_LAST_GOOD_EPOCH ( ) | GET_CURRENT_EPOCH ( )`
-#[tactic(auto, unfolding(sql_phrases::specs::Readings::choose, sql_phrases::specs::Readings::mark, sql_phrases::specs::Readings::both, sql_phrases::specs::Readings::nothing, sql_phrases::specs::Readers::calls))]
-fn calls(tokens: &mut Tokens<'_>) -> Result<Function, Stop>
-    ensures { Gives result tokens.new (calls tokens.old) }
-{
-    if tokens.begins_key(Key::GetLastGoodEpoch) {
-        tokens.key(Key::GetLastGoodEpoch)?;
-        tokens.sign(Sign::Open)?;
-        tokens.sign(Sign::Close)?;
-        return Ok(Function::Lge);
-    }
-    tokens.key(Key::GetCurrentEpoch)?;
-    tokens.sign(Sign::Open)?;
-    tokens.sign(Sign::Close)?;
-    Ok(Function::Current)
-}
-
 /// `SELECT (function | query)`
 #[tactic(auto, unfolding(sql_phrases::specs::Readings::choose, sql_phrases::specs::Readings::mark, sql_phrases::specs::Readings::both, sql_phrases::specs::Readings::nothing, sql_phrases::specs::Readers::selects))]
 pub fn selects(alloc: Global, tokens: &mut Tokens<'_>) -> Result<Statement, Stop>
@@ -92,7 +76,7 @@ pub fn selects(alloc: Global, tokens: &mut Tokens<'_>) -> Result<Statement, Stop
 {
     tokens.key(Key::Select)?;
     if tokens.begins_call() {
-        let function = calls(tokens)?;
+        let function = calls(alloc, tokens)?;
         return Ok(Statement::Call(function));
     }
     let query = query(alloc, tokens)?;

@@ -13,7 +13,7 @@ use Rattle.sql_tree.specs.declared.statement.NewPart.{NewPart}
 use Rattle.sql_tree.specs.declared.statement.Setting.{Setting}
 use Rattle.sql_tree.specs.declared.statement.Statement.{Statement}
 use Rattle.sql_tree.specs.Phrases.{One, Nothing, Then, Either}
-use Rattle.sql_tree.specs.Symbols.{Spelling, Word, Glyph, Command, Inside, Listed, name_of, text_of, number_of, width_of, session_of}
+use Rattle.sql_tree.specs.Symbols.{Spelling, Word, Glyph, Command, Inside, Listed, name_of, text_of, number_of, width_of, session_of, task_of, table_of}
 use Rattle.sql_tree.specs.Expressions.{Literal, Expr}
 use Rattle.sql_tree.specs.Queries.{Where, Queries}
 
@@ -85,9 +85,30 @@ Updates = Word Key.Update (Then (One name_of) (λ t. Word Key.Set (Then (Listed 
 abbrev pub Copies : Spelling Statement
 Copies = Word Key.Copy (Then (One name_of) (λ t. Word Key.From (Then (One text_of) (λ f. Nothing (Statement.Copy t f)))))
 
--- function = GET_LAST_GOOD_EPOCH ( ) | GET_CURRENT_EPOCH ( )
+-- the name of a function, then ( )
+abbrev pub Bare : Key → Function → Spelling Function
+Bare k f = Word k (Glyph Sign.Open (Glyph Sign.Close (Nothing f)))
+
+-- SET_AHM_EPOCH ( int )
+abbrev pub SetsAhm : Spelling Function
+SetsAhm = Word Key.SetAhmEpoch (Then (Inside (One number_of)) (λ n. Nothing (Function.SetAhm n)))
+
+-- DO_TM_TASK ( text )
+abbrev pub Tasks : Spelling Function
+Tasks = Word Key.DoTmTask (Inside (One task_of))
+
+-- PURGE_TABLE ( text )
+abbrev pub Purges : Spelling Function
+Purges = Word Key.PurgeTable (Then (Inside (One table_of)) (λ t. Nothing (Function.Purge t)))
+
+-- REFRESH ( text )
+abbrev pub Refreshes : Spelling Function
+Refreshes = Word Key.Refresh (Then (Inside (One table_of)) (λ t. Nothing (Function.Refresh t)))
+
+-- function = GET_LAST_GOOD_EPOCH ( ) | GET_AHM_EPOCH ( ) | GET_CURRENT_EPOCH ( ) | MAKE_AHM_NOW ( ) | START_REFRESH ( )
+--          | SET_AHM_EPOCH ( int ) | DO_TM_TASK ( text ) | PURGE_TABLE ( text ) | REFRESH ( text )
 abbrev pub Calls : Spelling Function
-Calls = Either (Word Key.GetLastGoodEpoch (Glyph Sign.Open (Glyph Sign.Close (Nothing Function.Lge)))) (Word Key.GetCurrentEpoch (Glyph Sign.Open (Glyph Sign.Close (Nothing Function.Current))))
+Calls = Either (Bare Key.GetLastGoodEpoch Function.Lge) (Either (Bare Key.GetAhmEpoch Function.Ahm) (Either (Bare Key.GetCurrentEpoch Function.Current) (Either (Bare Key.MakeAhmNow Function.MakeAhmNow) (Either (Bare Key.StartRefresh Function.StartRefresh) (Either SetsAhm (Either Tasks (Either Purges Refreshes)))))))
 
 -- SELECT (function | query)
 abbrev pub Selects : Spelling Statement

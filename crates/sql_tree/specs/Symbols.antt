@@ -1,9 +1,12 @@
 -- What one symbol spells, and the words of the grammar over symbols.
-use Rattle.std.specs.Prelude.{ℕ, ◌^◌, ◌&&◌, nat_lt, nat_le, if◌then◌else◌, Bool, List, ◌∷◌, Option, Some, None}
+use Rattle.std.specs.Prelude.{ℕ, ◌^◌, ◌-◌, ◌==◌, ◌&&◌, nat_lt, nat_le, if◌then◌else◌, Bool, List, [], ◌∷◌, length, Option, Some, None, bytes_eq, codes}
 use Rattle.sql_words.specs.declared.token.Key.{Key}
 use Rattle.sql_words.specs.declared.token.Sign.{Sign}
 use Rattle.sql_words.specs.declared.token.Back.{Back}
-use Rattle.sql_words.specs.Symbols.{Symbol}
+use Rattle.sql_words.specs.declared.token.Token.{Token}
+use Rattle.sql_words.specs.Symbols.{Symbol, symbol_of}
+use Rattle.sql_words.specs.Words.{tokens_of}
+use Rattle.sql_tree.specs.declared.statement.Function.{Function}
 use Rattle.sql_tree.specs.declared.tree.Cmp.{Cmp}
 use Rattle.sql_tree.specs.Phrases.{Phrase, Mark, Nothing, Then, Chain}
 
@@ -70,6 +73,40 @@ width_of t = kept (λ n. nat_lt n (2 ^ 32)) (number_of t)
 -- the number of a session: 1 to 8
 abbrev pub session_of : Symbol → Option ℕ
 session_of t = kept (λ n. nat_le 1 n && nat_le n 8) (number_of t)
+
+-- the task that a text names, in lower case
+unfoldable pub task_named : List ℕ → Option Function
+task_named text = if bytes_eq text (codes "moveout") then Some Function.Moveout else (if bytes_eq text (codes "mergeout") then Some Function.Mergeout else None)
+
+-- the text of DO_TM_TASK
+abbrev pub task_of : Symbol → Option Function
+task_of (Symbol.Keyword k) = None
+task_of (Symbol.Name n) = None
+task_of (Symbol.Number n) = None
+task_of (Symbol.Text t) = task_named t
+task_of (Symbol.Mark s) = None
+task_of (Symbol.Command b) = None
+task_of Symbol.Unknown = None
+
+-- the name that a text's one token is, which stands on all bytes of the text
+abbrev pub whole_name : List ℕ → List Token → Option (List ℕ)
+whole_name text [] = None
+whole_name text (token ∷ []) = if token.end - token.start == length text then name_of (symbol_of text token) else None
+whole_name text (token ∷ (next ∷ more)) = None
+
+-- the name that a text spells, in lower case: a word that isn't reserved, and nothing before or behind it
+unfoldable pub table_named : List ℕ → Option (List ℕ)
+table_named text = whole_name text (tokens_of text)
+
+-- the text of PURGE_TABLE and REFRESH
+abbrev pub table_of : Symbol → Option (List ℕ)
+table_of (Symbol.Keyword k) = None
+table_of (Symbol.Name n) = None
+table_of (Symbol.Number n) = None
+table_of (Symbol.Text t) = table_named t
+table_of (Symbol.Mark s) = None
+table_of (Symbol.Command b) = None
+table_of Symbol.Unknown = None
 
 -- how a sign compares
 abbrev pub compares : Sign → Option Cmp

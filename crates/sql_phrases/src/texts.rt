@@ -1,0 +1,54 @@
+//! What the text of a function's call names.
+#![tactic(auto)]
+
+ghost use Rattle.std.specs.Prelude.{◌≡◌, length, All, IfOk};
+ghost use Rattle.sql_words.specs.Words.{IsWithin, tokens_of};
+ghost use Rattle.sql_tree.specs.Symbols.{task_named, table_named, whole_name};
+
+use col_value::Name;
+use sql_tree::Function;
+use sql_words::{Token, TokenKind, name_bytes, words};
+use std::alloc::{AllocError, Global};
+
+/// The task that a text names, in lower case.
+#[tactic(auto, unfolding(sql_tree::specs::Symbols::task_named))]
+pub fn task_named(text: &[u8]) -> Option<Function>
+    ensures { result ≡ task_named text.now }
+{
+    if text == b"moveout".as_slice() {
+        return Some(Function::Moveout);
+    }
+    if text == b"mergeout".as_slice() {
+        return Some(Function::Mergeout);
+    }
+    None
+}
+
+/// The name that a text spells, in lower case: a word that isn't reserved, and nothing before or behind it.
+#[tactic(auto, unfolding(sql_tree::specs::Symbols::table_named))]
+pub fn table_named(alloc: Global, text: &[u8]) -> Result<Option<Name>, AllocError>
+    ensures { IfOk result (λ n. n ≡ table_named text.now) }
+{
+    let tokens = words(alloc, text)?;
+    whole_name(alloc, text, tokens.as_slice())
+}
+
+/// The name that a text's one token is, which stands on all bytes of the text.
+fn whole_name(alloc: Global, text: &[u8], tokens: &[Token]) -> Result<Option<Name>, AllocError>
+    requires { All (IsWithin (length text.now)) tokens.now }
+    ensures { IfOk result (λ n. n ≡ whole_name text.now tokens.now) }
+{
+    match tokens {
+        [token] => match token.kind {
+            TokenKind::Word(None) => {
+                if (token.end - token.start) as usize != text.len() {
+                    return Ok(None);
+                }
+                let bytes = name_bytes(alloc, text, token)?;
+                Ok(Some(Name::new(bytes)))
+            }
+            _ => Ok(None),
+        },
+        _ => Ok(None),
+    }
+}
