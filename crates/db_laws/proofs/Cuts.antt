@@ -16,7 +16,7 @@ use Rattle.row_history.specs.History.{retained, cut_delete, cut_row, cut_rows, i
 use Rattle.row_history.proofs.Histories.{retained_cut, bag_cut, cut_append, cut_none}
 use Rattle.db_model.specs.Database.{Table, Database}
 use Rattle.db_model.specs.State.{Changes, commit_into, change_named, commit_changes, committed}
-use Rattle.db_model.specs.Kept.{moved_shape}
+use Rattle.db_model.specs.Epochs.{moved_shape}
 use Rattle.db_model.specs.Epochs.{cut_table, cut}
 use Rattle.db_model.specs.Alike.{IsAlikeTable, IsAlike}
 

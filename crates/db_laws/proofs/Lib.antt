@@ -1,6 +1,3 @@
-mod Named
-pub mod Growing
-pub mod Alike
 pub mod Goods
 pub mod NeverFalls
 pub mod Cuts

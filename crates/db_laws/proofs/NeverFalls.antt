@@ -17,8 +17,8 @@ use Rattle.db_model.specs.Events.{table_created, projection_created, table_dropp
 use Rattle.db_model.specs.Loading.{Files}
 use Rattle.db_model.specs.Mover.{MovesAll}
 use Rattle.db_model.specs.Leaving.{Leaves, RefusedLeaves, CallLeaves, RefusedCallLeaves, CopyLeaves}
-use Rattle.db_model.specs.Stepping.{Step, Effect}
-use Rattle.db_model.specs.Running.{Setting, RunTexts, Run, EndsUnless, all_dropped}
+use Rattle.db_model.specs.Step.{Step, Effect}
+use Rattle.db_model.specs.Run.{Setting, RunTexts, Run, EndsUnless, all_dropped}
 use Rattle.db_laws.proofs.Goods.{IsGood, good_least, good_itself, good_created, good_projected, good_dropped, good_bared, good_committed, good_drawn, good_all, good_mover, good_runs}
 
 same_good : (n : ℕ) (old new : State) → new ≡ old → IsGood n old.database → IsGood n new.database
@@ -106,16 +106,16 @@ effect_good n old files (Some s) (Some why) printed new (text, leaves) good = re
 effect_good n old files (Some s) None printed new (prints, leaves) good = left_good n old files s new leaves good
 effect_good n old files None None printed new none good = absurd none
 
-step_good : (n : ℕ) (old : State) (files : Files) (text printed : List ℕ) (why : Option Refusal) (new : State) → Step old files text printed why new → IsGood n old.database → IsGood n new.database
-step_good n old files text printed why new step good = effect_good n old files step.read why printed new step.effect good
+step_good : (serves : Statement → Bool) (n : ℕ) (old : State) (files : Files) (text printed : List ℕ) (why : Option Refusal) (new : State) → Step serves old files text printed why new → IsGood n old.database → IsGood n new.database
+step_good serves n old files text printed why new step good = effect_good n old files step.read why printed new step.effect good
 
-pub step_never_falls : (old : State) (files : Files) (text printed : List ℕ) (why : Option Refusal) (new : State) → Step old files text printed why new → IsSoundDatabase old.database → last_good old.database ≤ last_good new.database
-step_never_falls old files text printed why new step sound = good_least (last_good old.database) new.database (step_good (last_good old.database) old files text printed why new step (good_itself old.database sound))
+pub step_never_falls : (serves : Statement → Bool) (old : State) (files : Files) (text printed : List ℕ) (why : Option Refusal) (new : State) → Step serves old files text printed why new → IsSoundDatabase old.database → last_good old.database ≤ last_good new.database
+step_never_falls serves old files text printed why new step sound = good_least (last_good old.database) new.database (step_good serves (last_good old.database) old files text printed why new step (good_itself old.database sound))
 
 texts_good : (n : ℕ) (setting : Setting) (old : State) (texts : List (List ℕ)) (printed : List ℕ) (refused : Bool) (new : State) → RunTexts setting old texts printed refused new → IsGood n old.database → IsGood n new.database
 texts_good n setting old [] printed refused new (none, never, same) good = same_good n old new same good
 texts_good n setting old (text ∷ more) printed refused new (first, why, mid, rest, later, passes, ran, whole, any) good =
-    texts_good n setting mid more rest later new ran (good_runs n setting.steps passes.answered mid passes.mover (step_good n old setting.files text first why passes.answered passes.step good))
+    texts_good n setting mid more rest later new ran (good_runs n setting.steps passes.answered mid passes.mover (step_good setting.serves n old setting.files text first why passes.answered passes.step good))
 
 ends_good : (n : ℕ) (b : Bool) (old new : State) → EndsUnless b old new → IsGood n old.database → IsGood n new.database
 ends_good n true old new same good = same_good n old new same good

@@ -10,7 +10,7 @@ use Rattle.col_value.specs.declared.row.Stamped.{Stamped}
 use Rattle.row_history.specs.History.{cut_delete, cut_row, cut_rows}
 use Rattle.db_model.specs.Database.{Shape, Table, Database, is_super}
 use Rattle.db_model.specs.State.{Changes, idle_sessions, opened_with}
-use Rattle.db_model.specs.Kept.{moved_shape}
+use Rattle.db_model.specs.Epochs.{moved_shape}
 use Rattle.db_model.specs.Epochs.{cut_table, cut}
 use Rattle.db_model.specs.Sound.{RowFits, HasEpochs, ReachesMark, IsSoundShape, IsSoundTable, all_names, IsSoundDatabase, ChangesFit, IsSoundSession, GoTogether, IsStale, IsSound}
 

@@ -4,7 +4,4 @@
 
 mod laws;
 
-pub use laws::{
-    alike_from_the_mark, alike_is_equivalence, cuts_at_an_epoch, early_and_late,
-    last_good_never_falls, openings_are_sound, statements_only_add,
-};
+pub use laws::{alike_from_the_mark, cuts_at_an_epoch, last_good_never_falls, openings_are_sound};

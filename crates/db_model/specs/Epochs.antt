@@ -1,9 +1,8 @@
 -- The last good epoch, and a database as it was at an epoch.
-use Rattle.std.specs.Prelude.{ℕ, min, fold, List, [], ◌∷◌, map, filter}
+use Rattle.std.specs.Prelude.{ℕ, min, fold, if◌then◌else◌, List, [], ◌∷◌, map, filter}
 use Rattle.std.specs.List.{flat_map}
 use Rattle.row_history.specs.History.{cut_rows}
 use Rattle.db_model.specs.Database.{Shape, Table, Database}
-use Rattle.db_model.specs.Kept.{moved_shape}
 
 -- the projections of all tables
 abbrev pub all_shapes : List Table → List Shape
@@ -17,6 +16,10 @@ least_or other (n ∷ ns) = fold min n ns
 -- where no projection is up to date.
 abbrev pub last_good : Database → ℕ
 last_good d = least_or d.last (map (λ s. s.lge) (filter (λ s. s.fresh) (all_shapes d.tables)))
+
+-- a projection that is up to date has all its rows on disk up to the epoch
+abbrev pub moved_shape : ℕ → Shape → Shape
+moved_shape last s = if s.fresh then record s { lge = last } else s
 
 abbrev pub cut_table : ℕ → Table → Table
 cut_table epoch t = record t { rows = cut_rows epoch t.rows; shapes = map (moved_shape epoch) t.shapes }

@@ -2,7 +2,6 @@ pub mod Database
 pub mod State
 pub mod Locks
 pub mod Sound
-pub mod Kept
 pub mod Epochs
 pub mod Alike
 pub mod Choice
@@ -11,14 +10,10 @@ pub mod Events
 pub mod Loading
 pub mod Numbers
 pub mod Mover
-pub mod Forms
 pub mod Refusing
 pub mod Answers
-pub mod Step
-pub mod Run
-pub mod Growth
 pub mod Refusals
 pub mod Leaving
 pub mod Printing
-pub mod Stepping
-pub mod Running
+pub mod Step
+pub mod Run

@@ -1,21 +1,14 @@
--- Why a statement is refused. Each reason is looked for in the whole statement before the next one.
+-- Reasons to refuse that several statements share, and those of CREATE TABLE.
 use Rattle.std.specs.Prelude.{ℕ, ◌+◌, ◌&&◌, nat_lt, nat_le, if◌then◌else◌, Bool, true, false, List, [], ◌∷◌, ◌++◌, length, Option, Some, None, option_map, bytes_eq}
 use Rattle.std.specs.List.{list_any, enumerate_from}
-use Rattle.std.specs.Option.{option_map_or}
 use Rattle.col_value.specs.declared.kinds.ColType.{ColType}
-use Rattle.sql_tree.specs.declared.statement.Insert.{Insert}
 use Rattle.col_value.specs.declared.column.Column.{Column}
-use Rattle.sql_tree.specs.declared.statement.Statement.{Statement}
 use Rattle.sql_tree.specs.declared.query.At.{At}
-use Rattle.sql_tree.specs.declared.query.Query.{Query}
 use Rattle.sql_tree.specs.declared.refusal.Refusal.{Refusal}
 use Rattle.sql_tree.specs.declared.refusal.Which.{Which}
-use Rattle.sql_binder.specs.Names.{first_of}
-use Rattle.sql_binder.specs.Queries.{first_given, source_table, query_refusal, refused_where}
-use Rattle.sql_binder.specs.Inserts.{insert_refusal, stored_refusal}
+use Rattle.sql_binding.specs.Firsts.{first_of, first_given, refused_where}
 use Rattle.db_model.specs.Database.{Table, is_taken, super_name}
-use Rattle.db_model.specs.State.{State, own_changes, pending_rows, has_changes}
-use Rattle.db_model.specs.Forms.{is_built, columns_named}
+use Rattle.db_model.specs.State.{State, own_changes, has_changes}
 
 -- a name, where it is that of a table or a projection
 abbrev pub if_taken : List Table → List ℕ → Option (List ℕ)
@@ -63,34 +56,12 @@ create_refusal tables name columns = first_of (option_map Refusal.Exists (taken_
 abbrev pub rows_limit : ℕ → Option Refusal
 rows_limit rows = refused_where (nat_lt 16777216 rows) (Refusal.Limit Which.Rows 16777216)
 
--- The limit on rows is looked at before what the rows hold.
-abbrev pub insert_refusal_in : State → Insert → Option Refusal
-insert_refusal_in state i =
-    first_of (insert_refusal (columns_named i.table state.database.tables) i)
-    (first_of (rows_limit (length (pending_rows i.table (own_changes state)) + length i.rows))
-    (option_map_or (λ columns. stored_refusal columns i) (columns_named i.table state.database.tables) None))
-
 -- an epoch that lies before the ancient history mark, or in the future
 abbrev pub epoch_refusal : ℕ → ℕ → At → Option Refusal
 epoch_refusal ahm last At.View = None
 epoch_refusal ahm last At.Latest = None
 epoch_refusal ahm last (At.Epoch n) = if nat_lt n ahm then Some (Refusal.EpochTooOld n ahm) else (if nat_lt last n then Some (Refusal.EpochInFuture n last) else None)
 
-abbrev pub select_refusal : State → At → Query → Option Refusal
-select_refusal state at q = first_of (query_refusal (columns_named (source_table q) state.database.tables) q) (epoch_refusal state.database.ahm state.database.last at)
-
 -- the greatest epoch is closed, and there is something to commit
 abbrev pub commit_refusal : State → Option Refusal
 commit_refusal state = refused_where (has_changes (own_changes state) && nat_le 9223372036854775807 state.database.last) Refusal.EpochsSpent
-
--- why a statement of a form that is served is refused
-abbrev pub served_refusal : State → Statement → Option Refusal
-served_refusal state (Statement.CreateTable name columns) = create_refusal state.database.tables name columns
-served_refusal state (Statement.Insert i) = insert_refusal_in state i
-served_refusal state Statement.Commit = commit_refusal state
-served_refusal state (Statement.Select at q) = select_refusal state at q
-served_refusal state statement = None
-
--- why a statement is refused; a form that isn't served comes first
-abbrev pub refusal_of : State → Statement → Option Refusal
-refusal_of state s = if is_built s then served_refusal state s else Some Refusal.NotBuilt

@@ -1,1 +1,7 @@
-pub mod OneText
+pub mod OneLoad
+pub mod OneStep
+pub mod Permutes
+pub mod OneQuery
+pub mod Numbered
+pub mod OneScript
+pub mod OneSelect

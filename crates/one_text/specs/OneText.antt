@@ -1,11 +1,53 @@
--- The law that a script has one text.
-use Rattle.std.specs.Prelude.{ℕ, ◌≡◌, List, Bool}
-use Rattle.db_model.specs.Database.{Database}
+-- The laws that a statement and a query have one text.
+use Rattle.std.specs.Prelude.{ℕ, ◌≡◌, ◌≤◌, List, Bool, Option, None, is_some}
+use Rattle.sql_words.specs.Symbols.{symbols_of}
+use Rattle.sql_tree.specs.declared.query.At.{At}
+use Rattle.sql_tree.specs.declared.query.Query.{Query}
+use Rattle.sql_tree.specs.declared.refusal.Refusal.{Refusal}
+use Rattle.sql_tree.specs.declared.statement.Function.{Function}
+use Rattle.sql_tree.specs.declared.statement.Statement.{Statement}
+use Rattle.sql_tree.specs.Spells.{Spells}
 use Rattle.db_model.specs.State.{State}
-use Rattle.db_model.specs.Run.{Run}
+use Rattle.db_model.specs.Loading.{Files}
+use Rattle.db_model.specs.Alike.{AreAlikeStates}
+use Rattle.db_model.specs.Refusals.{Refuses}
+use Rattle.db_model.specs.Refusing.{epoch_refusal}
+use Rattle.db_model.specs.Printing.{Prints}
+use Rattle.db_model.specs.Step.{Step}
 
--- two runs of a script over one database print the same text and leave the same, and a statement is refused in both or in none
-abbrev pub HasOneText : Type 0
-HasOneText =
-    (d : Database) (script printed other : List ℕ) (refused also : Bool) (new left : State)
-    → Run d script printed refused new → Run d script other also left → (printed ≡ other) × (refused ≡ also) × (new ≡ left)
+-- a text that calls for a moveout of all
+abbrev pub IsMoveout : List ℕ → Type 0
+IsMoveout text = Spells (symbols_of text) (Statement.Call Function.Moveout)
+
+-- Two steps of one statement text over one state print the same bytes and are refused for the same cause, if at all; a moveout of all
+-- may be refused in one and not in the other, since the numbers that its jobs draw may be spent in the one alone.
+abbrev pub StatementsHaveOneText : Type 0
+StatementsHaveOneText =
+    (serves : Statement → Bool) (old : State) (files : Files) (text p q : List ℕ) (why also : Option Refusal) (m n : State)
+    → Step serves old files text p why m → Step serves old files text q also n → (IsMoveout text → ⊥) → (p ≡ q) × (why ≡ also)
+
+-- A moveout of all, too, prints the same in two steps that are both refused or both not.
+abbrev pub MoveoutsOfOneFate : Type 0
+MoveoutsOfOneFate =
+    (serves : Statement → Bool) (old : State) (files : Files) (text p q : List ℕ) (why also : Option Refusal) (m n : State)
+    → Step serves old files text p why m → Step serves old files text q also n → is_some why ≡ is_some also → (p ≡ q) × (why ≡ also)
+
+-- A query over two states that no statement tells apart, whose mark isn't above their newest epoch, is refused in both for the same
+-- cause or in neither.
+abbrev pub QueriesHaveOneCause : Type 0
+QueriesHaveOneCause =
+    (a b : State) (files : Files) (at : At) (q : Query) (why also : Option Refusal) → AreAlikeStates a b → a.database.ahm ≤ a.database.last
+    → Refuses a files (Statement.Select at q) why → Refuses b files (Statement.Select at q) also → why ≡ also
+
+-- And it prints the same, where the epoch asked for isn't before the mark; what it reads is the same but for the order of the rows.
+abbrev pub QueriesHaveOneText : Type 0
+QueriesHaveOneText =
+    (a b : State) (files : Files) (at : At) (q : Query) (p r : List ℕ) → AreAlikeStates a b → a.database.ahm ≤ a.database.last → epoch_refusal a.database.ahm a.database.last at ≡ None
+    → Prints a files (Statement.Select at q) p → Prints b files (Statement.Select at q) r → p ≡ r
+
+-- So two steps of a SELECT over such states print the same bytes and are refused for the same cause, if at all.
+abbrev pub SelectsHaveOneText : Type 0
+SelectsHaveOneText =
+    (serves : Statement → Bool) (a b : State) (files : Files) (at : At) (query : Query) (text p q : List ℕ) (why also : Option Refusal) (m n : State)
+    → Spells (symbols_of text) (Statement.Select at query) → AreAlikeStates a b → a.database.ahm ≤ a.database.last → Step serves a files text p why m → Step serves b files text q also n
+    → (p ≡ q) × (why ≡ also)

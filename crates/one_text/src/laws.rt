@@ -1,13 +1,40 @@
-ghost use Rattle.one_text.specs.OneText.{HasOneText};
+ghost use Rattle.one_text.specs.OneText.{StatementsHaveOneText, MoveoutsOfOneFate, QueriesHaveOneCause, QueriesHaveOneText, SelectsHaveOneText};
+ghost use Rattle.one_text.specs.Scripts.{ScriptsHaveOneText};
 
+use plain_query::order_of_rows_is_free;
 use query_order::one_printed_list;
 use sql_reader::one_reading;
 
-/// A script has one text: two runs of it over one database print the same bytes and leave the same state, and some
-/// statement is refused in both or in none. So over one database what the program says of the written bytes after `Done` and
-/// `Refused` leaves no choice. It rests on two laws: no symbols spell two statements, and rows have one printed list.
+/// A statement has one text: over one state, with the same load files and the same served forms, two steps of a statement text
+/// print the same bytes, and both are refused for the same cause or neither is. One statement is left out, a moveout of all:
+/// whether it is refused depends on the numbers that its jobs draw, which the storage decides. Where it is refused in both
+/// steps or in neither, they too print the same bytes.
+pub fn a_statement_has_one_text()
+    ensures statements { StatementsHaveOneText }
+    ensures moveouts { MoveoutsOfOneFate }
+{
+    one_reading();
+    one_printed_list();
+}
+
+/// A query has one text: over two states that no statement tells apart a SELECT is refused in both for the same cause, or in
+/// neither, and then prints the same bytes. What the two may differ in, the order of rows, the rows deleted up to the ancient
+/// history mark and the numbers of the storage, isn't seen in an answer.
+pub fn a_query_has_one_text()
+    ensures refused { QueriesHaveOneCause }
+    ensures printed { QueriesHaveOneText }
+    ensures steps { SelectsHaveOneText }
+{
+    one_reading();
+    order_of_rows_is_free();
+}
+
+/// A script has one text, where it leaves the mover alone: two runs of it, over states that are the same but for the numbers of the
+/// storage, print the same bytes, some statement is refused in both or in none, and both leave the same database. That holds for
+/// scripts without a moveout of all and without `\step`, run without steps of the mover behind the statements, as long as the numbers
+/// that files are called by aren't spent.
 pub fn a_script_has_one_text()
-    ensures { HasOneText }
+    ensures { ScriptsHaveOneText }
 {
     one_reading();
     one_printed_list();

@@ -1,5 +1,5 @@
-use Rattle.one_text.proofs.OneText.{script_once}
+use Rattle.one_text.proofs.OneScript.{scripts_once}
 use Rattle.one_text.proofs.laws.a_script_has_one_text.Goals as goal
 
 pub returns : goal.returns
-returns c = script_once c.one_reading.ensures c.one_printed_list.ensures
+returns c = scripts_once c.one_reading.ensures c.one_printed_list.ensures
