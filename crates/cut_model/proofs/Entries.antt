@@ -8,7 +8,7 @@ use Rattle.col_value.specs.declared.kinds.Encoding.{Encoding}
 use Rattle.catalog_types.specs.declared.catalogue.ProjColumn.{ProjColumn}
 use Rattle.catalog_types.specs.declared.catalogue.Projection.{Projection}
 use Rattle.db_model.specs.Database.{Shape}
-use Rattle.db_model.specs.Kept.{moved_shape}
+use Rattle.db_model.specs.Epochs.{moved_shape}
 use Rattle.folder_model.specs.Projections.{ordinals, shape_of}
 use Rattle.cut_model.specs.Cut.{IsCutEntry}
 

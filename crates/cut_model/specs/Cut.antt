@@ -10,7 +10,7 @@ use Rattle.catalog_types.specs.declared.catalogue.Projection.{Projection}
 use Rattle.catalog_types.specs.declared.catalogue.Table.{Table}
 use Rattle.catalog_types.specs.declared.catalogue.Catalogue.{Catalogue}
 use Rattle.catalog_types.specs.Reached.{least_lge}
-use Rattle.db_model.specs.Kept.{moved_shape}
+use Rattle.db_model.specs.Epochs.{moved_shape}
 use Rattle.stored_rows.specs.Held.{Holds}
 use Rattle.folder_model.specs.Projections.{shape_of}
 

@@ -7,5 +7,6 @@ pub mod Handed
 pub mod Indexed
 pub mod Laid
 pub mod Long
+pub mod Keeping
 pub mod Shows
 pub mod Stepping

@@ -4,7 +4,8 @@
 //! `next` gives those of the next block of a container, or of the next rows in memory (`Gives` of `specs/Scanning.antt`), until no row is
 //! left. Of a container only the columns that are needed are read, block by block; its epochs only where some of them are later than
 //! the epoch that is asked for. A `Batch` holds up to 1,024 rows; none of them is a vector of its own.
-//! `scan_rows` is all batches together: exactly the visible rows of the projection.
+//! `scan_rows` is all batches together: exactly the visible rows of the projection. `retains` says whether a row is retained from a mark on,
+//! and reads nothing.
 #![tactic(auto)]
 
 mod batch;
@@ -12,10 +13,12 @@ mod columns;
 mod deletes;
 mod opened;
 mod reading;
+mod retained;
 mod scan;
 mod shown;
 mod whole;
 
 pub use batch::Batch;
+pub use retained::retains;
 pub use scan::Scan;
 pub use whole::scan_rows;

@@ -17,7 +17,7 @@ use Rattle.catalog_root.specs.declared.found.Found.{Found}
 use Rattle.catalog_root.specs.declared.found.Found.TheVariants.{Fresh, Root}
 use Rattle.catalog_root.specs.Quiet.{IsQuiet}
 use Rattle.db_model.specs.Database.{Database, Table, Shape}
-use Rattle.db_model.specs.Kept.{moved_shape}
+use Rattle.db_model.specs.Epochs.{moved_shape}
 use Rattle.db_model.specs.Epochs.{all_shapes, least_or, last_good, cut_table, cut}
 use Rattle.db_model.specs.Sound.{IsSoundDatabase}
 use Rattle.stored_rows.specs.Listed.{SameEntry}

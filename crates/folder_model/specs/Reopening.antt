@@ -10,7 +10,7 @@ use Rattle.catalog_root.specs.declared.found.Found.{Found}
 use Rattle.catalog_root.specs.declared.found.Found.TheVariants.{Fresh, Root}
 use Rattle.catalog_root.specs.Root.{Opens}
 use Rattle.db_model.specs.Database.{Database, Table, empty_database}
-use Rattle.db_model.specs.Kept.{moved_shape}
+use Rattle.db_model.specs.Epochs.{moved_shape}
 use Rattle.db_model.specs.Sound.{IsSoundDatabase}
 use Rattle.folder_model.specs.Projections.{shape_of, HoldsHistory}
 

@@ -11,7 +11,7 @@ ghost use Rattle.moveout_job.specs.OnDisk.{IsMovedOut, IsListedBelow, MovesOut};
 use crate::entry::moved_entry;
 use crate::remarking::mark_each;
 use catalog_types::Projection;
-use col_disk::{Disk, StoreFault};
+use col_disk::{Disk, DiskFault};
 use col_value::Stamped;
 use container_writer::write_stamped;
 use proj_store::ProjStore;
@@ -43,7 +43,7 @@ pub fn moveout<D: Disk>(
     last: u64,
     next: u64,
     disk: &mut D,
-) -> Result<MovedOut, StoreFault>
+) -> Result<MovedOut, DiskFault>
     ensures entry { IfOk result (λ r. IsMovedOut last next r.next p.now.stored.entry r.entry) }
     ensures held { IfOk result (λ r. MovesOut next p.now.stored r.entry (D.holds disk.old) (D.holds disk.new)) }
     ensures below { IfOk result (λ r. IsListedBelow next p.now.stored.entry → IsListedBelow r.next r.entry) }
@@ -51,25 +51,25 @@ pub fn moveout<D: Disk>(
     ensures count { IfOk result (λ r. length r.entry.containers ≤ length p.now.stored.entry.containers + 1) }
     ensures loadable { IfOk result (λ r. IsLoadable r.entry) }
     ensures moved { Moved ⟦<D as Disk>⟧ (DataFrom next) NoName disk.old disk.new }
-    ensures cause { HasCause StoreFault.Disk (D.faults disk.old) (D.faults disk.new) result }
+    ensures cause { HasCause DiskFault.Failed (D.faults disk.old) (D.faults disk.new) result }
 {
     let rows = match copies(alloc, p.unsaved()) {
         Ok(rows) => rows,
-        Err(AllocError) => return Err(StoreFault::Memory),
+        Err(AllocError) => return Err(DiskFault::Memory),
     };
     let marked = match mark_each(alloc, disk, p, next) {
         Ok(marked) => marked,
-        Err(fault) => return Err(StoreFault::from(fault)),
+        Err(fault) => return Err(fault),
     };
     let written = match write_stamped(alloc, disk, p.entry(), rows, 0, marked.next) {
         Ok(written) => written,
-        Err(fault) => return Err(StoreFault::from(fault)),
+        Err(fault) => return Err(fault),
     };
     match moved_entry(alloc, p.entry(), marked.containers, written.container, last) {
         Ok(entry) => Ok(MovedOut {
             entry,
             next: written.next,
         }),
-        Err(AllocError) => Err(StoreFault::Memory),
+        Err(AllocError) => Err(DiskFault::Memory),
     }
 }

@@ -11,7 +11,6 @@ use Rattle.col_value.specs.declared.value.Value.{Value}
 use Rattle.col_value.specs.declared.column.Column.{Column}
 use Rattle.sql_tree.specs.declared.refusal.Refusal.{Refusal}
 use Rattle.row_history.specs.History.{Within}
-use Rattle.sql_binder.specs.Names as older
 use Rattle.sql_binding.specs.Firsts.{first_of}
 use Rattle.db_model.specs.Database.{Database, Table, table_named, put_table, is_taken, super_name}
 use Rattle.db_model.specs.State.{State, Changes, own_changes, with_changes, with_rows, joined}
@@ -29,7 +28,7 @@ use Rattle.state_laws.proofs.Places.{AllBut, but_all, set_all_but, set_pairs}
 use Rattle.state_laws.proofs.Tables.{free_differs, put_still, without_still, moved_named}
 use Rattle.state_laws.proofs.Held.{none_excludes, none_held, none_exclusive, together_turned, none_together, GoesWith, each_goes, all_go, session_over}
 
-abbrev no_names : List (List ℕ)
+abbrev pub no_names : List (List ℕ)
 no_names = []
 
 -- ---- the numbers of the storage
@@ -64,22 +63,18 @@ database_sound state e none keeps other sound = record {
 
 -- ---- CREATE TABLE
 
-first_none : {X : Type 0} (a b : Option X) → first_of a b ≡ None → (a ≡ None) × (b ≡ None)
+pub first_none : {X : Type 0} (a b : Option X) → first_of a b ≡ None → (a ≡ None) × (b ≡ None)
 first_none None b is = (refl, is)
 first_none (Some x) b is = absurd (cc)
 
-older_none : {X : Type 0} (a b : Option X) → older.first_of a b ≡ None → (a ≡ None) × (b ≡ None)
-older_none None b is = (refl, is)
-older_none (Some x) b is = absurd (cc)
-
-none_taken : (tables : List Table) (name : List ℕ) → if_taken tables name ≡ None → is_taken name tables ≡ false
+pub none_taken : (tables : List Table) (name : List ℕ) → if_taken tables name ≡ None → is_taken name tables ≡ false
 none_taken tables name is = by (is_taken name tables) is
   where
     by : (b : Bool) → cond b (Some name) None ≡ None → b ≡ false
     by true some = absurd (cc)
     by false none = refl
 
-no_existing : (o : Option (List ℕ)) → option_map Refusal.Exists o ≡ None → o ≡ None
+pub no_existing : (o : Option (List ℕ)) → option_map Refusal.Exists o ≡ None → o ≡ None
 no_existing None is = refl
 no_existing (Some n) is = absurd (cc)
 
@@ -88,9 +83,9 @@ pub names_free : (state : State) (name : List ℕ) (columns : List Column) → t
 names_free state name columns free =
     let tables = state.database.tables in
     let whole = first_none (create_refusal tables name columns) (spent_refusal state) free in
-    let exists = older_none (option_map Refusal.Exists (taken_name tables name columns)) (create_limit tables name columns) whole.0 in
-    let names = older_none (if_taken tables name) (older.first_of (if_taken tables (super_name name)) (repeated_behind no_names columns)) (no_existing (taken_name tables name columns) exists.0) in
-    let others = older_none (if_taken tables (super_name name)) (repeated_behind no_names columns) names.1 in
+    let exists = first_none (option_map Refusal.Exists (taken_name tables name columns)) (create_limit tables name columns) whole.0 in
+    let names = first_none (if_taken tables name) (first_of (if_taken tables (super_name name)) (repeated_behind no_names columns)) (no_existing (taken_name tables name columns) exists.0) in
+    let others = first_none (if_taken tables (super_name name)) (repeated_behind no_names columns) names.1 in
     (none_taken tables name names.0, none_taken tables (super_name name) others.0)
 
 created_fit : (d : Database) (t : Table) → is_taken t.name d.tables ≡ false → (c : Changes) → ChangesFit d c → ChangesFit (record d { tables = put_table t d.tables }) c

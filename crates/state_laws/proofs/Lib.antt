@@ -3,5 +3,7 @@ pub mod Tables
 pub mod Held
 pub mod Dropped
 pub mod Events
+pub mod Shaped
+pub mod Unshaped
 pub mod Commits
 pub mod Fits

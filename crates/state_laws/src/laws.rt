@@ -6,12 +6,13 @@ ghost use Rattle.col_value.specs.declared.column.Column.{Column};
 ghost use Rattle.col_value.specs.declared.value.Value.{Value};
 ghost use Rattle.col_value.specs.Order.{IsRow};
 ghost use Rattle.sql_tree.specs.declared.statement.Insert.{Insert};
+ghost use Rattle.sql_tree.specs.declared.statement.NewProjection.{NewProjection};
 ghost use Rattle.sql_binding.specs.Inserts.{inserted_rows};
 ghost use Rattle.db_model.specs.Database.{Table, table_named};
 ghost use Rattle.db_model.specs.State.{State};
-ghost use Rattle.db_model.specs.Events.{changes_committed, changes_dropped, is_not_named, rows_pending, table_created, table_dropped};
+ghost use Rattle.db_model.specs.Events.{changes_committed, changes_dropped, is_not_named, projection_created, projection_dropped, rows_pending, table_created, table_dropped};
 ghost use Rattle.db_model.specs.Numbers.{IsDrawn};
-ghost use Rattle.db_model.specs.Refusals.{locked, table_created_refusal, table_dropped_refusal};
+ghost use Rattle.db_model.specs.Refusals.{locked, projection_created_refusal, projection_dropped_refusal, table_created_refusal, table_dropped_refusal};
 ghost use Rattle.db_model.specs.Sound.{IsSound, IsSoundDatabase, RowFits};
 ghost use Rattle.sound_laws.specs.Moves.{moved_at};
 ghost use Rattle.state_laws.specs.Rows.{AreStored};
@@ -29,6 +30,16 @@ pub fn a_new_table_is_sound()
 /// A state stays sound in a DROP TABLE that isn't refused.
 pub fn tables_may_be_dropped()
     ensures { (state : State) (name : List ℕ) → state.asked ≡ [] → table_dropped_refusal state name ≡ None → IsSound state → IsSound (table_dropped name state) }
+{}
+
+/// A state stays sound in a CREATE PROJECTION that isn't refused.
+pub fn a_new_projection_is_sound()
+    ensures { (state : State) (p : NewProjection) → state.asked ≡ [] → projection_created_refusal state p ≡ None → IsSound state → IsSound (projection_created p state) }
+{}
+
+/// A state stays sound in a DROP PROJECTION that isn't refused.
+pub fn projections_may_be_dropped()
+    ensures { (state : State) (name : List ℕ) → state.asked ≡ [] → projection_dropped_refusal state name ≡ None → IsSound state → IsSound (projection_dropped name state) }
 {}
 
 /// The rows of an INSERT that isn't refused for what they are fit the columns of its table.

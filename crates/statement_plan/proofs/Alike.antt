@@ -26,8 +26,6 @@ use Rattle.db_model.specs.State.{State, Changes, has_changes, own_changes, pendi
 use Rattle.db_model.specs.Locks.{excludes}
 use Rattle.db_model.specs.Numbers.{spent_refusal}
 use Rattle.db_model.specs.Refusing.{columns_limit, commit_refusal, create_limit, create_refusal, epoch_refusal, if_taken, name_limit, repeated_behind, rows_limit, taken_name}
-use Rattle.sql_binder.specs.Names as told
-use Rattle.sql_binder.specs.Queries as wrong
 use Rattle.db_model.specs.Refusals.{joining_limit, last_super_refusal, locked, owner, projection_created_refusal, projection_dropped_refusal, projection_refusal_over, query_refusal_in, rows_deleted_refusal, rows_inserted_refusal, table_created_refusal, table_dropped_refusal, unknown_table_refusal}
 use Rattle.db_model.specs.Views.{bound_in, columns_found, table_found}
 use Rattle.statement_plan.specs.Bare.{IsBare, IsBareTable}
@@ -146,16 +144,16 @@ if_taken_same name bs ts z = ap (λ (b : Bool). cond b (Some name) None) (taken_
 
 names_same : (name : List ℕ) (columns : List Column) (bs ts : List Table) → AllZip IsBareTable bs ts → taken_name bs name columns ≡ taken_name ts name columns
 names_same name columns bs ts z =
-    ap₂ (λ (o p : Option (List ℕ)). told.first_of o (told.first_of p (repeated_behind [] columns))) (if_taken_same name bs ts z) (if_taken_same (super_name name) bs ts z)
+    ap₂ (λ (o p : Option (List ℕ)). first_of o (first_of p (repeated_behind [] columns))) (if_taken_same name bs ts z) (if_taken_same (super_name name) bs ts z)
 
 limit_same : (name : List ℕ) (columns : List Column) (bs ts : List Table) → AllZip IsBareTable bs ts → create_limit bs name columns ≡ create_limit ts name columns
 limit_same name columns bs ts z =
-    ap (λ (n : ℕ). told.first_of (told.first_of (wrong.refused_where (nat_le 1024 n) (Refusal.Limit Which.Tables 1024)) (name_limit name)) (columns_limit columns))
+    ap (λ (n : ℕ). first_of (first_of (refused_where (nat_le 1024 n) (Refusal.Limit Which.Tables 1024)) (name_limit name)) (columns_limit columns))
     (length_all_zip IsBareTable bs ts z)
 
 made_same : (name : List ℕ) (columns : List Column) (bs ts : List Table) → AllZip IsBareTable bs ts → create_refusal bs name columns ≡ create_refusal ts name columns
 made_same name columns bs ts z =
-    ap₂ (λ (o : Option (List ℕ)) (p : Option Refusal). told.first_of (option_map Refusal.Exists o) p) (names_same name columns bs ts z) (limit_same name columns bs ts z)
+    ap₂ (λ (o : Option (List ℕ)) (p : Option Refusal). first_of (option_map Refusal.Exists o) p) (names_same name columns bs ts z) (limit_same name columns bs ts z)
 
 created_same : (bare state : State) (name : List ℕ) (columns : List Column) → IsBare bare state
     → table_created_refusal bare name columns ≡ table_created_refusal state name columns
@@ -178,7 +176,7 @@ inserted_same bare state i is =
 
 committed_same : (bare state : State) → IsBare bare state → commit_refusal bare ≡ commit_refusal state
 committed_same bare state is =
-    ap₂ (λ (changes : List Changes) (last : ℕ). wrong.refused_where (has_changes changes && nat_le 9223372036854775807 last) Refusal.EpochsSpent)
+    ap₂ (λ (changes : List Changes) (last : ℕ). refused_where (has_changes changes && nat_le 9223372036854775807 last) Refusal.EpochsSpent)
     (own_same bare state is) is.last
 
 queried_same : (bare state : State) (q : Query) → IsBare bare state → query_refusal_in bare q ≡ query_refusal_in state q

@@ -34,7 +34,7 @@ renumbered s is next parts = record {
 pub viewed : {D : Type 0} (disk : Ghosts D) (old : D) (r now : Running) (state : State) → r ≡ now → IsState disk now old state → IsState disk r old state
 viewed disk old r now state view here = subst (λ (x : Running). IsState disk x old state) (sym view) here
 
-grown_by_one : {F : Type 0} (result : Result (Unit {0}) F) (state : State) (was is : Seen) → state.next ≡ was.catalogue.next → FewContainers state.parts was.catalogue → OnOk result (DrawsOne was.catalogue is.catalogue) → OnOk result (Grown state is state.parts)
+pub grown_by_one : {F : Type 0} (result : Result (Unit {0}) F) (state : State) (was is : Seen) → state.next ≡ was.catalogue.next → FewContainers state.parts was.catalogue → OnOk result (DrawsOne was.catalogue is.catalogue) → OnOk result (Grown state is state.parts)
 grown_by_one result state was is next few draws = on_ok_weaker result (λ one. grown_one state was.catalogue is.catalogue is.stores next few one) draws
 
 grown_some : {F : Type 0} (result : Result (Unit {0}) F) (state : State) (was is : Seen) → state.next ≡ was.catalogue.next → FewContainers state.parts was.catalogue → OnOk result (Draws was.catalogue is.catalogue) → OnOk result (Grown state is (state.parts + 2))

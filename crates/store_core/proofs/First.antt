@@ -33,7 +33,7 @@ use Rattle.store_core.proofs.Events.{moved_state}
 
 -- ---- what the search found
 
-found_in : {X : Type 0} (P : X → Type 0) (p : X → Bool) (xs : List X) (x : X) → All P xs → find p xs ≡ Some x → P x
+pub found_in : {X : Type 0} (P : X → Type 0) (p : X → Bool) (xs : List X) (x : X) → All P xs → find p xs ≡ Some x → P x
 found_in P p [] x all none = absurd (cc)
 found_in P p (y ∷ ys) x all there = by (p y) there (λ rest. found_in P p ys x (All-tail P y ys all) rest)
   where
@@ -41,7 +41,7 @@ found_in P p (y ∷ ys) x all there = by (p y) there (λ rest. found_in P p ys x
     by true here more = let same : y ≡ x = cc in subst P same (All-head P y ys all)
     by false rest more = more rest
 
-and_left : (a b : Bool) → (a && b) ≡ true → a ≡ true
+pub and_left : (a b : Bool) → (a && b) ≡ true → a ≡ true
 and_left true b is = refl
 and_left false b is = absurd (cc)
 

@@ -5,3 +5,11 @@ pub mod Asking
 pub mod Events
 pub mod First
 pub mod Framed
+pub mod Placed
+pub mod Small
+pub mod Chain
+pub mod Dropping
+pub mod Ended
+pub mod Shaped
+pub mod Unshaped
+pub mod Planned

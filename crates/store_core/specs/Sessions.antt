@@ -1,5 +1,5 @@
 -- What events make of the sessions alone.
-use Rattle.std.specs.Prelude.{ℕ, ◌-◌, List, [], slice_set}
+use Rattle.std.specs.Prelude.{ℕ, ◌-◌, ◌++◌, List, [], map, take, drop, slice_set}
 use Rattle.std.specs.List.{slice_index_or}
 use Rattle.col_value.specs.declared.value.Value.{Value}
 use Rattle.db_model.specs.State.{Changes, with_rows}
@@ -20,3 +20,11 @@ with_pending name rows r = with_own (with_rows name rows (own_of r)) r
 -- another session is the current one
 abbrev pub with_current : ℕ → Running → Running
 with_current n r = record r { current = n }
+
+-- the first eight sessions have no changes
+abbrev pub eight_dropped : List (List Changes) → List (List Changes)
+eight_dropped sessions = map (λ changes. []) (take 8 sessions) ++ drop 8 sessions
+
+-- no session has changes
+abbrev pub with_none : Running → Running
+with_none r = record r { sessions = eight_dropped r.sessions }

@@ -1,19 +1,24 @@
 //! Laws of a running store, over any disk.
 
-ghost use Rattle.std.specs.Prelude.{ℕ, ◌≡◌, ◌≤◌, [], false, List, None, Some};
-ghost use Rattle.std.specs.List.{All};
+ghost use Rattle.std.specs.Prelude.{ℕ, ◌≡◌, ◌≤◌, ◌<◌, [], false, length, List, None, Some, IsSomeAnd};
+ghost use Rattle.std.specs.List.{All, slice_get};
 ghost use Rattle.col_value.specs.declared.value.Value.{Value};
 ghost use Rattle.db_model.specs.Database.{Table, table_named};
 ghost use Rattle.db_model.specs.State.{State};
 ghost use Rattle.db_model.specs.Events.{changes_dropped, rows_pending};
 ghost use Rattle.db_model.specs.Refusals.{locked};
-ghost use Rattle.db_model.specs.Sound.{RowFits};
+ghost use Rattle.db_model.specs.Sound.{IsSoundDatabase, RowFits};
 ghost use Rattle.sql_tree.specs.declared.statement.Statement.{Statement};
+ghost use Rattle.sql_tree.specs.declared.statement.NewProjection.{NewProjection};
+ghost use Rattle.change_binder.specs.declared.projections.ProjectionShape.{ProjectionShape};
 ghost use Rattle.statement_plan.specs.Bare.{IsBare};
 ghost use Rattle.statement_plan.specs.Planned.{early_refusal, IsPlanned};
 ghost use Rattle.statement_plan.specs.declared.plans.Plan.{Plan};
 ghost use Rattle.store_core.specs.Running.{Running, IsState, frame_of};
-ghost use Rattle.store_core.specs.Sessions.{with_current, with_own, with_pending};
+ghost use Rattle.db_model.specs.Epochs.{last_good};
+ghost use Rattle.db_model.specs.Mover.{MovesAll};
+ghost use Rattle.db_model.specs.Run.{all_dropped};
+ghost use Rattle.store_core.specs.Sessions.{with_current, with_none, with_own, with_pending};
 
 use col_disk::Disk;
 use state_laws::{changes_may_be_dropped, pending_rows_are_sound, sessions_may_change};
@@ -34,6 +39,11 @@ pub fn rollbacks_stand<D: Disk>()
     changes_may_be_dropped();
 }
 
+/// Where the changes of all sessions are dropped, the store is the state without them.
+pub fn all_rollbacks_stand<D: Disk>()
+    ensures { (disk : D) (r : Running) (state : State) → IsState ⟦<D as Disk>⟧ r disk state → IsState ⟦<D as Disk>⟧ (with_none r) disk (all_dropped state) }
+{}
+
 /// Where another session is the current one, the store is the state in which it is.
 pub fn sessions_stand<D: Disk>()
     ensures { (disk : D) (r : Running) (state : State) (n : ℕ) → 1 ≤ n → n ≤ 8 → IsState ⟦<D as Disk>⟧ r disk state → IsState ⟦<D as Disk>⟧ (with_current n r) disk (record state { current = n }) }
@@ -51,3 +61,17 @@ pub fn frames_are_of_the_state<D: Disk>()
     catalogues_give_frames();
     rows_decide_nothing_here();
 }
+
+/// After a moveout of all that didn't stop before, all data is on disk up to the newest epoch.
+pub fn all_moved_reach_the_last_epoch()
+    ensures { (old new : State) → IsSoundDatabase old.database → MovesAll old false new → last_good new.database ≡ new.database.last }
+{}
+
+/// The plan of a CREATE PROJECTION has the place of a table, and is sorted by columns of its own; that of a DROP PROJECTION has the place of
+/// a projection.
+pub fn planned_projections_have_places()
+    ensures create { (r : Running) (p : NewProjection) (table : ℕ) (shape : ProjectionShape) → IsPlanned (frame_of r) (Statement.CreateProjection p) (Plan.CreateProjection table shape)
+        → (table < length r.seen.catalogue.tables) × All (λ i. i < length shape.columns) shape.sort }
+    ensures drop { (r : Running) (name : List ℕ) (table place : ℕ) → IsPlanned (frame_of r) (Statement.DropProjection name) (Plan.DropProjection table place)
+        → IsSomeAnd (slice_get r.seen.catalogue.tables table) (λ t. place < length t.projections) }
+{}

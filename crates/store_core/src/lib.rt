@@ -9,5 +9,8 @@
 mod laws;
 mod store;
 
-pub use laws::{frames_are_of_the_state, pending_rows_stand, rollbacks_stand, sessions_stand};
+pub use laws::{
+    all_moved_reach_the_last_epoch, all_rollbacks_stand, frames_are_of_the_state,
+    pending_rows_stand, planned_projections_have_places, rollbacks_stand, sessions_stand,
+};
 pub use store::Store;

@@ -1,6 +1,7 @@
 //! The store, and its events.
 
 ghost use Rattle.std.specs.Prelude.{◌≡◌, ◌≤◌, ◌<◌, ℕ, Bool, [], true, None, Some, List as Items, length, IfOk, IfErr, IfSome, OnOk, OnErr, IsErrOf, IsSomeAnd};
+ghost use Rattle.std.specs.Bool.{OnTrue};
 ghost use Rattle.std.specs.List.{All, slice_get, slice_index_or};
 ghost use Rattle.common_laws.specs.Causes.{HasCause};
 ghost use Rattle.common_laws.specs.Maps.{Contents};
@@ -28,6 +29,9 @@ ghost use Rattle.store_core.specs.Sessions.{with_current, with_own, with_pending
 ghost use Rattle.store_query.specs.Faults.{IsUnblamed};
 ghost use Rattle.store_core.specs.Asking.{IsAsked};
 ghost use Rattle.store_core.specs.Events.{Does, MovesFirstOf};
+ghost use Rattle.store_core.specs.Moving.{MovedBehind};
+ghost use Rattle.table_store.specs.Drawing.{DrawsJob};
+ghost use Rattle.table_store.specs.Faults.{IsUnblamed as IsUnblamedStore};
 
 use catalog_types::Table;
 use col_disk::{Disk, DiskFault, StoreFault};
@@ -46,6 +50,10 @@ use store_opening::open;
 use store_query::{SelectFault, bound_queries_read_their_tables, select};
 use table_store::TableStore;
 use txn_core::Txns;
+
+mod looking;
+mod moving;
+mod shaping;
 
 /// The tables of a folder, what the eight sessions have changed and not committed, and the current one of these.
 #[derive(Drop)]
@@ -185,6 +193,7 @@ impl Store {
     pub fn commit<D: Disk>(&mut self, alloc: Global, disk: &mut D) -> Result<(), StoreFault>
         ensures does { (state : State) → IsState ⟦<D as Disk>⟧ self.old disk.old state
             → Does ⟦<D as Disk>⟧ no_memory self.old self.new disk.old disk.new result state (λ new. new ≡ changes_committed state) }
+        ensures unblamed { IfErr result (λ fault. (state : State) → IsState ⟦<D as Disk>⟧ self.old disk.old state → IsUnblamedStore fault) }
         ensures same { OnErr result (self.new ≡ self.old) }
         ensures cause { HasCause StoreFault.Disk (D.faults disk.old) (D.faults disk.new) result }
     {
@@ -230,6 +239,8 @@ impl Store {
         requires { IsFreshAt self.old.seen.stores table place }
         ensures does { (state : State) → IsState ⟦<D as Disk>⟧ self.old disk.old state
             → Does ⟦<D as Disk>⟧ no_memory self.old self.new disk.old disk.new result state (IsDrawn state (record state { database = moved_at table place state.database })) }
+        ensures job { OnOk result (DrawsJob table place self.old.seen.catalogue self.new.seen.catalogue) }
+        ensures unblamed { IfErr result (λ fault. (state : State) → IsState ⟦<D as Disk>⟧ self.old disk.old state → IsUnblamedStore fault) }
         ensures same { OnErr result (self.new ≡ self.old) }
         ensures cause { HasCause StoreFault.Disk (D.faults disk.old) (D.faults disk.new) result }
     {
@@ -241,6 +252,8 @@ impl Store {
     /// The projection that comes first of those that are behind is moved out. Answers whether there was one.
     pub fn move_first<D: Disk>(&mut self, alloc: Global, disk: &mut D) -> Result<bool, StoreFault>
         ensures does { (state : State) → IsState ⟦<D as Disk>⟧ self.old disk.old state → MovesFirstOf ⟦<D as Disk>⟧ no_memory self.old self.new disk.old disk.new result state }
+        ensures job { IfOk result (λ moved. OnTrue moved (MovedBehind self.old.seen.catalogue self.new.seen.catalogue)) }
+        ensures unblamed { IfErr result (λ fault. (state : State) → IsState ⟦<D as Disk>⟧ self.old disk.old state → IsUnblamedStore fault) }
         ensures same { OnErr result (self.new ≡ self.old) }
         ensures cause { HasCause StoreFault.Disk (D.faults disk.old) (D.faults disk.new) result }
     {

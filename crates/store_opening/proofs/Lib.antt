@@ -2,3 +2,4 @@ mod Readings
 mod Blames
 mod Quieted
 mod Recovered
+pub mod Unblamed

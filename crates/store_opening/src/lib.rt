@@ -6,7 +6,9 @@
 //! folder reopens to the same database. No row is read but of containers that are cut.
 #![tactic(auto)]
 
+mod laws;
 mod loading;
 mod opening;
 
+pub use laws::reopening_folders_are_unblamed;
 pub use opening::open;

@@ -1,9 +1,9 @@
 -- What an event draws.
 use Rattle.std.proofs.Common.{◌≡◌, ℕ, zero, suc, ◌+◌, ◌*◌, ◌<◌, ◌≤◌, Bool, ◌||◌, true, false, List, [], ◌∷◌, length, map, get_or, drop, take, refl, sym, ◌∙◌, ap, subst, arith}
-use Rattle.std.specs.Prelude.{◌≢◌, IsSomeAnd}
+use Rattle.std.specs.Prelude.{◌≢◌, Option, Some, None, IsSomeAnd}
 use Rattle.std.specs.List.{All, AllByRecursion, IsDistinct, list_any, slice_get}
 use Rattle.std.proofs.lemmas.Bool.{eqb-true, ne_eqb}
-use Rattle.std.proofs.lemmas.List.{get_or-map, length-map}
+use Rattle.std.proofs.lemmas.List.{get_or-map, get_or_default, length-map}
 use Rattle.std.proofs.lemmas.List.Elements.{All-append, All-cons, All-drop, All-head, All-nil, All-tail, All-take, All-weaker}
 use Rattle.std.proofs.lemmas.Map.Keys.{IsDistinct-cons, IsDistinct-from_apart}
 use Rattle.std.proofs.lemmas.Map.Steps.{length-le_from_distinct_below}
@@ -23,10 +23,10 @@ use Rattle.proj_store.specs.Loaded.{Loaded}
 use Rattle.sound_laws.specs.Moves.{change_at}
 use Rattle.db_model.specs.Database.{super_name}
 use Rattle.table_store.specs.Creating.{first_entry, first_table, with_table, without_table}
-use Rattle.table_store.specs.Drawing.{Draws, DrawsOne, FewContainers}
+use Rattle.table_store.specs.Drawing.{Draws, DrawsEntry, DrawsJob, DrawsOne, FewContainers}
 use Rattle.table_store.specs.Held.{at_epoch, projections_of, IsHeld}
 use Rattle.table_store.specs.Moving.{with_entry, with_entry_at}
-use Rattle.table_store.proofs.Moved.{entry_at, stored_at}
+use Rattle.table_store.proofs.Moved.{entry_at, is_at, stored_at}
 
 -- ---- a table that comes or goes
 
@@ -142,3 +142,45 @@ move_draws root c tables last version i j ps p entry held lt ps_are below p_is l
       upto = λ most few. drawn_few (length p.stored.entry.columns) (length p.stored.entry.containers) most root.next version found.0 (found.1 most few) upto;
       few = λ most few. few_moved root last version i j most entry (omega (arith, count, found.1 most few)) few;
     })
+
+-- ---- what a moveout does to its projection
+
+-- an entry stands in the catalogue at the places of its projection
+entry_stands : (root : Catalogue) (stores : List (List Projected)) (i j : ℕ) (parts : List Projected) (old : Projected) (P : Projection → Type 0) → map (λ ps. map (λ p. p.entry) ps) stores ≡ map (λ t. t.projections) root.tables
+    → i < length stores → parts ≡ get_or stores i parts → j < length parts → old ≡ get_or parts j old → P old.entry → IsSomeAnd (slice_get root.tables i) (λ t. IsSomeAnd (slice_get t.projections j) P)
+entry_stands root stores i j parts old P entries lt parts_are below old_is holds =
+    let within : i < length root.tables = omega (arith, lt, sym (length-map stores (λ ps. map (λ p. p.entry) ps)) ∙ ap length entries ∙ length-map root.tables (λ t. t.projections)) in
+    let blank : kept.Table = record { name = []; columns = []; projections = [] } in
+    let t : kept.Table = get_or root.tables i blank in
+    let here : map (λ p. p.entry) parts ≡ t.projections =
+    ap (map (λ (p : Projected). p.entry)) parts_are ∙ sym (get_or-map (λ (ps : List Projected). map (λ p. p.entry) ps) stores i parts [] lt)
+    ∙ ap (λ (es : List (List Projection)). get_or es i []) entries ∙ get_or-map (λ (u : kept.Table). u.projections) root.tables i blank [] within in
+    let long : j < length t.projections = omega (arith, below, sym (length-map parts (λ (p : Projected). p.entry)) ∙ ap length here) in
+    is_at root.tables i t (λ u. IsSomeAnd (slice_get u.projections j) P) within (get_or_default root.tables i blank t within)
+    (is_at t.projections j old.entry P long (entry_at parts t.projections j old here below old_is) holds)
+
+pub move_job : (root c : Catalogue) (tables : List (List Loaded)) (last version i j : ℕ) (ps : List Loaded) (p : Loaded) (entry : Projection) → IsHeld root tables
+    → i < length tables → ps ≡ get_or tables i ps → j < length ps → p ≡ get_or ps j p → root.next ≤ version → version ≤ root.next + 2 * (length p.stored.entry.columns + 1) + 1 + length p.stored.entry.containers
+    → length entry.containers ≤ length p.stored.entry.containers + 1 → entry.lge ≡ last → c ≡ with_entry_at last version i j entry root → DrawsJob i j (at_epoch last root) c
+move_job root c tables last version i j ps p entry held lt ps_are below p_is later upto count reached is =
+    let long : i < length (map projections_of tables) = omega (arith, lt, length-map tables projections_of) in
+    let wide : j < length (projections_of ps) = omega (arith, below, length-map ps (λ (q : Loaded). q.stored)) in
+    let stored_is : p.stored ≡ get_or (projections_of ps) j p.stored = ap (λ (q : Loaded). q.stored) p_is ∙ sym (get_or-map (λ (q : Loaded). q.stored) ps j p p.stored below) in
+    let found = entry_small root (map projections_of tables) i j (projections_of ps) p.stored held.valid held.entries long (stored_at tables i ps lt ps_are) wide stored_is in
+    let narrow = found.0 in
+    subst (DrawsJob i j (at_epoch last root)) (sym is)
+    (entry_stands root (map projections_of tables) i j (projections_of ps) p.stored (DrawsEntry i j (at_epoch last root) (with_entry_at last version i j entry root)) held.entries long (stored_at tables i ps lt ps_are) wide stored_is
+    (record { entry = entry; tables = refl; last = refl; from = omega (arith, later); upto = omega (arith, narrow, upto); count = count; reached = reached }))
+
+some_weaker : {X : Type 0} (P Q : X → Type 0) (o : Option X) → ((x : X) → P x → Q x) → IsSomeAnd o P → IsSomeAnd o Q
+some_weaker P Q None weaker is = absurd is
+some_weaker P Q (Some x) weaker is = weaker x is
+
+-- the newest epoch is that of the catalogue
+pub job_done : (root c : Catalogue) (last i j : ℕ) → DrawsJob i j (at_epoch last root) c → DrawsJob i j (at_epoch last root) (at_epoch last c)
+job_done root c last i j job =
+    some_weaker (λ t. IsSomeAnd (slice_get t.projections j) (DrawsEntry i j (at_epoch last root) c)) (λ t. IsSomeAnd (slice_get t.projections j) (DrawsEntry i j (at_epoch last root) (at_epoch last c))) (slice_get root.tables i)
+    (λ t there. some_weaker (DrawsEntry i j (at_epoch last root) c) (DrawsEntry i j (at_epoch last root) (at_epoch last c)) (slice_get t.projections j) one there) job
+  where
+    one : (p : Projection) → DrawsEntry i j (at_epoch last root) c p → DrawsEntry i j (at_epoch last root) (at_epoch last c) p
+    one p d = record { entry = d.entry; tables = d.tables; last = refl; from = d.from; upto = d.upto; count = d.count; reached = d.reached ∙ d.last }

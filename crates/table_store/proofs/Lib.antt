@@ -11,3 +11,4 @@ pub mod Makes
 pub mod Drawn
 pub mod Shaped
 pub mod Unshaped
+pub mod Unblamed

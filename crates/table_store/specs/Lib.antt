@@ -5,3 +5,4 @@ pub mod Committing
 pub mod Moving
 pub mod Drawing
 pub mod Shaping
+pub mod Faults

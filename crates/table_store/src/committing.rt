@@ -1,6 +1,6 @@
 //! A session's changes, made ready for all tables and then done.
 
-ghost use Rattle.std.specs.Prelude.{◌≡◌, Some, length, map, IfOk};
+ghost use Rattle.std.specs.Prelude.{◌≡◌, Some, length, map, IfErr, IfOk};
 ghost use Rattle.std.specs.List.{All, AllZip};
 ghost use Rattle.common_laws.specs.Causes.{HasCause};
 ghost use Rattle.common_laws.specs.Maps.{Contents};
@@ -10,6 +10,7 @@ ghost use Rattle.db_model.specs.State.{pending_rows, pending_deletes};
 ghost use Rattle.table_store.specs.Held.{projections_of};
 ghost use Rattle.table_store.specs.Changing.{CanApply, tables_applied};
 ghost use Rattle.table_store.specs.Committing.{AreReady};
+ghost use Rattle.table_store.specs.Faults.{IsReadable, IsUnblamed};
 
 use crate::part::ReadyPart;
 use crate::parts::Parts;
@@ -43,6 +44,7 @@ fn prepare_tables<D: Disk>(
     ensures prepared { IfOk result (λ v. (m : Contents) → D.holds disk.old ≡ Some m → AreReady m changes.now entries.now (map projections_of tables.old) v.items) }
     ensures ready { IfOk result (λ v. AllZip (AllZip CanApply) v.items tables.new) }
     ensures stored { map projections_of tables.new ≡ map projections_of tables.old }
+    ensures unblamed { IfErr result (λ fault. (m : Contents) → D.holds disk.old ≡ Some m → All (All (IsReadable m)) (map projections_of tables.old) → IsUnblamed fault) }
     ensures kept { D.holds disk.new ≡ D.holds disk.old }
     ensures moved { Moved ⟦<D as Disk>⟧ NoName NoName disk.old disk.new }
     ensures cause { HasCause StoreFault.Disk (D.faults disk.old) (D.faults disk.new) result }
@@ -85,6 +87,7 @@ pub fn prepare_all<D: Disk>(
     ensures prepared { IfOk result (λ v. (m : Contents) → D.holds disk.old ≡ Some m → AreReady m changes.now entries.now (map projections_of tables.old.items) v.items) }
     ensures ready { IfOk result (λ v. AllZip (AllZip CanApply) v.items tables.new.items) }
     ensures stored { map projections_of tables.new.items ≡ map projections_of tables.old.items }
+    ensures unblamed { IfErr result (λ fault. (m : Contents) → D.holds disk.old ≡ Some m → All (All (IsReadable m)) (map projections_of tables.old.items) → IsUnblamed fault) }
     ensures kept { D.holds disk.new ≡ D.holds disk.old }
     ensures moved { Moved ⟦<D as Disk>⟧ NoName NoName disk.old disk.new }
     ensures cause { HasCause StoreFault.Disk (D.faults disk.old) (D.faults disk.new) result }

@@ -1,6 +1,6 @@
 //! A commit's work on one projection.
 
-ghost use Rattle.std.specs.Prelude.{◌≡◌, Some, map, slice_index_or, IfOk};
+ghost use Rattle.std.specs.Prelude.{◌≡◌, Some, map, slice_index_or, IfErr, IfOk};
 ghost use Rattle.std.specs.List.{All};
 ghost use Rattle.common_laws.specs.Causes.{HasCause};
 ghost use Rattle.common_laws.specs.Maps.{Contents};
@@ -10,6 +10,7 @@ ghost use Rattle.col_value.specs.declared.value.Value.TheVariants.{Null};
 ghost use Rattle.row_history.specs.History.{asked_on};
 ghost use Rattle.folder_model.specs.Projections.{ordinals};
 ghost use Rattle.table_store.specs.Changing.{applied, CanApply, IsReady};
+ghost use Rattle.table_store.specs.Faults.{IsReadable, IsUnblamed};
 
 use catalog_types::{ProjColumn, Projection};
 use col_disk::{Disk, StoreFault};
@@ -94,6 +95,7 @@ pub fn prepare_part<D: Disk>(
     ensures prepared { IfOk result (λ o. (m : Contents) → D.holds disk.old ≡ Some m → IsReady m rows.now deletes.now store.old.stored o) }
     ensures ready { IfOk result (λ o. CanApply o store.new) }
     ensures stored { store.new.stored ≡ store.old.stored }
+    ensures unblamed { IfErr result (λ fault. (m : Contents) → D.holds disk.old ≡ Some m → IsReadable m store.old.stored → IsUnblamed fault) }
     ensures kept { D.holds disk.new ≡ D.holds disk.old }
     ensures moved { Moved ⟦<D as Disk>⟧ NoName NoName disk.old disk.new }
     ensures cause { HasCause StoreFault.Disk (D.faults disk.old) (D.faults disk.new) result }

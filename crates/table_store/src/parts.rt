@@ -1,6 +1,6 @@
 //! The projections of a table.
 
-ghost use Rattle.std.specs.Prelude.{◌≡◌, ◌≤◌, ◌<◌, ◌∷◌, [], Some, length, slice_set, IfOk, OnOk, OnErr};
+ghost use Rattle.std.specs.Prelude.{◌≡◌, ◌≤◌, ◌<◌, ◌∷◌, [], Some, length, slice_set, IfErr, IfOk, OnOk, OnErr};
 ghost use Rattle.std.specs.List.{All, AllZip, insert, remove};
 ghost use Rattle.common_laws.specs.Causes.{HasCause};
 ghost use Rattle.common_laws.specs.Maps.{Contents};
@@ -9,6 +9,7 @@ ghost use Rattle.col_value.specs.Order.{IsRow};
 ghost use Rattle.table_store.specs.Held.{projections_of};
 ghost use Rattle.table_store.specs.Creating.{bare};
 ghost use Rattle.table_store.specs.Changing.{all_applied, CanApply, IsReady};
+ghost use Rattle.table_store.specs.Faults.{IsReadable, IsUnblamed};
 
 use crate::part::{ReadyPart, apply_part, prepare_part};
 use catalog_types::Projection;
@@ -99,14 +100,17 @@ impl Parts {
         ensures prepared { IfOk result (λ v. (m : Contents) → D.holds disk.old ≡ Some m → AllZip (IsReady m rows.now deletes.now) (projections_of self.old) v) }
         ensures ready { IfOk result (λ v. AllZip CanApply v self.new) }
         ensures stored { projections_of self.new ≡ projections_of self.old }
+        ensures unblamed { IfErr result (λ fault. (m : Contents) → D.holds disk.old ≡ Some m → All (IsReadable m) (projections_of self.old) → IsUnblamed fault) }
         ensures kept { D.holds disk.new ≡ D.holds disk.old }
         ensures moved { Moved ⟦<D as Disk>⟧ NoName NoName disk.old disk.new }
         ensures cause { HasCause StoreFault.Disk (D.faults disk.old) (D.faults disk.new) result }
     {
-        match prepare_each(alloc, disk, self.projections.as_mut_slice(), rows, deletes) {
-            Ok(ready) => Ok(List::new(ready)),
-            Err(fault) => Err(fault),
-        }
+        let stores = self.projections.as_mut_slice();
+        let ready = match prepare_each(alloc, disk, stores, rows, deletes) {
+            Ok(ready) => ready,
+            Err(fault) => return Err(fault),
+        };
+        Ok(List::new(ready))
     }
 
     /// Does to each projection what was made ready, at an epoch. It takes no memory.
@@ -129,6 +133,7 @@ fn prepare_each<D: Disk>(
     ensures prepared { IfOk result (λ v. (m : Contents) → D.holds disk.old ≡ Some m → AllZip (IsReady m rows.now deletes.now) (projections_of stores.old) v.items) }
     ensures ready { IfOk result (λ v. AllZip CanApply v.items stores.new) }
     ensures stored { projections_of stores.new ≡ projections_of stores.old }
+    ensures unblamed { IfErr result (λ fault. (m : Contents) → D.holds disk.old ≡ Some m → All (IsReadable m) (projections_of stores.old) → IsUnblamed fault) }
     ensures kept { D.holds disk.new ≡ D.holds disk.old }
     ensures moved { Moved ⟦<D as Disk>⟧ NoName NoName disk.old disk.new }
     ensures cause { HasCause StoreFault.Disk (D.faults disk.old) (D.faults disk.new) result }

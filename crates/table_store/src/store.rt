@@ -1,8 +1,9 @@
 //! The store, and its calls.
 
-ghost use Rattle.std.specs.Prelude.{◌≡◌, ◌≤◌, ◌<◌, ◌+◌, ◌^◌, ◌∷◌, ℕ, [], true, List as Items, map, length, vec_len, vec_capacity, IfOk, OnOk, OnErr, IsSomeAnd};
-ghost use Rattle.std.specs.List.{insert, slice_get};
+ghost use Rattle.std.specs.Prelude.{◌≡◌, ◌≤◌, ◌<◌, ◌+◌, ◌^◌, ◌∷◌, ℕ, [], true, Some, List as Items, map, length, vec_len, vec_capacity, IfErr, IfOk, OnOk, OnErr, IsSomeAnd};
+ghost use Rattle.std.specs.List.{All, insert, slice_get};
 ghost use Rattle.common_laws.specs.Causes.{HasCause};
+ghost use Rattle.common_laws.specs.Maps.{Contents};
 ghost use Rattle.col_disk.specs.Moved.{Moved, NoName};
 ghost use Rattle.col_disk.specs.declared.disk.DiskFault.TheVariants.{Memory};
 ghost use Rattle.col_disk.specs.declared.disk.StoreFault.TheVariants.{Memory as no_memory};
@@ -12,9 +13,11 @@ ghost use Rattle.db_model.specs.Sound.{IsSoundDatabase, IsSoundSession};
 ghost use Rattle.store_commit.specs.Seen.{Stands, seen};
 ghost use Rattle.store_commit.specs.Making.{Makes};
 ghost use Rattle.container_writer.specs.Writing.{DataFrom};
+ghost use Rattle.catalog_types.specs.Valid.{IsValid};
 ghost use Rattle.sound_laws.specs.Moves.{moved_at};
 ghost use Rattle.table_store.specs.Held.{at_epoch, projections_of, IsHeld};
-ghost use Rattle.table_store.specs.Drawing.{Draws, DrawsOne};
+ghost use Rattle.table_store.specs.Drawing.{Draws, DrawsJob, DrawsOne};
+ghost use Rattle.table_store.specs.Faults.{IsReadable, IsUnblamed};
 ghost use Rattle.table_store.specs.Moving.{IsFreshAt, IsRewritten};
 ghost use Rattle.table_store.specs.Creating.{bare, created, dropped, first_entry, first_table, place_of, with_table};
 
@@ -130,13 +133,15 @@ fn prepare_move<D: Disk>(
     requires fresh { IsFreshAt (map projections_of tables.now) table place }
     ensures moved_out { IfOk result (λ r. IsRewritten last root.now (map projections_of tables.now) table place r.version r.catalogue r.store.stored (D.holds disk.old) (D.holds disk.new)) }
     ensures drawn { IfOk result (λ r. Draws root.now r.catalogue) }
+    ensures job { IfOk result (λ r. DrawsJob table place (at_epoch last root.now) r.catalogue) }
+    ensures unblamed { IfErr result (λ fault. (m n : Contents) → D.holds disk.old ≡ Some m → D.holds disk.new ≡ Some n → All (All (IsReadable m)) (map projections_of tables.now) → IsUnblamed fault) }
     ensures moved { Moved ⟦<D as Disk>⟧ (DataFrom root.now.next) NoName disk.old disk.new }
     ensures cause { HasCause StoreFault.Disk (D.faults disk.old) (D.faults disk.new) result }
 {
     let store = &tables[table].as_slice()[place];
     let MovedOut { entry, next } = match moveout(alloc, store, last, root.next, disk) {
         Ok(out) => out,
-        Err(fault) => return Err(fault),
+        Err(fault) => return Err(StoreFault::from(fault)),
     };
     if next >= MOST_NUMBERS {
         return Err(StoreFault::Memory);
@@ -188,10 +193,11 @@ impl TableStore {
         }
     }
 
-    /// The catalogue that the disk opens to, which lists each projection. It takes no memory.
+    /// The catalogue that the disk opens to, which is valid and lists each projection. It takes no memory.
     pub fn root(&self) -> &Catalogue
         ensures root { self.now.catalogue ≡ at_epoch self.now.catalogue.last result.now }
         ensures entries { map (λ ps. map (λ p. p.entry) ps) self.now.stores ≡ map (λ t. t.projections) result.now.tables }
+        ensures valid { IsValid result.now }
     {
         &self.root
     }
@@ -283,6 +289,7 @@ impl TableStore {
         ensures made { (d : Database) → Stands ⟦<D as Disk>⟧ self.old disk.old d → IsSoundSession d changes.now → has_changes changes.now ≡ true → IsSoundDatabase (committed changes.now d)
             → Makes ⟦<D as Disk>⟧ no_memory self.old self.new disk.old disk.new result d (committed changes.now d) }
         ensures catalogue { OnOk result (self.new.catalogue ≡ at_epoch (self.old.catalogue.last + 1) self.old.catalogue) }
+        ensures unblamed { IfErr result (λ fault. (d : Database) → Stands ⟦<D as Disk>⟧ self.old disk.old d → IsUnblamed fault) }
         ensures same { OnErr result (self.new ≡ self.old) }
         ensures cause { HasCause StoreFault.Disk (D.faults disk.old) (D.faults disk.new) result }
     {
@@ -306,8 +313,8 @@ impl TableStore {
     }
 
     /// All data of a projection goes to disk: its rows and marks in memory are written behind what it has there, and then a catalogue
-    /// that lists them becomes the one that the disk opens to. `Damaged` names a delete vector that was written and reads otherwise.
-    /// Numbers from 2^61 on are answered as want of memory.
+    /// that lists them becomes the one that the disk opens to. `Damaged` names a delete vector that was written and reads otherwise;
+    /// over a database there is none. Numbers from 2^61 on are answered as want of memory.
     pub fn move_out<D: Disk>(
         &mut self,
         alloc: Global,
@@ -318,6 +325,8 @@ impl TableStore {
         requires { IsFreshAt self.old.stores table place }
         ensures made { (d : Database) → Stands ⟦<D as Disk>⟧ self.old disk.old d → Makes ⟦<D as Disk>⟧ no_memory self.old self.new disk.old disk.new result d (moved_at table place d) }
         ensures drawn { OnOk result (Draws self.old.catalogue self.new.catalogue) }
+        ensures job { OnOk result (DrawsJob table place self.old.catalogue self.new.catalogue) }
+        ensures unblamed { IfErr result (λ fault. (d : Database) → Stands ⟦<D as Disk>⟧ self.old disk.old d → IsUnblamed fault) }
         ensures same { OnErr result (self.new ≡ self.old) }
         ensures cause { HasCause StoreFault.Disk (D.faults disk.old) (D.faults disk.new) result }
     {

@@ -32,6 +32,35 @@ impl Model for Changes {
     ghost invariant = { λ c. All IsRow c.rows.items };
 }
 
+fn copied_rows(alloc: Global, rows: &[Row]) -> Result<Vec<Row>, AllocError>
+    ensures { IfOk result (λ v. v.items ≡ rows.now) }
+{
+    let mut out = Vec::with_capacity(alloc, rows.len())?;
+    for row in rows {
+        out.push(row.copy(alloc)?)?;
+    }
+    Ok(out)
+}
+
+fn copied(alloc: Global, asked: &Asked) -> Result<Asked, AllocError>
+    ensures { IfOk result (λ a. a ≡ asked.now) }
+{
+    Ok(Asked {
+        row: asked.row.copy(alloc)?,
+        ins: asked.ins,
+    })
+}
+
+fn copied_deletes(alloc: Global, deletes: &[Asked]) -> Result<Vec<Asked>, AllocError>
+    ensures { IfOk result (λ v. v.items ≡ deletes.now) }
+{
+    let mut out = Vec::with_capacity(alloc, deletes.len())?;
+    for asked in deletes {
+        out.push(copied(alloc, asked)?)?;
+    }
+    Ok(out)
+}
+
 impl Changes {
     /// None yet in the table of this name.
     pub(crate) fn untouched(alloc: Global, table: &[u8]) -> Result<Changes, AllocError>
@@ -43,6 +72,18 @@ impl Changes {
             exclusive: false,
             rows: Vec::new(alloc),
             deletes: Vec::new(alloc),
+        })
+    }
+
+    /// The same changes once more.
+    pub(crate) fn copy(&self, alloc: Global) -> Result<Changes, AllocError>
+        ensures { IfOk result (λ c. c ≡ self.now) }
+    {
+        Ok(Changes {
+            table: self.table.copy(alloc)?,
+            exclusive: self.exclusive,
+            rows: copied_rows(alloc, self.rows.as_slice())?,
+            deletes: copied_deletes(alloc, self.deletes.as_slice())?,
         })
     }
 

@@ -1,6 +1,6 @@
 //! The changes of one session.
 
-ghost use Rattle.std.specs.Prelude.{◌≡◌, [], filter, IfSome, IfNone, OnOk, OnErr};
+ghost use Rattle.std.specs.Prelude.{◌≡◌, [], filter, IfOk, IfSome, IfNone, OnOk, OnErr};
 ghost use Rattle.std.specs.List.{All};
 ghost use Rattle.std.specs.Option.{option_copied};
 ghost use Rattle.col_value.specs.Order.{IsRow};
@@ -28,6 +28,16 @@ impl Model for Session {
     ghost Value = { List Changed };
 
     ghost view = { λ s. s.changes.items };
+}
+
+fn copied(alloc: Global, changes: &[Changes]) -> Result<Vec<Changes>, AllocError>
+    ensures { IfOk result (λ v. v.items ≡ changes.now) }
+{
+    let mut out = Vec::with_capacity(alloc, changes.len())?;
+    for change in changes {
+        out.push(change.copy(alloc)?)?;
+    }
+    Ok(out)
 }
 
 impl Session {
@@ -97,6 +107,23 @@ impl Session {
             Some(changes) => changes.is_exclusive() || want,
             None => false,
         }
+    }
+
+    /// The same changes once more, with rows more among the pending ones of a table. What is copied is what was pending.
+    pub fn with_rows(
+        &self,
+        alloc: Global,
+        table: &[u8],
+        rows: Vec<Row>,
+    ) -> Result<Session, AllocError>
+        requires { All IsRow rows.items }
+        ensures { IfOk result (λ s. s ≡ with_rows table.now rows.items self.now) }
+    {
+        let mut session = Session {
+            changes: copied(alloc, self.changes.as_slice())?,
+        };
+        session.insert(alloc, table, rows)?;
+        Ok(session)
     }
 
     /// Rows join the pending rows of a table.

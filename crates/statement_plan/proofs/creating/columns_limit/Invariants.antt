@@ -1,6 +1,6 @@
 use Rattle.std.proofs.Common.{◌≡◌, drop}
 use Rattle.std.specs.List.{enumerate_from}
-use Rattle.sql_binder.specs.Queries.{first_given}
+use Rattle.sql_binding.specs.Firsts.{first_given}
 use Rattle.db_model.specs.Refusing.{column_limit, columns_limit}
 use Rattle.statement_plan.proofs.creating.columns_limit.Given as goal
 

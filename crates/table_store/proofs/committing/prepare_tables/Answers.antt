@@ -1,6 +1,6 @@
 use Rattle.std.proofs.Common.{◌≡◌, ◌<◌, ◌+◌, ◌++◌, List, [], ◌∷◌, length, map, set, take, get_or, refl, sym, ◌∙◌, ap, subst, arith}
 use Rattle.std.specs.Prelude.{Option}
-use Rattle.std.specs.List.{AllZip}
+use Rattle.std.specs.List.{All, AllZip}
 use Rattle.std.proofs.lemmas.List.{length-set}
 use Rattle.col_disk.proofs.Moving.{moved_join, moved_none}
 use Rattle.col_value.specs.declared.value.Value.{Value}
@@ -13,6 +13,8 @@ use Rattle.table_store.specs.Changing.{Ready, CanApply, IsReady}
 use Rattle.table_store.specs.Committing.{AreReady}
 use Rattle.table_store.proofs.Loops.{fits_more, map_kept}
 use Rattle.table_store.proofs.Readied.{ready_more}
+use Rattle.table_store.specs.Faults.{IsReadable}
+use Rattle.table_store.proofs.Unblamed.{one_of}
 use Rattle.table_store.proofs.committing.prepare_tables.Goals as goal
 
 pub loop-i-init : goal.loop-i-init
@@ -69,3 +71,10 @@ loop-i-preserved g c =
       kept = c.prepare.ensures.kept ∙ c.loop-i.invariant.kept;
       moved = moved_join g.D.Disk c.loop-i.invariant.moved c.prepare.ensures.moved;
     }
+
+pub returns-in-Err-clause-unblamed : goal.returns-in-Err-clause-unblamed
+returns-in-Err-clause-unblamed g c = λ m told all.
+    let lt : c.loop-i.i < length c.loop-i.tables = omega (arith, c.loop-i-test.true, c.loop-i.invariant.long, c.requires) in
+    c.in-Err.ensures.unblamed m (c.loop-i.invariant.kept ∙ told)
+    (subst (λ (ps : List Loaded). All (IsReadable m) (projections_of ps)) c.index-tables-i.is
+    (one_of projections_of (All (IsReadable m)) c.args.tables.now c.loop-i.tables c.loop-i.i c.index-tables-i.result c.loop-i.invariant.stored lt c.index-tables-i.is all))

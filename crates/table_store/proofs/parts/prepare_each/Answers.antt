@@ -8,6 +8,8 @@ use Rattle.proj_store.specs.Loaded.{Loaded}
 use Rattle.table_store.specs.Held.{projections_of}
 use Rattle.table_store.specs.Changing.{Ready, CanApply, IsReady}
 use Rattle.table_store.proofs.Loops.{made_more, fits_more, map_kept}
+use Rattle.table_store.specs.Faults.{IsReadable}
+use Rattle.table_store.proofs.Unblamed.{one_of}
 use Rattle.table_store.proofs.parts.prepare_each.Goals as goal
 
 pub loop-i-init : goal.loop-i-init
@@ -59,3 +61,10 @@ loop-i-preserved g c =
       kept = c.prepare_part.ensures.kept ∙ c.loop-i.invariant.kept;
       moved = moved_join g.D.Disk c.loop-i.invariant.moved c.prepare_part.ensures.moved;
     }
+
+pub returns-in-Err-clause-unblamed : goal.returns-in-Err-clause-unblamed
+returns-in-Err-clause-unblamed g c = λ m told all.
+    let lt : c.loop-i.i < length c.loop-i.stores = omega (arith, c.loop-i-test.true, c.loop-i.invariant.long) in
+    c.in-Err.ensures.unblamed m (c.loop-i.invariant.kept ∙ told)
+    (subst (λ (p : Loaded). IsReadable m p.stored) c.index-stores-i.is
+    (one_of (λ (p : Loaded). p.stored) (IsReadable m) c.args.stores.now c.loop-i.stores c.loop-i.i c.index-stores-i.result c.loop-i.invariant.stored lt c.index-stores-i.is all))

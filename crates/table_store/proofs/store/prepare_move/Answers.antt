@@ -1,9 +1,12 @@
-use Rattle.std.proofs.Common.{◌≡◌, List, map, get_or, ◌∙◌, ap}
+use Rattle.std.proofs.Common.{◌≡◌, List, map, get_or, sym, ◌∙◌, ap, subst}
+use Rattle.catalog_types.specs.declared.catalogue.Projection.{Projection}
 use Rattle.col_disk.proofs.Moving.{moved_join, moved_read}
 use Rattle.proj_store.specs.Loaded.{Loaded}
 use Rattle.table_store.specs.Held.{projections_of}
-use Rattle.table_store.proofs.Drawn.{move_draws}
+use Rattle.table_store.proofs.Drawn.{move_draws, move_job}
 use Rattle.table_store.proofs.Moved.{drawn_later, entry_there, fresh_table, fresh_place, rewritten}
+use Rattle.table_store.specs.Faults.{IsUnblamed}
+use Rattle.table_store.proofs.Unblamed.{moved_unblamed, of_disk}
 use Rattle.table_store.proofs.store.prepare_move.Goals as goal
 
 pub returns-in-Err-load-clause-moved : goal.returns-in-Err-load-clause-moved
@@ -42,3 +45,29 @@ returns-in-Ok-with_entry_at-clause-drawn g c =
     move_draws c.args.root.now c.in-Ok-with_entry_at.catalogue tables c.args.last c.in-Ok.out.next i j ps p c.in-Ok.out.entry c.requires.held
     (fresh_table tables i j c.requires.fresh) c.index-tables-table.is (fresh_place tables i j ps c.index-tables-table.is c.requires.fresh) p_is
     (drawn_later c.args.last c.args.root.now.next c.in-Ok.out.next p.stored.entry c.in-Ok.out.entry c.in-Ok.ensures.entry) c.in-Ok.ensures.upto c.in-Ok.ensures.count c.in-Ok-with_entry_at.ensures
+
+pub returns-in-Ok-with_entry_at-clause-job : goal.returns-in-Ok-with_entry_at-clause-job
+returns-in-Ok-with_entry_at-clause-job g c =
+    let tables = c.args.tables.now in
+    let i = c.args.table in
+    let j = c.args.place in
+    let ps = c.index-tables-table.result in
+    let p = c.index-as_slice-place.result in
+    let p_is : p ≡ get_or ps j p = c.index-as_slice-place.is ∙ ap (λ (qs : List Loaded). get_or qs j p) c.as_slice.ensures in
+    move_job c.args.root.now c.in-Ok-with_entry_at.catalogue tables c.args.last c.in-Ok.out.next i j ps p c.in-Ok.out.entry c.requires.held
+    (fresh_table tables i j c.requires.fresh) c.index-tables-table.is (fresh_place tables i j ps c.index-tables-table.is c.requires.fresh) p_is
+    (drawn_later c.args.last c.args.root.now.next c.in-Ok.out.next p.stored.entry c.in-Ok.out.entry c.in-Ok.ensures.entry) c.in-Ok.ensures.upto c.in-Ok.ensures.count
+    (ap (λ (e : Projection). e.lge) c.in-Ok.ensures.entry.is) c.in-Ok-with_entry_at.ensures
+
+pub returns-in-Err-clause-unblamed : goal.returns-in-Err-clause-unblamed
+returns-in-Err-clause-unblamed g c = λ m n was now all. subst IsUnblamed (sym c.from.ensures) (of_disk c.in-Err.fault)
+
+pub returns-in-Err-load-clause-unblamed : goal.returns-in-Err-load-clause-unblamed
+returns-in-Err-load-clause-unblamed g c = λ m n was now all.
+    let tables = c.args.tables.now in
+    let j = c.args.place in
+    let ps = c.index-tables-table.result in
+    let p = c.index-as_slice-place.result in
+    let p_is : p ≡ get_or ps j p = c.index-as_slice-place.is ∙ ap (λ (qs : List Loaded). get_or qs j p) c.as_slice.ensures in
+    moved_unblamed m n c.args.root.now tables c.args.table j ps p c.in-Ok.out.entry c.in-Ok-entry_copy.copy (g.D.Disk.holds c.args.disk.now) (g.D.Disk.holds c.moveout.new.disk) (g.D.Disk.holds c.load.new.disk) c.in-Err-load.fault
+    c.requires.held c.requires.fresh c.index-tables-table.is p_is c.in-Ok.ensures.held c.in-Ok-entry_copy.ensures c.in-Err-load.ensures.blamed c.load.ensures.looks.contents was now all

@@ -1,9 +1,10 @@
-use Rattle.std.proofs.Common.{◌≡◌, ◌+◌, [], true, false, refl, rules}
+use Rattle.std.proofs.Common.{◌≡◌, ◌+◌, [], true, false, refl, rules, sym, subst}
 use Rattle.std.specs.Prelude.{Ok, Err}
 use Rattle.col_disk.specs.declared.disk.StoreFault.TheVariants.{Memory}
 use Rattle.db_model.specs.State.{has_changes}
 use Rattle.db_model.specs.Events.{changes_committed}
-use Rattle.store_core.specs.Running.{running}
+use Rattle.store_core.specs.Running.{Running, running}
+use Rattle.store_commit.specs.Seen.{Stands}
 use Rattle.store_core.proofs.Doing.{does_failed}
 use Rattle.store_core.proofs.Sessions.{put_at, commit_at, idle_at}
 use Rattle.store_core.proofs.store.Store.commit.Goals as goal
@@ -34,3 +35,6 @@ returns-clause-does g c = λ state here.
     let has : has_changes c.session-changes.result.now ≡ true = search (rules, some) in
     commit_at g.D.Disk was c.commit.new.self sessions c.take-2.new.self current c.args.self.now (Ok tt) state c.session-changes.result.now (was.catalogue.last + 1) c.self.view_is c.session-changes.ensures has here
     (c.commits_of_a_session_are_sound.ensures state here.asked here.sound) c.take-2.ensures.left c.in-Ok.ensures.made c.in-Ok.ensures.catalogue
+
+pub returns-in-Err-clause-unblamed : goal.returns-in-Err-clause-unblamed
+returns-in-Err-clause-unblamed g c = λ state here. c.in-Err.ensures.unblamed state.database (subst (λ (r : Running). Stands g.D.Disk r.seen c.args.disk.now state.database) (sym c.self.view_is) here.database)

@@ -3,6 +3,7 @@ use Rattle.std.specs.Prelude.{List, Some, None}
 use Rattle.catalog_types.specs.declared.catalogue.Catalogue.{Catalogue}
 use Rattle.catalog_types.specs.declared.catalogue.Table as kept
 use Rattle.store_core.proofs.First.{found_at, there_now, entries_now, found_fresh, shape_first, first_done, first_failed, first_none}
+use Rattle.store_core.proofs.Small.{moved_behind}
 use Rattle.store_core.proofs.store.Store.move_first.Goals as goal
 
 pub returns-in-None-clause-does : goal.returns-in-None-clause-does
@@ -39,3 +40,12 @@ returns-in-Err-clause-does g c = λ state here.
     let there = there_now c.as_slice.result.now at s c.self.inside.txns c.self.inside.current c.args.self.now tables c.self.view_is c.in-Some.ensures.there in
     let first = found_at c.as_slice.result.now c.last.result (Some at) s c.self.inside.txns c.self.inside.current c.args.self.now tables c.last.ensures c.self.view_is c.in-Some.ensures.first in
     first_failed g.D.Disk c.args.self.now _ state c.in-Err.fault at there.0 here there.1 (shape_first c.args.self.now at there.0 there.1 first) (c.in-Err.ensures.does state here)
+
+pub returns-in-Ok-clause-job : goal.returns-in-Ok-clause-job
+returns-in-Ok-clause-job g c =
+    let s = c.self.inside.tables in
+    let tables : s.catalogue.tables ≡ c.as_slice.result.now = ap (λ (x : Catalogue). x.tables) c.root.ensures.root ∙ sym c.as_slice.ensures in
+    let at = c.in-Some.at in
+    let there = there_now c.as_slice.result.now at s c.self.inside.txns c.self.inside.current c.args.self.now tables c.self.view_is c.in-Some.ensures.there in
+    let first = found_at c.as_slice.result.now c.last.result (Some at) s c.self.inside.txns c.self.inside.current c.args.self.now tables c.last.ensures c.self.view_is c.in-Some.ensures.first in
+    moved_behind c.args.self.now.seen.catalogue c.move_out.new.self.seen.catalogue at there.0 there.1 (shape_first c.args.self.now at there.0 there.1 first) c.in-Ok.ensures.job

@@ -1,8 +1,21 @@
 use Rattle.col_disk.specs.declared.disk.StoreFault.TheVariants.{Memory}
 use Rattle.store_core.proofs.Events.{move_does}
+use Rattle.std.proofs.Common.{sym, subst}
+use Rattle.std.specs.Prelude.{OnOk}
+use Rattle.std.proofs.lemmas.Result.{IfErr-weaker}
+use Rattle.store_commit.specs.Seen.{Stands}
+use Rattle.store_core.specs.Running.{Running}
+use Rattle.table_store.specs.Drawing.{DrawsJob}
 use Rattle.store_core.proofs.store.Store.move_out.Goals as goal
 
 pub returns-clause-does : goal.returns-clause-does
 returns-clause-does g c = λ state here.
     move_does g.D.Disk Memory c.self.inside.tables c.move_out.new.self c.self.inside.txns c.self.inside.current c.args.self.now c.args.table c.args.place c.move_out.result state c.self.view_is here
     (c.moved_states_are_sound.ensures state c.args.table c.args.place here.asked here.sound) c.move_out.ensures.made c.move_out.ensures.drawn
+
+pub returns-clause-job : goal.returns-clause-job
+returns-clause-job g c = subst (λ (r : Running). OnOk c.move_out.result (DrawsJob c.args.table c.args.place r.seen.catalogue c.move_out.new.self.catalogue)) c.self.view_is c.move_out.ensures.job
+
+pub returns-clause-unblamed : goal.returns-clause-unblamed
+returns-clause-unblamed g c =
+    IfErr-weaker c.move_out.result _ _ (λ fault none state here. none state.database (subst (λ (r : Running). Stands g.D.Disk r.seen c.args.disk.now state.database) (sym c.self.view_is) here.database)) c.move_out.ensures.unblamed

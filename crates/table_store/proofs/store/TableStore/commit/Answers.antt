@@ -5,6 +5,7 @@ use Rattle.db_model.specs.State.{committed}
 use Rattle.store_commit.specs.Seen.{Seen}
 use Rattle.table_store.specs.Held.{at_epoch}
 use Rattle.table_store.proofs.Standing.{reads_only, held_still, held_applied, commit_done}
+use Rattle.table_store.proofs.Unblamed.{commit_unblamed}
 use Rattle.table_store.proofs.store.TableStore.commit.Goals as goal
 
 pub returns-then-self-ge-MOST_EPOCHS-clause-made : goal.returns-then-self-ge-MOST_EPOCHS-clause-made
@@ -27,3 +28,7 @@ returns-clause-made g c = λ d stands session has sound.
 
 pub returns-clause-catalogue : goal.returns-clause-catalogue
 returns-clause-catalogue g c = ap (λ (s : Seen). at_epoch (s.catalogue.last + 1) s.catalogue) c.self.view_is
+
+pub returns-in-Err-clause-unblamed : goal.returns-in-Err-clause-unblamed
+returns-in-Err-clause-unblamed g c = λ d stands.
+    commit_unblamed g.D.Disk c.args.disk.now c.self.inside.root c.self.inside.last c.self.inside.tables.items c.args.self.now d c.in-Err.fault c.self.view_is stands c.in-Err.ensures.unblamed

@@ -1,17 +1,20 @@
 use Rattle.std.proofs.Common.{List, map, length, set, sym, ap, subst, arith}
 use Rattle.std.specs.Prelude.{Err}
+use Rattle.std.specs.List.{All}
 use Rattle.col_disk.specs.declared.disk.StoreFault.{StoreFault}
 use Rattle.col_disk.specs.declared.disk.StoreFault.TheVariants as fault
 use Rattle.proj_store.specs.Loaded.{Loaded}
 use Rattle.store_commit.specs.Seen.{Seen}
 use Rattle.store_commit.specs.Making.{Makes}
 use Rattle.sound_laws.specs.Moves.{moved_at}
-use Rattle.table_store.specs.Drawing.{Draws}
+use Rattle.table_store.specs.Drawing.{Draws, DrawsJob}
 use Rattle.table_store.specs.Held.{at_epoch, projections_of, IsHeld}
-use Rattle.table_store.proofs.Drawn.{some_drawn}
+use Rattle.table_store.proofs.Drawn.{job_done, some_drawn}
 use Rattle.table_store.specs.Moving.{IsFreshAt, IsRewritten}
 use Rattle.table_store.proofs.Moved.{fresh_table, fresh_place, rewritten_catalogue}
 use Rattle.table_store.proofs.Makes.{move_short, move_made, move_seen, move_held, store_makes, store_done}
+use Rattle.table_store.specs.Faults.{IsReadable, IsUnblamed}
+use Rattle.table_store.proofs.Unblamed.{move_unblamed, of_disk}
 use Rattle.table_store.proofs.store.TableStore.move_out.Goals as goal
 
 pub prepare_move-requires-clause-held : goal.prepare_move-requires-clause-held
@@ -84,3 +87,19 @@ pub returns-clause-drawn : goal.returns-clause-drawn
 returns-clause-drawn g c =
     let last = c.self.inside.last in
     subst (λ (s : Seen). Draws s.catalogue (at_epoch last c.in-Ok.ready.catalogue)) c.self.view_is (some_drawn c.self.inside.root c.in-Ok.ready.catalogue last last c.in-Ok.ensures.drawn)
+
+pub returns-clause-job : goal.returns-clause-job
+returns-clause-job g c =
+    let last = c.self.inside.last in
+    let i = c.args.table in
+    let j = c.args.place in
+    subst (λ (s : Seen). DrawsJob i j s.catalogue (at_epoch last c.in-Ok.ready.catalogue)) c.self.view_is (job_done c.self.inside.root c.in-Ok.ready.catalogue last i j c.in-Ok.ensures.job)
+
+pub returns-in-Err-clause-unblamed : goal.returns-in-Err-clause-unblamed
+returns-in-Err-clause-unblamed g c = λ d stands.
+    move_unblamed g.D.Disk c.self.inside.root c.self.inside.last c.self.inside.tables.items c.args.self.now c.args.table c.args.place c.in-Err.fault d c.self.view_is c.self.invariant
+    (subst (λ (s : Seen). IsFreshAt s.stores c.args.table c.args.place) (sym c.self.view_is) c.requires) c.prepare_move.ensures.moved stands
+    (λ m n was now all. c.in-Err.ensures.unblamed m n was now (subst (λ (ts : List (List Loaded)). All (All (IsReadable m)) (map projections_of ts)) (sym c.as_slice.ensures.value) all))
+
+pub returns-in-Err-settle-clause-unblamed : goal.returns-in-Err-settle-clause-unblamed
+returns-in-Err-settle-clause-unblamed g c = λ d stands. subst IsUnblamed (sym c.from.ensures) (of_disk c.in-Err-settle.fault)

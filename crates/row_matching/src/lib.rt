@@ -1,0 +1,17 @@
+//! The rows that a DELETE and an UPDATE match.
+//!
+//! `match_rows` answers the rows of a table that a session sees and on which a condition is true: the committed ones, each with its insert
+//! epoch, and the session's pending ones. Over a disk for which the store stands for a database they are those of `AreMatches` of
+//! `specs/Matching.antt`, and `matches_are_the_matched_rows` says that these are what db_model's events and refusals of both statements are
+//! stated in.
+#![tactic(auto)]
+
+mod keeping;
+mod laws;
+mod lessening;
+mod matching;
+mod seeing;
+mod sources;
+
+pub use laws::matches_are_the_matched_rows;
+pub use matching::{Matched, match_rows};

@@ -1,0 +1,132 @@
+//! The rows that match.
+
+ghost use Rattle.std.specs.Prelude.{ℕ, ◌≡◌, [], true, List, Some, IfOk, IfErr};
+ghost use Rattle.std.specs.List.{All};
+ghost use Rattle.common_laws.specs.Causes.{HasCause};
+ghost use Rattle.col_disk.specs.Moved.{Moved, NoName};
+ghost use Rattle.col_value.specs.Order.{IsRow};
+ghost use Rattle.sql_bound.specs.Bounds.{is_narrow};
+ghost use Rattle.db_model.specs.Database.{Database};
+ghost use Rattle.db_model.specs.State.{pending_deletes, pending_rows};
+ghost use Rattle.exec_scan.specs.Scanning.{IsUnblamed};
+ghost use Rattle.row_matching.specs.Matching.{AreMatches, CanMatch};
+ghost use Rattle.row_matching.specs.Seeing.{AreFound};
+
+use crate::keeping::{kept_asked, kept_rows};
+use crate::lessening::without;
+use crate::seeing::{are_rows, seen_rows};
+use crate::sources::source_of;
+use col_disk::{Disk, StoreFault};
+use col_value::{Asked, Row, Stamped};
+use proj_store::vectors_are_those_of_the_disk;
+use sql_bound::Expr;
+use std::alloc::{AllocError, Global};
+use stored_rows::one_list_of_rows;
+use table_store::TableStore;
+use txn_core::Session;
+
+/// The rows of a table that match a condition: committed ones in any order, each with its insert epoch, and the session's pending ones.
+#[derive(Drop)]
+pub struct Matched {
+    pub committed: Vec<Asked>,
+    pub pending: Vec<Row>,
+}
+
+/// The pending deletes of the table of a name.
+fn pending_deletes<'a>(changes: &'a Session, name: &[u8]) -> &'a [Asked]
+    ensures { result.now ≡ pending_deletes name.now changes.now }
+{
+    match changes.on(name) {
+        Some(changes) => changes.deletes(),
+        None => &[],
+    }
+}
+
+/// The pending rows of the table of a name.
+fn pending_rows<'a>(changes: &'a Session, name: &[u8]) -> &'a [Row]
+    ensures rows { result.now ≡ pending_rows name.now changes.now }
+    ensures valid { All IsRow result.now }
+{
+    match changes.on(name) {
+        Some(changes) => changes.rows(),
+        None => &[],
+    }
+}
+
+/// What matches of the rows that a projection stores, visible at an epoch, and of what the session has changed.
+fn find_matches(
+    alloc: Global,
+    keep: &[Expr],
+    rows: &[Stamped],
+    epoch: u64,
+    places: &[usize],
+    changes: &Session,
+    name: &[u8],
+) -> Result<Matched, AllocError>
+    requires { All (λ e. is_narrow [] e ≡ true) keep.now }
+    ensures found { IfOk result (λ r. AreFound keep.now epoch places.now rows.now changes.now name.now r.committed.items r.pending.items) }
+    ensures valid { IfOk result (λ r. All (λ a. IsRow a.row) r.committed.items × All IsRow r.pending.items) }
+{
+    let seen = seen_rows(alloc, rows, epoch, places)?;
+    let left = without(alloc, seen, pending_deletes(changes, name))?;
+    if !are_rows(left.as_slice()) {
+        return Err(AllocError);
+    }
+    let committed = kept_asked(alloc, keep, left.as_slice())?;
+    let pending = kept_rows(alloc, keep, pending_rows(changes, name))?;
+    Ok(Matched { committed, pending })
+}
+
+/// The rows of the table at a place that a session with these changes sees and on which all conditions are true. No file is blamed where the
+/// store stands for a database. Nothing is written.
+pub fn match_rows<D: Disk>(
+    alloc: Global,
+    tables: &TableStore,
+    changes: &Session,
+    table: usize,
+    keep: &[Expr],
+    disk: &mut D,
+) -> Result<Matched, StoreFault>
+    requires { All (λ e. is_narrow [] e ≡ true) keep.now }
+    ensures matched { IfOk result (λ r. (d : Database) → CanMatch ⟦<D as Disk>⟧ tables.now disk.old changes.now d → AreMatches keep.now d changes.now table r.committed.items r.pending.items) }
+    ensures valid { IfOk result (λ r. All (λ a. IsRow a.row) r.committed.items × All IsRow r.pending.items) }
+    ensures unblamed { IfErr result (λ fault. (d : Database) → CanMatch ⟦<D as Disk>⟧ tables.now disk.old changes.now d → IsUnblamed fault) }
+    ensures kept { D.holds disk.new ≡ D.holds disk.old }
+    ensures moved { Moved ⟦<D as Disk>⟧ NoName NoName disk.old disk.new }
+    ensures cause { HasCause StoreFault.Disk (D.faults disk.old) (D.faults disk.new) result }
+{
+    one_list_of_rows();
+    vectors_are_those_of_the_disk();
+    let Some(entry) = tables.root().tables.as_slice().get(table) else {
+        return Err(StoreFault::Memory);
+    };
+    let Some(parts) = tables.tables().get(table) else {
+        return Err(StoreFault::Memory);
+    };
+    let parts = parts.as_slice();
+    let source = match source_of(alloc, parts, entry.columns.as_slice().len()) {
+        Ok(source) => source,
+        Err(AllocError) => return Err(StoreFault::Memory),
+    };
+    let Some(store) = parts.get(source.place) else {
+        return Err(StoreFault::Memory);
+    };
+    let rows = match store.stamped(alloc, disk) {
+        Ok(rows) => rows,
+        Err(fault) => return Err(fault),
+    };
+    let name = entry.name.as_slice();
+    let places = source.places.as_slice();
+    match find_matches(
+        alloc,
+        keep,
+        rows.as_slice(),
+        tables.last(),
+        places,
+        changes,
+        name,
+    ) {
+        Ok(matched) => Ok(matched),
+        Err(AllocError) => Err(StoreFault::Memory),
+    }
+}

@@ -1,0 +1,81 @@
+//! A moveout of all projections, and the end of all sessions.
+
+ghost use Rattle.std.specs.Prelude.{◌≡◌, ◌≤◌, ℕ, length, nat_le, is_some};
+ghost use Rattle.common_laws.specs.Causes.{HasCause};
+ghost use Rattle.db_model.specs.State.{State};
+ghost use Rattle.mover_policy.specs.First.{all_projections, behind_in, first_in};
+ghost use Rattle.store_core.specs.Moving.{MovesAllOf};
+ghost use Rattle.store_core.specs.Running.{IsState};
+ghost use Rattle.store_core.specs.Sessions.{eight_dropped, with_none};
+
+use super::Store;
+use col_disk::{Disk, StoreFault};
+use mover_policy::first_behind;
+use std::alloc::Global;
+use txn_core::Txns;
+
+// From this number on no event draws.
+const SPENT: u64 = 1 << 60;
+
+// A catalogue has no more projections: 16 in each of 1,024 tables.
+const MOST_PROJECTIONS: usize = 16_384;
+
+/// The changes of the eight sessions are dropped.
+fn drop_eight(alloc: Global, txns: &mut Txns)
+    ensures { txns.new ≡ eight_dropped txns.old }
+{
+    for session in 1..9 {
+        txns.take(alloc, session);
+    }
+}
+
+impl Store {
+    /// Whether the numbers of files are spent: then no event draws any more. It takes no memory.
+    pub fn are_spent(&self) -> bool
+        ensures { result ≡ nat_le 1152921504606846976 self.now.seen.catalogue.next }
+    {
+        self.tables.root().next >= SPENT
+    }
+
+    /// ROLLBACK in each session: what waits for COMMIT is dropped. It takes no memory, and the disk isn't called.
+    pub fn roll_back_all(&mut self, alloc: Global)
+        ensures { self.new ≡ with_none self.old }
+    {
+        drop_eight(alloc, &mut self.txns);
+    }
+
+    /// Whether some projection is behind.
+    fn is_behind(&self) -> bool
+        ensures { result ≡ is_some (first_in (behind_in self.now.seen.catalogue.last (all_projections self.now.seen.catalogue.tables))) }
+    {
+        first_behind(self.tables.root().tables.as_slice(), self.tables.last()).is_some()
+    }
+
+    /// There are no more projections than a catalogue may have.
+    fn projections_fit(&self)
+        ensures { length (all_projections self.now.seen.catalogue.tables) ≤ 16384 }
+    {
+        let _root = self.tables.root();
+    }
+
+    /// All projections that are behind are moved out, one after the other, up to a moveout that would draw where the numbers of files are
+    /// spent. Answers whether it stopped there. Where memory is short, some of them may have been moved out before; over a state no file is
+    /// blamed.
+    pub fn move_all<D: Disk>(&mut self, alloc: Global, disk: &mut D) -> Result<bool, StoreFault>
+        ensures moves { (state : State) → IsState ⟦<D as Disk>⟧ self.old disk.old state → MovesAllOf ⟦<D as Disk>⟧ self.new disk.old disk.new result state }
+        ensures cause { HasCause StoreFault.Disk (D.faults disk.old) (D.faults disk.new) result }
+    {
+        self.projections_fit();
+        for _ in 0..MOST_PROJECTIONS {
+            if self.are_spent() {
+                return Ok(self.is_behind());
+            }
+            match self.move_first(alloc, disk) {
+                Ok(true) => {}
+                Ok(false) => return Ok(false),
+                Err(fault) => return Err(fault),
+            }
+        }
+        Ok(false)
+    }
+}

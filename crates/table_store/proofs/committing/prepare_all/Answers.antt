@@ -1,0 +1,13 @@
+use Rattle.std.proofs.Common.{◌≡◌, List, map, subst}
+use Rattle.std.specs.Prelude.{Some, IfErr}
+use Rattle.std.specs.List.{All}
+use Rattle.common_laws.specs.Maps.{Contents}
+use Rattle.proj_store.specs.Loaded.{Loaded}
+use Rattle.table_store.specs.Faults.{IsReadable, IsUnblamed}
+use Rattle.table_store.specs.Held.{projections_of}
+use Rattle.table_store.proofs.committing.prepare_all.Goals as goal
+
+pub returns-clause-unblamed : goal.returns-clause-unblamed
+returns-clause-unblamed g c =
+    subst (λ (ts : List (List Loaded)). IfErr c.prepare_tables.result (λ fault. (m : Contents) → g.D.Disk.holds c.args.disk.now ≡ Some m → All (All (IsReadable m)) (map projections_of ts) → IsUnblamed fault))
+    c.as_mut_slice.ensures.value c.prepare_tables.ensures.unblamed
