@@ -1,0 +1,100 @@
+use Rattle.std.proofs.Common.{◌≡◌, ℕ, List, rules, subst, sym}
+use Rattle.sql_tree.specs.declared.statement.Statement.{Statement}
+use Rattle.std.specs.Prelude.{None}
+use Rattle.db_model.specs.Refusals.{table_dropped_refusal}
+use Rattle.statement_plan.specs.Planned.{IsPlanned}
+use Rattle.statement_plan.specs.declared.plans.Plan.{Plan}
+use Rattle.store_step.proofs.Answered.{memory_answers, same_answers}
+use Rattle.store_step.proofs.stepping.perform.Goals as goal
+
+pub returns-in-CreateTable-default-clause-answers : goal.returns-in-CreateTable-default-clause-answers
+returns-in-CreateTable-default-clause-answers g c = λ files state here.
+    let s = Statement.CreateTable c.in-CreateTable-default.name c.in-CreateTable-default.columns in
+    let is : c.args.statement ≡ s = search rules in
+    let all = c.frames_are_of_the_state.ensures.plan c.args.disk.now c.args.store.now state c.args.statement c.args.plan here c.requires.planned in
+    let planned : IsPlanned state s c.args.plan = rw c.in-CreateTable-default.is-0 at all in
+    same_answers g.D.Disk files c.args.statement s c.create_table.new.store c.create_table.result state is (c.create_table.ensures.answers files state here planned.accepted)
+
+pub returns-in-DropTable-DropTable-clause-answers : goal.returns-in-DropTable-DropTable-clause-answers
+returns-in-DropTable-DropTable-clause-answers g c = λ files state here.
+    let s = Statement.DropTable c.as_slice.result.now in
+    let is : c.args.statement ≡ s = search rules in
+    let all = c.frames_are_of_the_state.ensures.plan c.args.disk.now c.args.store.now state c.args.statement c.args.plan here c.requires.planned in
+    let planned : IsPlanned state (Statement.DropTable c.in-DropTable-DropTable.name) (Plan.DropTable c.in-DropTable-DropTable.place) = rw (c.in-DropTable-DropTable.is-0, c.in-DropTable-DropTable.is-1) at all in
+    same_answers g.D.Disk files c.args.statement s c.drop_table.new.store c.drop_table.result state is (c.drop_table.ensures.answers files state here (subst (λ (n : List ℕ). table_dropped_refusal state n ≡ None) (sym c.as_slice.ensures) planned.accepted))
+
+pub returns-in-CreateProjection-CreateProjection-clause-answers : goal.returns-in-CreateProjection-CreateProjection-clause-answers
+returns-in-CreateProjection-CreateProjection-clause-answers g c = λ files state here.
+    let s = Statement.CreateProjection c.in-CreateProjection-CreateProjection.projection in
+    let is : c.args.statement ≡ s = search rules in
+    same_answers g.D.Disk files c.args.statement s c.create_projection.new.store c.create_projection.result state is (c.create_projection.ensures.answers files state here)
+
+pub returns-in-DropProjection-DropProjection-clause-answers : goal.returns-in-DropProjection-DropProjection-clause-answers
+returns-in-DropProjection-DropProjection-clause-answers g c = λ files state here.
+    let s = Statement.DropProjection c.as_slice-in-DropProjection-DropProjection.result.now in
+    let is : c.args.statement ≡ s = search rules in
+    same_answers g.D.Disk files c.args.statement s c.drop_projection.new.store c.drop_projection.result state is (c.drop_projection.ensures.answers files state here)
+
+pub returns-in-Insert-Insert-clause-answers : goal.returns-in-Insert-Insert-clause-answers
+returns-in-Insert-Insert-clause-answers g c = λ files state here.
+    let s = Statement.Insert c.in-Insert-Insert.insert in
+    let is : c.args.statement ≡ s = search rules in
+    let all = c.frames_are_of_the_state.ensures.plan c.args.disk.now c.args.store.now state c.args.statement c.args.plan here c.requires.planned in
+    let planned : IsPlanned state s (Plan.Insert c.in-Insert-Insert.rows) = rw (c.in-Insert-Insert.is-0, c.in-Insert-Insert.is-1) at all in
+    memory_answers g.D.Disk files c.args.statement s c.insert_rows.new.store c.args.disk.now c.insert_rows.result c.in_memory.result state is c.in_memory.ensures here.sound.database (c.every_image_reopens.ensures c.args.store.now.seen.catalogue c.args.store.now.seen.stores c.args.disk.now state.database here.database) (c.insert_rows.ensures files c.args.disk.now state here planned.of.0 planned.accepted)
+
+pub returns-in-Commit-default-clause-answers : goal.returns-in-Commit-default-clause-answers
+returns-in-Commit-default-clause-answers g c = λ files state here.
+    let s = Statement.Commit in
+    let is : c.args.statement ≡ s = search rules in
+    let all = c.frames_are_of_the_state.ensures.plan c.args.disk.now c.args.store.now state c.args.statement c.args.plan here c.requires.planned in
+    let planned : IsPlanned state s c.args.plan = rw c.in-Commit-default.is-0 at all in
+    same_answers g.D.Disk files c.args.statement s c.commit.new.store c.commit.result state is (c.commit.ensures.answers files state here planned.accepted)
+
+pub returns-in-Rollback-default-clause-answers : goal.returns-in-Rollback-default-clause-answers
+returns-in-Rollback-default-clause-answers g c = λ files state here.
+    let s = Statement.Rollback in
+    let is : c.args.statement ≡ s = search rules in
+    let all = c.frames_are_of_the_state.ensures.plan c.args.disk.now c.args.store.now state c.args.statement c.args.plan here c.requires.planned in
+    let planned : IsPlanned state s c.args.plan = rw c.in-Rollback-default.is-0 at all in
+    memory_answers g.D.Disk files c.args.statement s c.roll_back.new.store c.args.disk.now c.roll_back.result c.in_memory-in-Rollback-default.result state is c.in_memory-in-Rollback-default.ensures here.sound.database (c.every_image_reopens.ensures c.args.store.now.seen.catalogue c.args.store.now.seen.stores c.args.disk.now state.database here.database) (c.roll_back.ensures files c.args.disk.now state here)
+
+pub returns-in-Select-Select-clause-answers : goal.returns-in-Select-Select-clause-answers
+returns-in-Select-Select-clause-answers g c = λ files state here.
+    let s = Statement.Select c.in-Select-Select.at c.in-Select-Select.query in
+    let is : c.args.statement ≡ s = search rules in
+    let all = c.frames_are_of_the_state.ensures.plan c.args.disk.now c.args.store.now state c.args.statement c.args.plan here c.requires.planned in
+    let planned : IsPlanned state s (Plan.Select c.in-Select-Select.bound) = rw (c.in-Select-Select.is-0, c.in-Select-Select.is-1) at all in
+    same_answers g.D.Disk files c.args.statement s c.args.store.now c.select.result state is (c.select.ensures.answers files state here planned.of planned.accepted)
+
+pub returns-in-Explain-Explain-clause-answers : goal.returns-in-Explain-Explain-clause-answers
+returns-in-Explain-Explain-clause-answers g c = λ files state here.
+    let s = Statement.Explain c.in-Explain-Explain.query in
+    let is : c.args.statement ≡ s = search rules in
+    let all = c.frames_are_of_the_state.ensures.plan c.args.disk.now c.args.store.now state c.args.statement c.args.plan here c.requires.planned in
+    let planned : IsPlanned state s (Plan.Explain c.in-Explain-Explain.bound) = rw (c.in-Explain-Explain.is-0, c.in-Explain-Explain.is-1) at all in
+    memory_answers g.D.Disk files c.args.statement s c.args.store.now c.args.disk.now c.explain_query.result c.in_memory-in-Explain-Explain.result state is c.in_memory-in-Explain-Explain.ensures here.sound.database (c.every_image_reopens.ensures c.args.store.now.seen.catalogue c.args.store.now.seen.stores c.args.disk.now state.database here.database) (c.explain_query.ensures files c.args.disk.now state here planned.of.tree planned.accepted)
+
+pub returns-in-Call-default-clause-answers : goal.returns-in-Call-default-clause-answers
+returns-in-Call-default-clause-answers g c = λ files state here.
+    let s = Statement.Call c.in-Call-default.function in
+    let is : c.args.statement ≡ s = search rules in
+    let all = c.frames_are_of_the_state.ensures.plan c.args.disk.now c.args.store.now state c.args.statement c.args.plan here c.requires.planned in
+    let planned : IsPlanned state s c.args.plan = rw c.in-Call-default.is-0 at all in
+    same_answers g.D.Disk files c.args.statement s c.call.new.store c.call.result state is (c.call.ensures.answers files state here)
+
+pub returns-in-Session-default-clause-answers : goal.returns-in-Session-default-clause-answers
+returns-in-Session-default-clause-answers g c = λ files state here.
+    let s = Statement.Session c.in-Session-default.number in
+    let is : c.args.statement ≡ s = search rules in
+    let all = c.frames_are_of_the_state.ensures.plan c.args.disk.now c.args.store.now state c.args.statement c.args.plan here c.requires.planned in
+    let planned : IsPlanned state s c.args.plan = rw c.in-Session-default.is-0 at all in
+    memory_answers g.D.Disk files c.args.statement s c.use_session.new.store c.args.disk.now c.use_session.result c.in_memory-in-Session-default.result state is c.in_memory-in-Session-default.ensures here.sound.database (c.every_image_reopens.ensures c.args.store.now.seen.catalogue c.args.store.now.seen.stores c.args.disk.now state.database here.database) (c.use_session.ensures files c.args.disk.now state here)
+
+pub returns-in-Step-default-clause-answers : goal.returns-in-Step-default-clause-answers
+returns-in-Step-default-clause-answers g c = λ files state here.
+    let s = Statement.Step in
+    let is : c.args.statement ≡ s = search rules in
+    let all = c.frames_are_of_the_state.ensures.plan c.args.disk.now c.args.store.now state c.args.statement c.args.plan here c.requires.planned in
+    let planned : IsPlanned state s c.args.plan = rw c.in-Step-default.is-0 at all in
+    same_answers g.D.Disk files c.args.statement s c.step_mover.new.store c.step_mover.result state is (c.step_mover.ensures.answers files state here)

@@ -1,0 +1,27 @@
+use Rattle.std.proofs.Common.{subst, sym}
+use Rattle.std.specs.Prelude.{Result}
+use Rattle.col_disk.specs.declared.disk.StoreFault.{StoreFault}
+use Rattle.sql_words.specs.Symbols.{symbols_of}
+use Rattle.sql_tree.specs.Phrases.{IsPlace}
+use Rattle.sql_tree.specs.Spells.{Spells}
+use Rattle.store_step.specs.declared.answer.Answer.{Answer}
+use Rattle.store_step.specs.declared.reading.Reading.{Reading}
+use Rattle.store_step.specs.Arms.{of_text}
+use Rattle.store_step.specs.Steps.{Steps}
+use Rattle.store_step.specs.Texts.{IsReading}
+use Rattle.store_step.proofs.Stepped.{steps_of, unread_steps, wrong_steps}
+use Rattle.store_step.proofs.stepping.run_text.Goals as goal
+
+pub returns-in-Ok-Says-clause-steps : goal.returns-in-Ok-Says-clause-steps
+returns-in-Ok-Says-clause-steps g c = λ there state here.
+    let read : IsReading c.args.text.now (Reading.Says c.in-Ok-Says.statement) = rw c.in-Ok-Says.field-0-is at c.in-Ok-Says.ensures in
+    steps_of g.D.Disk there c.args.text.now c.in-Ok-Says.statement c.answer.new.store c.answer.result state read.0 (c.answer.ensures.answers there state here)
+
+pub returns-in-Ok-Wrong-clause-steps : goal.returns-in-Ok-Wrong-clause-steps
+returns-in-Ok-Wrong-clause-steps g c = λ there state here.
+    let wrong : IsPlace Spells (symbols_of c.args.text.now) c.in-Ok-Wrong.place = rw c.in-Ok-Wrong.field-0-is at c.in-Ok-Wrong.ensures in
+    subst (λ (r : Result Answer StoreFault). Steps g.D.Disk there c.args.text.now c.args.store.now c.args.disk.now c.args.disk.now (of_text r) state) (sym c.in_memory.ensures)
+    (wrong_steps g.D.Disk there c.args.text.now c.args.store.now c.args.disk.now c.in-Ok-Wrong.place c.refused.result state wrong c.refused.ensures here (c.every_image_reopens.ensures c.args.store.now.seen.catalogue c.args.store.now.seen.stores c.args.disk.now state.database here.database))
+
+pub returns-in-Err-clause-steps : goal.returns-in-Err-clause-steps
+returns-in-Err-clause-steps g c = λ there state here. unread_steps g.D.Disk there c.args.text.now c.args.store.now c.args.disk.now state here (c.every_image_reopens.ensures c.args.store.now.seen.catalogue c.args.store.now.seen.stores c.args.disk.now state.database here.database)

@@ -1,0 +1,48 @@
+-- What a statement text, a step of the mover and the end of a script make of a running store and its disk.
+use Rattle.std.specs.Prelude.{ℕ, Bool, List, Option, Result, IfOk, IfErr, OnOk, IsErrOf}
+use Rattle.col_disk.specs.Moved.{Leaves}
+use Rattle.col_disk.specs.declared.disk.Disk.{Ghosts}
+use Rattle.col_disk.specs.declared.disk.StoreFault.{StoreFault}
+use Rattle.col_disk.specs.declared.disk.StoreFault.TheVariants as store
+use Rattle.sql_tree.specs.declared.refusal.Refusal.{Refusal}
+use Rattle.db_model.specs.State.{State}
+use Rattle.db_model.specs.Loading.{Files}
+use Rattle.db_model.specs.Mover.{MovesAll, MoverSteps}
+use Rattle.db_model.specs.Step.{Step}
+use Rattle.db_model.specs.Run.{all_dropped}
+use Rattle.store_core.specs.Running.{Running, IsState}
+use Rattle.store_core.specs.Cuts.{CutBeforeOrAfter, IsKept}
+use Rattle.store_step.specs.declared.answer.Answer.{Answer}
+use Rattle.store_step.specs.declared.answer.StepFault.{StepFault}
+use Rattle.store_step.specs.declared.answer.StepFault.TheVariants as step
+use Rattle.store_step.specs.Forms.{is_served}
+use Rattle.store_step.specs.Faults.{IsUnblamed, IsUnblamedStore}
+
+-- what a statement text may leave of a state
+abbrev pub SteppedTo : Files → List ℕ → State → State → Type 0
+SteppedTo files text state new = (printed : List ℕ) × (why : Option Refusal) × Step is_served state files text printed why new
+
+-- A statement text over a state: it is a step, with the text that was answered. Where memory was short the store is the state as before, but
+-- for moveouts that were done.
+pub record Steps {D : Type 0} (disk : Ghosts D) (files : Files) (text : List ℕ) (is : Running) (old new : D) (result : Result Answer StepFault) (state : State) : Type 0 where
+  pub done : IfOk result (λ a. (after : State) × Step is_served state files text a.text.items a.refusal after × IsState disk is new after)
+  pub undone : IsErrOf result step.Memory → (after : State) × IsKept state after × IsState disk is new after
+  pub unblamed : IfErr result IsUnblamed
+  pub any_moment : Leaves disk (CutBeforeOrAfter state (SteppedTo files text state)) old new
+
+-- a step of the mover over a state
+pub record MoverStepped {D : Type 0} (disk : Ghosts D) (is : Running) (old new : D) (result : Result (Unit {0}) StoreFault) (state : State) : Type 0 where
+  pub done : OnOk result ((after : State) × MoverSteps state after × IsState disk is new after)
+  pub undone : IsErrOf result store.Memory → IsState disk is new state
+  pub unblamed : IfErr result IsUnblamedStore
+  pub any_moment : Leaves disk (CutBeforeOrAfter state (MoverSteps state)) old new
+
+-- what the end of a script may leave of a state
+abbrev pub EndedAs : State → State → Type 0
+EndedAs state new = (stopped : Bool) × MovesAll (all_dropped state) stopped new
+
+-- the end of a script over a state
+pub record Ends {D : Type 0} (disk : Ghosts D) (is : Running) (old new : D) (result : Result (Unit {0}) StoreFault) (state : State) : Type 0 where
+  pub done : OnOk result ((after : State) × EndedAs state after × IsState disk is new after)
+  pub unblamed : IfErr result IsUnblamedStore
+  pub any_moment : Leaves disk (CutBeforeOrAfter state (EndedAs state)) old new

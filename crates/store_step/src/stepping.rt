@@ -1,0 +1,201 @@
+//! A statement text, read, planned, done and printed.
+
+ghost use Rattle.std.specs.Prelude.{◌≡◌, ◌≤◌, Some, true, IfErr, IfOk, IsErrOf};
+ghost use Rattle.common_laws.specs.Causes.{HasCause, Rose};
+ghost use Rattle.db_model.specs.Loading.{Files as LoadFiles};
+ghost use Rattle.db_model.specs.State.{State};
+ghost use Rattle.name_binder.specs.Refusing.{RefusesBy};
+ghost use Rattle.sql_tree.specs.declared.statement.Statement.{Statement as AStatement};
+ghost use Rattle.statement_plan.specs.Planned.{early_refusal, IsPlanned};
+ghost use Rattle.store_core.specs.Running.{frame_of, IsState};
+ghost use Rattle.store_step.specs.Arms.{of_text, Answers};
+ghost use Rattle.store_step.specs.Forms.{is_served, is_served_call};
+ghost use Rattle.store_step.specs.Steps.{Steps};
+ghost use Rattle.store_step.specs.Texts.{HasRange, IsUnplanned};
+
+use crate::answer::{Answer, StepFault};
+use crate::answering::{in_memory, of_text, refused};
+use crate::events::{commit, create_table, drop_table, select};
+use crate::holding::{
+    ahm_epoch, current_epoch, explain_query, insert_rows, last_good_epoch, roll_back, use_session,
+};
+use crate::moving::{moveout, step_mover};
+use crate::reading::{Reading, is_served, read_statement};
+use crate::shaping::{create_projection, drop_projection};
+use col_disk::{Disk, StoreFault};
+use col_io::Files;
+use folder_model::every_image_reopens;
+use name_binder::BindFault;
+use sql_tree::{Function, Refusal, Statement};
+use statement_plan::{Plan, early_refusals_stand, make_plan};
+use std::alloc::{AllocError, Global};
+use store_core::{Store, frames_are_of_the_state};
+
+/// A function that is served.
+fn call<D: Disk>(
+    alloc: Global,
+    store: &mut Store,
+    function: &Function,
+    disk: &mut D,
+) -> Result<Answer, StoreFault>
+    requires { is_served_call function.now ≡ true }
+    ensures answers { (files : LoadFiles) (state : State) → IsState ⟦<D as Disk>⟧ store.old disk.old state
+        → Answers ⟦<D as Disk>⟧ files (AStatement.Call function.now) store.new disk.old disk.new result state }
+    ensures cause { HasCause StoreFault.Disk (D.faults disk.old) (D.faults disk.new) result }
+{
+    every_image_reopens::<D>();
+    match function {
+        Function::Lge => in_memory(last_good_epoch::<D>(alloc, store)),
+        Function::Ahm => in_memory(ahm_epoch::<D>(alloc, store)),
+        Function::Current => in_memory(current_epoch::<D>(alloc, store)),
+        Function::Moveout => moveout(alloc, store, disk),
+        _ => unreachable!(),
+    }
+}
+
+/// Does what a statement does that isn't refused for what it says, and answers what it prints.
+fn perform<D: Disk>(
+    alloc: Global,
+    store: &mut Store,
+    statement: Statement,
+    plan: Plan,
+    disk: &mut D,
+) -> Result<Answer, StoreFault>
+    requires served { is_served statement ≡ true }
+    requires range { HasRange statement }
+    requires planned { IsPlanned (frame_of store.old) statement plan }
+    ensures answers { (files : LoadFiles) (state : State) → IsState ⟦<D as Disk>⟧ store.old disk.old state
+        → Answers ⟦<D as Disk>⟧ files statement store.new disk.old disk.new result state }
+    ensures cause { HasCause StoreFault.Disk (D.faults disk.old) (D.faults disk.new) result }
+{
+    every_image_reopens::<D>();
+    frames_are_of_the_state::<D>();
+    match (statement, plan) {
+        (Statement::CreateTable(name, columns), _) => {
+            create_table(alloc, store, name, columns, disk)
+        }
+        (Statement::DropTable(name), Plan::DropTable(place)) => {
+            drop_table(alloc, store, name.as_slice(), place, disk)
+        }
+        (Statement::CreateProjection(projection), Plan::CreateProjection(place, shape)) => {
+            create_projection(alloc, store, projection, place, shape, disk)
+        }
+        (Statement::DropProjection(name), Plan::DropProjection(table, place)) => {
+            drop_projection(alloc, store, name.as_slice(), table, place, disk)
+        }
+        (Statement::Insert(insert), Plan::Insert(rows)) => {
+            in_memory(insert_rows::<D>(alloc, store, &insert, rows))
+        }
+        (Statement::Commit, _) => commit(alloc, store, disk),
+        (Statement::Rollback, _) => in_memory(roll_back::<D>(alloc, store)),
+        (Statement::Select(at, query), Plan::Select(bound)) => {
+            select(alloc, store, at, &query, &bound, disk)
+        }
+        (Statement::Explain(query), Plan::Explain(bound)) => {
+            in_memory(explain_query::<D>(alloc, store, &query, &bound))
+        }
+        (Statement::Call(function), _) => call(alloc, store, &function, disk),
+        (Statement::Session(number), _) => in_memory(use_session::<D>(alloc, store, number)),
+        (Statement::Step, _) => step_mover(alloc, store, disk),
+        _ => unreachable!(),
+    }
+}
+
+/// What a statement does by the tables of the store, or why it is refused before a row is looked at.
+fn plan(alloc: Global, store: &Store, statement: &Statement) -> Result<Plan, BindFault>
+    requires { is_served statement.now ≡ true }
+    ensures planned { IfOk result (IsPlanned (frame_of store.now) statement.now) }
+    ensures refused { IfErr result (RefusesBy (early_refusal (frame_of store.now) statement.now)) }
+{
+    make_plan(alloc, &store.frame(), statement)
+}
+
+/// The ERROR line of a statement that is refused for what it says.
+fn unplanned(alloc: Global, fault: BindFault) -> Result<Answer, AllocError>
+    ensures { IsUnplanned fault result }
+{
+    match fault {
+        BindFault::Refused(refusal) => refused(alloc, refusal),
+        BindFault::Memory => Err(AllocError),
+    }
+}
+
+/// Runs a statement of a form that is served.
+fn answer_served<D: Disk>(
+    alloc: Global,
+    store: &mut Store,
+    statement: Statement,
+    disk: &mut D,
+) -> Result<Answer, StoreFault>
+    requires served { is_served statement ≡ true }
+    requires range { HasRange statement }
+    ensures answers { (files : LoadFiles) (state : State) → IsState ⟦<D as Disk>⟧ store.old disk.old state
+        → Answers ⟦<D as Disk>⟧ files statement store.new disk.old disk.new result state }
+    ensures cause { HasCause StoreFault.Disk (D.faults disk.old) (D.faults disk.new) result }
+{
+    every_image_reopens::<D>();
+    frames_are_of_the_state::<D>();
+    early_refusals_stand();
+    match plan(alloc, store, &statement) {
+        Ok(plan) => perform(alloc, store, statement, plan, disk),
+        Err(fault) => in_memory(unplanned(alloc, fault)),
+    }
+}
+
+/// Runs a statement.
+fn answer<D: Disk>(
+    alloc: Global,
+    store: &mut Store,
+    statement: Statement,
+    disk: &mut D,
+) -> Result<Answer, StoreFault>
+    requires { HasRange statement }
+    ensures answers { (files : LoadFiles) (state : State) → IsState ⟦<D as Disk>⟧ store.old disk.old state
+        → Answers ⟦<D as Disk>⟧ files statement store.new disk.old disk.new result state }
+    ensures cause { HasCause StoreFault.Disk (D.faults disk.old) (D.faults disk.new) result }
+{
+    every_image_reopens::<D>();
+    if is_served(&statement) {
+        answer_served(alloc, store, statement, disk)
+    } else {
+        in_memory(refused(alloc, Refusal::NotBuilt))
+    }
+}
+
+/// Runs a statement text.
+fn run_text<D: Disk>(
+    alloc: Global,
+    store: &mut Store,
+    text: &[u8],
+    disk: &mut D,
+) -> Result<Answer, StoreFault>
+    ensures steps { (there : LoadFiles) (state : State) → IsState ⟦<D as Disk>⟧ store.old disk.old state
+        → Steps ⟦<D as Disk>⟧ there text.now store.new disk.old disk.new (of_text result) state }
+    ensures cause { HasCause StoreFault.Disk (D.faults disk.old) (D.faults disk.new) result }
+{
+    every_image_reopens::<D>();
+    match read_statement(alloc, text) {
+        Ok(Reading::Says(statement)) => answer(alloc, store, statement, disk),
+        Ok(Reading::Wrong(place)) => in_memory(refused(alloc, Refusal::Syntax(place))),
+        Err(AllocError) => Err(StoreFault::Memory),
+    }
+}
+
+/// Runs one statement text, without its `;`, and answers what it prints. The text is whole before the statement takes effect.
+pub fn step<F: Files, D: Disk>(
+    alloc: Global,
+    store: &mut Store,
+    text: &[u8],
+    files: &mut F,
+    disk: &mut D,
+) -> Result<Answer, StepFault>
+    ensures steps { (there : LoadFiles) (state : State) → F.content files.old ≡ Some there → IsState ⟦<D as Disk>⟧ store.old disk.old state
+        → Steps ⟦<D as Disk>⟧ there text.now store.new disk.old disk.new result state }
+    ensures content { F.content files.new ≡ F.content files.old }
+    ensures files_later { F.faults files.old ≤ F.faults files.new }
+    ensures read { IsErrOf result StepFault.Read → Rose (F.faults files.old) (F.faults files.new) }
+    ensures cause { HasCause StepFault.Disk (D.faults disk.old) (D.faults disk.new) result }
+{
+    let _ = &*files;
+    of_text(run_text(alloc, store, text, disk))
+}
