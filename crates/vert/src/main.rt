@@ -1,9 +1,9 @@
-//! `vert DIR SCRIPT` runs the statements of the file SCRIPT and prints what each answers.
+//! `vert [--mover K] [--halt] DIR SCRIPT` runs the statements of the file SCRIPT and prints what each answers.
 //!
 //! All that it does is `vert_cli::run`, whose contract says how it ends. Here are only the words that it is called with,
 //! the files, the output and the folder of the machine, and the code. DIR is the folder of the tables: it is made where it
-//! is absent, opened before the first statement, and written at the clean end. What was committed is kept there from one
-//! run to the next, and so is a table that was made; what waits for COMMIT is not.
+//! is absent, and opened before the first statement. Tables and projections are there once their statement has answered, and
+//! committed rows once they are moved out: behind statements by the mover, and at the end of a script that doesn't halt.
 #![tactic(auto)]
 
 mod words;

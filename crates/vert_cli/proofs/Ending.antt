@@ -1,227 +1,222 @@
--- How a run of statement texts over the tables of a folder ends.
-use Rattle.std.proofs.Common.{ℕ, ◌≡◌, ◌∙◌, Bool, true, false, List, [], ◌∷◌, length, map, get_or, drop, sym, ap, subst, refl, inl, inr, arith}
-use Rattle.std.specs.Prelude.{Option, Some, None, IfSome}
-use Rattle.common_laws.specs.Causes.{Rose}
+-- How a run of statement texts over the tables of a folder ends, and what a crash leaves of it.
+use Rattle.std.proofs.Common.{ℕ, ◌+◌, ◌<◌, ◌≤◌, ◌≡◌, ◌||◌, inl, inr, Bool, true, false, List, [], ◌∷◌, take, drop, map, length, get_or, sym, subst, refl, arith}
+use Rattle.std.specs.Prelude.{Option, Result, Ok, Err}
+use Rattle.std.proofs.lemmas.List.{take_all, drop_all, length-map}
 use Rattle.common_laws.specs.Maps.{Contents}
-use Rattle.col_disk.specs.Calls.{Stepped}
-use Rattle.col_disk.specs.Moved.{Changed, NoName}
-use Rattle.col_disk.specs.declared.disk.DiskFault.{DiskFault}
+use Rattle.col_disk.specs.Moved.{Leaves}
+use Rattle.col_disk.specs.declared.disk.Disk.{Ghosts}
 use Rattle.col_disk.specs.declared.disk.StoreFault.{StoreFault}
-use Rattle.col_disk.proofs.Moving.{stepped_same}
-use Rattle.catalog_types.specs.declared.catalogue.Catalogue.{Catalogue}
+use Rattle.col_disk.proofs.Moving.{leaves_join, leaves_wider}
 use Rattle.db_model.specs.Database.{Database}
-use Rattle.db_model.specs.State.{State, opened_state}
-use Rattle.db_model.specs.Growth.{HasGrown}
-use Rattle.db_laws.proofs.Growing.{grown_none, grown_texts}
-use Rattle.plain_folder.specs.Opening.{IsRead}
-use Rattle.plain_folder.specs.Faults.{BlamesFolder}
-use Rattle.plain_folder.specs.Closing.{IsUnchanged, LeavesTables, KeepsTables}
+use Rattle.db_model.specs.State.{State, opened_with}
+use Rattle.db_model.specs.Loading.{Files}
+use Rattle.db_model.specs.Run.{Setting, RunTexts, EndsUnless}
+use Rattle.folder_model.specs.Reopening.{Reopens}
+use Rattle.store_core.specs.Running.{Running, IsState}
+use Rattle.store_core.specs.Cuts.{CutBeforeOrAfter}
+use Rattle.store_opening.specs.Opening.{BlamesOpening}
+use Rattle.store_opening.proofs.Unblamed.{reopening_unblamed}
+use Rattle.store_step.specs.Faults.{IsUnblamedStore}
+use Rattle.store_step.specs.Steps.{EndedAs, Ends}
 use Rattle.vert_cli.specs.declared.faults.RunFault.{RunFault}
-use Rattle.vert_cli.specs.declared.faults.Status.{Status}
-use Rattle.vert_cli.specs.Words.{script_name}
-use Rattle.vert_cli.specs.Sessions.{Sitting}
-use Rattle.vert_cli.specs.Statements.{Stopped}
-use Rattle.vert_cli.specs.Runs.{RanWhole, RanPart, FirstStopped}
-use Rattle.vert_cli.specs.Folders.{OpenedAs, KeepsAll, LeftAtEither}
-use Rattle.vert_cli.specs.Ends.{RanText, RanScript, FailedAtEnd, TextsEnd, HeldEnds, IsServed, IsServable, IsOverLimits, BlamesAt, KeptAt, Counts, IsAnswered, status_of, status_of_open, status_of_end, status_of_run}
+use Rattle.vert_cli.specs.Runs.{setting_of, RanWhole, RanFront, TookNext, CutInText, IsOnTheWay, IsUnblamed, RanText, RanTexts}
+use Rattle.vert_cli.specs.Ends.{fault_of, status_of, status_of_run, IsOpenable, RanScript, TextsEnd, OpenedEnd, CutInRun}
+use Rattle.vert_cli.proofs.Cuts.{leaves_still, images_from, images_reopen, on_the_way, begun, ended}
+use Rattle.vert_cli.proofs.Running.{whole_none, whole_next, front_next, rest_is}
 
--- the folder opens to what was read of it
-pub opened_as : (kept : Catalogue) (d : Database) (found : Option Contents) → IsRead found kept d → OpenedAs found d
-opened_as kept d found read m told =
-    let is = read.told m told in
-    record { kept = kept; opens = is.opens; served = is.served; database = is.database }
+-- ---- the texts of a script, one after the other
 
--- texts that ran over what was read
-pub ran_over : (texts : List (List ℕ)) (refused : Bool) (kept : Catalogue) (d : Database) (new : State) (before after : Option (List ℕ)) (found : Option Contents)
-    → IsRead found kept d → RanWhole (opened_state d) texts refused new before after → RanText texts refused before after found d new
-ran_over texts refused kept d new before after found read whole =
-    record { starts = opened_as kept d found read; printed = whole.printed; run = whole.ran; taken = whole.taken }
+-- the first of these texts ran
+pub record RanSoFar {D : Type 0} (disk : Ghosts D) (setting : Setting) (texts : List (List ℕ)) (count : ℕ) (is : Running) (old now : D) (start : State) (refused : Bool) (before after : Option (List ℕ)) : Type 0 where
+  pub mid : State
+  pub whole : RanWhole setting start (take count texts) refused mid before after
+  pub stands : IsState disk is now mid
+  pub any_moment : Leaves disk (IsOnTheWay setting start texts) old now
 
--- a folder where nothing was written
-kept_all : (found left : Option Contents) → left ≡ found → KeepsAll found left
-kept_all found left same =
-    subst (λ (told : Option Contents). Stepped (Changed NoName NoName) found told) (sym same) (stepped_same (Changed NoName NoName) found (λ m q other. inl refl))
+pub so_far_none : {D : Type 0} (disk : Ghosts D) (setting : Setting) (texts : List (List ℕ)) (is : Running) (now : D) (start : State) (told : Option (List ℕ))
+    → IsState disk is now start → RanSoFar disk setting texts 0 is now now start false told told
+so_far_none disk setting texts is now start told here = record {
+  mid = start;
+  whole = whole_none setting start told;
+  stands = here;
+  any_moment = leaves_still disk now (λ x image. begun setting start texts x (images_from disk now is start here x image));
+}
 
--- and then the clean end
-over_read : (texts : List (List ℕ)) (refused : Bool) (kept : Catalogue) (d : Database) (new : State) (before after : Option (List ℕ)) (found now left : Option Contents)
-    → IsRead found kept d → now ≡ found → RanWhole (opened_state d) texts refused new before after
-    → LeavesTables kept new now left → (IsUnchanged kept new → left ≡ now)
-    → RanScript texts refused before after found left
-over_read texts refused kept d new before after found now left read same whole leaves still =
-    let grown : HasGrown d new = grown_texts d texts (opened_state d) whole.printed refused new whole.ran (grown_none d read.sound) in
+text_leaves : {D : Type 0} (disk : Ghosts D) {X : Type 0} (f : X → List ℕ) (spans : List X) (i : ℕ) (d : X) (setting : Setting) (was : Running) (old mid new : D) (start : State) (refused : Bool) (before between : Option (List ℕ))
+    → i < length spans → (so_far : RanSoFar disk setting (map f spans) i was old mid start refused before between) → Leaves disk (CutInText setting so_far.mid (f (get_or spans i d))) mid new
+    → Leaves disk (IsOnTheWay setting start (map f spans)) old new
+text_leaves disk f spans i d setting was old mid new start refused before between below so_far leaves =
+    leaves_join disk so_far.any_moment
+    (leaves_wider disk (on_the_way setting start so_far.mid (map f spans) i so_far.whole.printed refused (f (get_or spans i d)) (drop (i + 1) (map f spans)) so_far.whole.ran (rest_is f spans i d below)) leaves)
+
+pub so_far_more : {D : Type 0} (disk : Ghosts D) {X : Type 0} (f : X → List ℕ) (spans : List X) (i : ℕ) (d : X) (setting : Setting) (was is : Running) (old mid new : D) (start : State) (refused told had : Bool) (before between after : Option (List ℕ))
+    → i < length spans → told ≡ (refused || had) → (so_far : RanSoFar disk setting (map f spans) i was old mid start refused before between)
+    → RanText disk setting (f (get_or spans i d)) is mid new (Ok had) so_far.mid between after → RanSoFar disk setting (map f spans) (i + 1) is old new start told before after
+so_far_more disk f spans i d setting was is old mid new start refused told had before between after below told_is so_far ran =
+    let (why, next, printed, passes, taken, here, had_is) = ran.done in
     record {
-      opened = d;
-      new = new;
-      ran = ran_over texts refused kept d new before after found read whole;
-      ends = λ m told.
-          (let is = read.told m told in
-          let there = leaves d m (same ∙ told) read.sound is grown in
-          (there.0, there.1, record { kept = kept; opened = is.opens; ends = there.2 }));
-      still = λ is. kept_all found left (still (record {
-        last = ap (λ (x : Database). x.last) is ∙ read.last;
-        tables = ap (λ (x : Database). length x.tables) is ∙ read.tables;
-      }) ∙ same);
+      mid = next;
+      whole = whole_next f spans i d setting start so_far.mid next refused told had why printed before between after below told_is had_is so_far.whole passes taken;
+      stands = here;
+      any_moment = text_leaves disk f spans i d setting was old mid new start refused before between below so_far ran.any_moment;
     }
 
--- a session was opened
-abbrev pub IsOver : Option Contents → Sitting → Type 0
-IsOver found session = (d : Database) × (session.state ≡ opened_state d) × IsRead found session.kept d
+pub so_far_stopped : {D : Type 0} (disk : Ghosts D) {X : Type 0} (f : X → List ℕ) (spans : List X) (i : ℕ) (d : X) (setting : Setting) (was is : Running) (old mid new : D) (start : State) (refused : Bool) (fault : RunFault) (before between after : Option (List ℕ))
+    → i < length spans → (so_far : RanSoFar disk setting (map f spans) i was old mid start refused before between)
+    → RanText disk setting (f (get_or spans i d)) is mid new (Err fault) so_far.mid between after → RanTexts disk setting (map f spans) is old new (Err fault) start before after
+so_far_stopped disk f spans i d setting was is old mid new start refused fault before between after below so_far ran = record {
+  done = tt;
+  stopped = record {
+    front = front_next f spans i d setting start so_far.mid refused before between after below so_far.whole ran.stopped.1;
+    unblamed = ran.stopped.0;
+  };
+  any_moment = text_leaves disk f spans i d setting was old mid new start refused before between below so_far ran.any_moment;
+}
 
--- the texts ran in the session, and the clean end came behind them
-pub ended : (texts : List (List ℕ)) (refused : Bool) (old new : Sitting) (before after : Option (List ℕ)) (found now left : Option Contents)
-    → IsOver found old → new.kept ≡ old.kept → now ≡ found → RanWhole old.state texts refused new.state before after
-    → LeavesTables new.kept new.state now left → (IsUnchanged new.kept new.state → left ≡ now)
-    → RanScript texts refused before after found left
-ended texts refused old new before after found now left (d, is, read) by same whole leaves still =
-    over_read texts refused new.kept d new.state before after found now left
-    (subst (λ (c : Catalogue). IsRead found c d) (sym by) read) same
-    (subst (λ (state : State). RanWhole state texts refused new.state before after) is whole) leaves still
+pub so_far_all : {D : Type 0} (disk : Ghosts D) {X : Type 0} (f : X → List ℕ) (spans : List X) (i : ℕ) (setting : Setting) (is : Running) (old now : D) (start : State) (refused : Bool) (before after : Option (List ℕ))
+    → length spans ≤ i → RanSoFar disk setting (map f spans) i is old now start refused before after → RanTexts disk setting (map f spans) is old now (Ok refused) start before after
+so_far_all disk f spans i setting is old now start refused before after all so_far = record {
+  done = (
+    so_far.mid,
+    subst (λ (texts : List (List ℕ)). RanWhole setting start texts refused so_far.mid before after) (take_all i (map f spans) (omega (arith, all, length-map spans f))) so_far.whole,
+    so_far.stands,
+  );
+  stopped = tt;
+  any_moment = so_far.any_moment;
+}
 
--- the texts ran in it, and the clean end failed
-over_end : (texts : List (List ℕ)) (kept : Catalogue) (refused : Bool) (d : Database) (new : State) (before after : Option (List ℕ)) (found now left : Option Contents)
-    → IsRead found kept d → now ≡ found → RanWhole (opened_state d) texts refused new before after → KeepsTables kept new now left → LeftAtEither found left d new.database
-over_end texts kept refused d new before after found now left read same whole keeps m told =
-    keeps d m (same ∙ told) read.sound (read.told m told) (grown_texts d texts (opened_state d) whole.printed refused new whole.ran (grown_none d read.sound))
+-- ---- nothing ran
 
-pub failed : (texts : List (List ℕ)) (refused : Bool) (old new : Sitting) (before after : Option (List ℕ)) (found now left : Option Contents)
-    → IsOver found old → new.kept ≡ old.kept → now ≡ found → RanWhole old.state texts refused new.state before after → KeepsTables new.kept new.state now left
-    → FailedAtEnd texts before after found left
-failed texts refused old new before after found now left (d, is, read) by same whole keeps =
-    let ran : RanWhole (opened_state d) texts refused new.state before after = subst (λ (state : State). RanWhole state texts refused new.state before after) is whole in (
-      refused,
-      d,
-      new.state,
-      ran_over texts refused old.kept d new.state before after found read ran,
-      over_end texts old.kept refused d new.state before after found now left read same ran (subst (λ (c : Catalogue). KeepsTables c new.state now left) by keeps),
+took_nothing : (files : Files) (start : State) (texts : List (List ℕ)) (told : Option (List ℕ)) → TookNext files start texts told told
+took_nothing files start [] told = refl
+took_nothing files start (text ∷ more) told = inl refl
+
+front_none : (setting : Setting) (start : State) (texts : List (List ℕ)) (told : Option (List ℕ)) → RanFront setting start texts told told
+front_none setting start texts told =
+    record { count = 0; refused = false; mid = start; between = told; ran = whole_none setting start told; next = took_nothing setting.files start texts told }
+
+-- the folder didn't open, and is none that reopens
+pub not_opened : {D : Type 0} (disk : Ghosts D) (setting : Setting) (d : Database) (texts : List (List ℕ)) (old now : D) (fault : StoreFault) (told : Option (List ℕ))
+    → IsOpenable disk old d → BlamesOpening (disk.holds old) fault → OpenedEnd (status_of (fault_of fault)) disk setting d texts now told told
+not_opened disk setting d texts old now StoreFault.Disk told openable blamed = (1, 0, front_none setting (opened_with 1 0 d) texts told)
+not_opened disk setting d texts old now (StoreFault.Damaged q) told openable blamed = absurd (reopening_unblamed (disk.holds old) openable.files d q openable.told openable.reopens blamed)
+not_opened disk setting d texts old now StoreFault.Memory told openable blamed = (1, 0, front_none setting (opened_with 1 0 d) texts told)
+
+-- ---- some texts ran
+
+stopped_end : {D : Type 0} (disk : Ghosts D) (setting : Setting) (start : State) (texts : List (List ℕ)) (now : D) (fault : RunFault) (before after : Option (List ℕ))
+    → RanFront setting start texts before after → IsUnblamed fault → TextsEnd (status_of fault) disk setting start texts now before after
+stopped_end disk setting start texts now RunFault.Sink before after front un = front
+stopped_end disk setting start texts now RunFault.Disk before after front un = front
+stopped_end disk setting start texts now (RunFault.Damaged q) before after front un = absurd un
+stopped_end disk setting start texts now RunFault.Memory before after front un = front
+stopped_end disk setting start texts now RunFault.Read before after front un = front
+stopped_end disk setting start texts now RunFault.Halted before after front un = front
+
+pub texts_stopped : {D : Type 0} (disk : Ghosts D) (setting : Setting) (d : Database) (texts : List (List ℕ)) (next parts : ℕ) (is : Running) (mid now : D) (fault : RunFault) (before after : Option (List ℕ))
+    → RanTexts disk setting texts is mid now (Err fault) (opened_with next parts d) before after → OpenedEnd (status_of fault) disk setting d texts now before after
+texts_stopped disk setting d texts next parts is mid now fault before after ran =
+    (next, parts, stopped_end disk setting (opened_with next parts d) texts now fault before after ran.stopped.front ran.stopped.unblamed)
+
+-- ---- all texts ran
+
+script_end : {D : Type 0} (disk : Ghosts D) (setting : Setting) (start : State) (texts : List (List ℕ)) (refused : Bool) (now : D) (before after : Option (List ℕ))
+    → RanScript disk setting start texts refused now before after → TextsEnd (status_of_run refused) disk setting start texts now before after
+script_end disk setting start texts true now before after ran = ran
+script_end disk setting start texts false now before after ran = ran
+
+-- a run that halts
+pub texts_halted : {D : Type 0} (disk : Ghosts D) (files : Files) (steps : ℕ) (halts : Bool) (d : Database) (texts : List (List ℕ)) (next parts : ℕ) (is : Running) (mid now : D) (refused : Bool) (before after : Option (List ℕ))
+    → halts ≡ true → RanTexts disk (setting_of files steps halts) texts is mid now (Ok refused) (opened_with next parts d) before after
+    → OpenedEnd (status_of_run refused) disk (setting_of files steps halts) d texts now before after
+texts_halted disk files steps halts d texts next parts is mid now refused before after halt ran =
+    let (state, whole, here) = ran.done in (
+      next,
+      parts,
+      script_end disk (setting_of files steps halts) (opened_with next parts d) texts refused now before after (record {
+        mid = state;
+        ran = whole;
+        new = state;
+        ends = subst (λ (b : Bool). EndsUnless b state state) (sym halt) refl;
+        left = images_reopen disk now is state here;
+      }),
     )
 
--- so the folder stays open
-pub end_kept : (fault : DiskFault) (texts : List (List ℕ)) (before after : Option (List ℕ)) (found left : Option Contents)
-    → FailedAtEnd texts before after found left → KeptAt (status_of_end fault) found left
-end_kept DiskFault.Failed texts before after found left (refused, d, new, ran, at) = inr (d, new.database, ran.starts, at)
-end_kept DiskFault.Memory texts before after found left (refused, d, new, ran, at) = inr (d, new.database, ran.starts, at)
+-- a run that comes to its end
+pub texts_ended : {D : Type 0} (disk : Ghosts D) (files : Files) (steps : ℕ) (halts : Bool) (d : Database) (texts : List (List ℕ)) (next parts : ℕ) (is : Running) (mid now new : D) (refused : Bool) (u : Unit {0}) (before after : Option (List ℕ))
+    → halts ≡ false → RanTexts disk (setting_of files steps halts) texts is mid now (Ok refused) (opened_with next parts d) before after
+    → ((state : State) → IsState disk is now state → (last : Running) × Ends disk last now new (Ok u) state)
+    → OpenedEnd (status_of_run refused) disk (setting_of files steps halts) d texts new before after
+texts_ended disk files steps halts d texts next parts is mid now new refused u before after halt ran ends =
+    let (state, whole, here) = ran.done in
+    let (last, end) = ends state here in
+    let (after_end, ended_as, there) = end.done in (
+      next,
+      parts,
+      script_end disk (setting_of files steps halts) (opened_with next parts d) texts refused new before after (record {
+        mid = state;
+        ran = whole;
+        new = after_end;
+        ends = subst (λ (b : Bool). EndsUnless b state after_end) (sym halt) ended_as;
+        left = images_reopen disk new last after_end there;
+      }),
+    )
 
--- and where nothing was written
-pub same_kept : (status : Status) (found left : Option Contents) → left ≡ found → KeptAt status found left
-same_kept Status.Done found left same = tt
-same_kept Status.Refused found left same = tt
-same_kept Status.Usage found left same = same
-same_kept Status.NoScript found left same = same
-same_kept Status.SinkFault found left same = same
-same_kept Status.DiskFault found left same = inl same
-same_kept (Status.Damaged name) found left same = same
-same_kept Status.Memory found left same = inl same
-same_kept Status.ReadFault found left same = same
-same_kept Status.TooLarge found left same = same
+-- the end failed
+front_all : (setting : Setting) (start mid : State) (texts : List (List ℕ)) (refused : Bool) (before after : Option (List ℕ)) → RanWhole setting start texts refused mid before after → RanFront setting start texts before after
+front_all setting start mid texts refused before after whole = record {
+  count = length texts;
+  refused = refused;
+  mid = mid;
+  between = after;
+  ran = subst (λ (some : List (List ℕ)). RanWhole setting start some refused mid before after) (sym (take_all (length texts) texts (omega arith))) whole;
+  next = subst (λ (some : List (List ℕ)). TookNext setting.files mid some after after) (sym (drop_all (length texts) texts (omega arith))) refl;
+}
 
--- at a run's own end anything goes that its other clauses say
-pub run_kept : (refused : Bool) (found left : Option Contents) → KeptAt (status_of_run refused) found left
-run_kept true found left = tt
-run_kept false found left = tt
+store_fault : {D : Type 0} (disk : Ghosts D) (setting : Setting) (start : State) (texts : List (List ℕ)) (now : D) (fault : StoreFault) (before after : Option (List ℕ))
+    → RanFront setting start texts before after → IsUnblamedStore fault → TextsEnd (status_of (fault_of fault)) disk setting start texts now before after
+store_fault disk setting start texts now StoreFault.Disk before after front un = front
+store_fault disk setting start texts now (StoreFault.Damaged q) before after front un = absurd un
+store_fault disk setting start texts now StoreFault.Memory before after front un = front
 
--- statuses of a run that came to its end
-pub run_ends : (refused : Bool) (texts : List (List ℕ)) (before after : Option (List ℕ)) (found left : Option Contents)
-    → RanScript texts refused before after found left → TextsEnd (status_of_run refused) texts before after found left
-run_ends true texts before after found left ran = ran
-run_ends false texts before after found left ran = ran
+pub end_failed : {D : Type 0} (disk : Ghosts D) (setting : Setting) (d : Database) (texts : List (List ℕ)) (next parts : ℕ) (is : Running) (mid now new : D) (refused : Bool) (fault : StoreFault) (before after : Option (List ℕ))
+    → RanTexts disk setting texts is mid now (Ok refused) (opened_with next parts d) before after
+    → ((state : State) → IsState disk is now state → (last : Running) × Ends disk last now new (Err fault) state)
+    → OpenedEnd (status_of (fault_of fault)) disk setting d texts new before after
+end_failed disk setting d texts next parts is mid now new refused fault before after ran ends =
+    let (state, whole, here) = ran.done in
+    let (last, end) = ends state here in
+    (next, parts, store_fault disk setting (opened_with next parts d) texts new fault before after (front_all setting (opened_with next parts d) state texts refused before after whole) end.unblamed)
 
--- whose clean end failed
-pub end_ends : (fault : DiskFault) (texts : List (List ℕ)) (before after : Option (List ℕ)) (found left : Option Contents)
-    → FailedAtEnd texts before after found left → TextsEnd (status_of_end fault) texts before after found left
-end_ends DiskFault.Failed texts before after found left failed = inr failed
-end_ends DiskFault.Memory texts before after found left failed = inr (inr failed)
+-- ---- what a crash leaves
 
--- faults that no statement stops with
-pub never_stops : (fault : RunFault) (mid : State) (texts : List (List ℕ)) (between after : Option (List ℕ))
-    → ((text : List ℕ) (new : State) → Stopped fault mid text new between after → ⊥) → FirstStopped fault mid texts between after → ⊥
-never_stops fault mid [] between after never stopped = stopped
-never_stops fault mid (text ∷ more) between after never (new, stopped) = never text new stopped
+pub opening_leaves : {D : Type 0} (disk : Ghosts D) (setting : Setting) (d : Database) (texts : List (List ℕ)) (old now : D) → Leaves disk (λ x. Reopens x d) old now → Leaves disk (CutInRun setting d texts) old now
+opening_leaves disk setting d texts old now leaves = leaves_wider disk (λ x reopens. inl reopens) leaves
 
-no_disk : (old : State) (texts : List (List ℕ)) (before after : Option (List ℕ)) → RanPart RunFault.Disk old texts before after → ⊥
-no_disk old texts before after part = never_stops RunFault.Disk part.mid (drop part.count texts) part.between after (λ text new is. is) part.next
+pub texts_leave : {D : Type 0} (disk : Ghosts D) (setting : Setting) (d : Database) (texts : List (List ℕ)) (next parts : ℕ) (old mid now : D)
+    → Leaves disk (λ x. Reopens x d) old mid → Leaves disk (IsOnTheWay setting (opened_with next parts d) texts) mid now → Leaves disk (CutInRun setting d texts) old now
+texts_leave disk setting d texts next parts old mid now first second =
+    leaves_join disk (opening_leaves disk setting d texts old mid first) (leaves_wider disk (λ x way. inr (next, parts, way)) second)
 
-no_damage : (name : ℕ) (old : State) (texts : List (List ℕ)) (before after : Option (List ℕ)) → RanPart (RunFault.Damaged name) old texts before after → ⊥
-no_damage name old texts before after part = never_stops (RunFault.Damaged name) part.mid (drop part.count texts) part.between after (λ text new is. is) part.next
-
-no_read : (old : State) (texts : List (List ℕ)) (before after : Option (List ℕ)) → RanPart RunFault.Read old texts before after → ⊥
-no_read old texts before after part = never_stops RunFault.Read part.mid (drop part.count texts) part.between after (λ text new is. is) part.next
-
-no_halt : (old : State) (texts : List (List ℕ)) (before after : Option (List ℕ)) → RanPart RunFault.Halted old texts before after → ⊥
-no_halt old texts before after part = never_stops RunFault.Halted part.mid (drop part.count texts) part.between after (λ text new is. is) part.next
-
--- which stopped at a statement
-over_part : (fault : RunFault) (texts : List (List ℕ)) (kept : Catalogue) (d : Database) (before after : Option (List ℕ)) (found left : Option Contents)
-    → IsRead found kept d → RanPart fault (opened_state d) texts before after → TextsEnd (status_of fault) texts before after found left
-over_part RunFault.Sink texts kept d before after found left read part = (d, opened_as kept d found read, part)
-over_part RunFault.Disk texts kept d before after found left read part = absurd (no_disk (opened_state d) texts before after part)
-over_part (RunFault.Damaged name) texts kept d before after found left read part = absurd (no_damage name (opened_state d) texts before after part)
-over_part RunFault.Memory texts kept d before after found left read part = inr (inl (d, opened_as kept d found read, part))
-over_part RunFault.Read texts kept d before after found left read part = absurd (no_read (opened_state d) texts before after part)
-over_part RunFault.Halted texts kept d before after found left read part = absurd (no_halt (opened_state d) texts before after part)
-
-pub fault_ends : (fault : RunFault) (texts : List (List ℕ)) (old : Sitting) (before after : Option (List ℕ)) (found left : Option Contents)
-    → IsOver found old → RanPart fault old.state texts before after → TextsEnd (status_of fault) texts before after found left
-fault_ends fault texts old before after found left (d, is, read) part =
-    over_part fault texts old.kept d before after found left read (subst (λ (state : State). RanPart fault state texts before after) is part)
-
--- what an opening's Damaged blames
-pub open_blames : (fault : StoreFault) (found : Option Contents) → BlamesFolder found fault → BlamesAt (status_of_open fault) found
-open_blames StoreFault.Disk found blames = tt
-open_blames (StoreFault.Damaged name) found blames = blames
-open_blames StoreFault.Memory found blames = tt
-
--- a script that is served isn't over a limit
-within_limits : (script : List ℕ) (held : Option (List ℕ)) → IsServed held script → IsOverLimits script → ⊥
-within_limits script held served (inl bytes) = omega (arith, bytes, served.limits.bytes)
-within_limits script held served (inr texts) = omega (arith, texts, served.limits.statements)
-
-one_script : (held : Option (List ℕ)) (script other : List ℕ) → held ≡ Some other → IsServed held script → IsServed held other
-one_script held script other is served = subst (λ (s : List ℕ). IsServed held s) (same (sym served.there ∙ is)) served
+pub end_leaves : {D : Type 0} (disk : Ghosts D) (files : Files) (steps : ℕ) (halts : Bool) (d : Database) (texts : List (List ℕ)) (next parts : ℕ) (is : Running) (old mid now new : D) (refused : Bool) (result : Result (Unit {0}) StoreFault) (before after : Option (List ℕ))
+    → halts ≡ false → Leaves disk (λ x. Reopens x d) old mid → RanTexts disk (setting_of files steps halts) texts is mid now (Ok refused) (opened_with next parts d) before after
+    → ((state : State) → IsState disk is now state → (last : Running) × Ends disk last now new result state)
+    → Leaves disk (CutInRun (setting_of files steps halts) d texts) old new
+end_leaves disk files steps halts d texts next parts is old mid now new refused result before after halt opening ran ends =
+    let (state, whole, here) = ran.done in
+    let (last, end) = ends state here in
+    leaves_join disk (texts_leave disk (setting_of files steps halts) d texts next parts old mid now opening ran.any_moment)
+    (leaves_wider disk (way state whole) end.any_moment)
   where
-    same : Some script ≡ Some other → script ≡ other
-    same e = cc
+    cut : (state : State) (x : Contents) → CutBeforeOrAfter state (EndedAs state) x → CutBeforeOrAfter state (EndsUnless halts state) x
+    cut state x left = subst (λ (b : Bool). CutBeforeOrAfter state (EndsUnless b state) x) (sym halt) left
 
--- a script that is served is answered, or there is a cause
-answered : (status : Status) (held : Option (List ℕ)) (before after : Option (List ℕ)) (found left : Option Contents) (old new : Counts)
-    → HeldEnds status held before after found left → BlamesAt status found
-    → (status ≡ Status.SinkFault → Rose old.sink new.sink) → (status ≡ Status.ReadFault → Rose old.files new.files) → (status ≡ Status.DiskFault → Rose old.disk new.disk)
-    → ((script : List ℕ) × IsServed held script) → IsAnswered status old new found
-answered Status.Done held before after found left old new ends blames sink files disk served = tt
-answered Status.Refused held before after found left old new ends blames sink files disk served = tt
-answered Status.Usage held before after found left old new ends blames sink files disk served = ends
-answered Status.NoScript held before after found left old new ends blames sink files disk (script, served) = absurd (none (sym ends ∙ served.there))
-  where
-    none : None ≡ Some script → ⊥
-    none e = cc
-answered Status.SinkFault held before after found left old new ends blames sink files disk served = sink refl
-answered Status.DiskFault held before after found left old new ends blames sink files disk served = disk refl
-answered (Status.Damaged name) held before after found left old new ends blames sink files disk served = λ m told. (blames m told).1
-answered Status.Memory held before after found left old new ends blames sink files disk served = tt
-answered Status.ReadFault held before after found left old new ends blames sink files disk served = files refl
-answered Status.TooLarge held before after found left old new (other, is, over) blames sink files disk (script, served) = within_limits other held (one_script held script other is served) over
-
--- the same by what the files have under a name, where they tell it
-complete : (content : Option (List ℕ → Option (List ℕ))) (name : List ℕ) (status : Status) (before after : Option (List ℕ)) (found left : Option Contents) (old new : Counts)
-    → IfSome content (λ there. HeldEnds status (there name) before after found left) → BlamesAt status found
-    → (status ≡ Status.SinkFault → Rose old.sink new.sink) → (status ≡ Status.ReadFault → Rose old.files new.files) → (status ≡ Status.DiskFault → Rose old.disk new.disk)
-    → IfSome content (λ there. IsServable (Some name) there → IsAnswered status old new found)
-complete None name status before after found left old new ends blames sink files disk = tt
-complete (Some there) name status before after found left old new ends blames sink files disk =
-    λ served. answered status (there name) before after found left old new ends blames sink files disk served
-
--- the same of the name that the words have
-pub complete_named : (content : Option (List ℕ → Option (List ℕ))) (words : Option (List ℕ)) (name : List ℕ) (status : Status) (before after : Option (List ℕ)) (found left : Option Contents) (old new : Counts)
-    → words ≡ Some name → IfSome content (λ there. HeldEnds status (there name) before after found left) → BlamesAt status found
-    → (status ≡ Status.SinkFault → Rose old.sink new.sink) → (status ≡ Status.ReadFault → Rose old.files new.files) → (status ≡ Status.DiskFault → Rose old.disk new.disk)
-    → IfSome content (λ there. IsServable words there → IsAnswered status old new found)
-complete_named content words name status before after found left old new is ends blames sink files disk =
-    subst (λ (n : Option (List ℕ)). IfSome content (λ there. IsServable n there → IsAnswered status old new found)) (sym is)
-    (complete content name status before after found left old new ends blames sink files disk)
-
--- the last of three words
-pub third_word : {X : Type 0} (f : X → List ℕ) (words : List X) (d x : X) → length words ≡ 3 → x ≡ get_or words 2 d → script_name (map f words) ≡ Some (f x)
-third_word f [] d x three is = absurd (omega (arith, three))
-third_word f (a ∷ []) d x three is = absurd (omega (arith, three))
-third_word f (a ∷ (b ∷ [])) d x three is = absurd (omega (arith, three))
-third_word f (a ∷ (b ∷ (c ∷ []))) d x three is = ap (λ y. Some (f y)) (sym is)
-third_word f (a ∷ (b ∷ (c ∷ (e ∷ more)))) d x three is = absurd (omega (arith, three))
+    way : (state : State) → RanWhole (setting_of files steps halts) (opened_with next parts d) texts refused state before after → (x : Contents) → CutBeforeOrAfter state (EndedAs state) x
+        → CutInRun (setting_of files steps halts) d texts x
+    way state whole x left = inr (
+      next,
+      parts,
+      ended (setting_of files steps halts) (opened_with next parts d) state texts (length texts) whole.printed refused
+          (subst (λ (some : List (List ℕ)). RunTexts (setting_of files steps halts) (opened_with next parts d) some whole.printed refused state) (sym (take_all (length texts) texts (omega arith))) whole.ran)
+          (drop_all (length texts) texts (omega arith)) x (cut state x left),
+    )

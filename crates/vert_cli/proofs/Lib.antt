@@ -1,2 +1,5 @@
+pub mod Cuts
 pub mod Running
+pub mod Executing
 pub mod Ending
+pub mod Serving

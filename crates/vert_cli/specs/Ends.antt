@@ -1,20 +1,22 @@
--- How a run ends, by its status.
+-- How a run ends, by its status, over a folder that reopens to a database.
 use Rattle.std.specs.Prelude.{ℕ, ◌≡◌, ◌⊎◌, ◌≤◌, ◌<◌, ⊤, List, length, Bool, true, false, Option, Some, None}
 use Rattle.common_laws.specs.Causes.{Rose}
-use Rattle.common_laws.specs.Told.{Appends}
 use Rattle.common_laws.specs.Maps.{Contents}
-use Rattle.col_disk.specs.declared.disk.DiskFault.{DiskFault}
+use Rattle.col_disk.specs.Moved.{ImageOf}
+use Rattle.col_disk.specs.declared.disk.Disk.{Ghosts}
 use Rattle.col_disk.specs.declared.disk.StoreFault.{StoreFault}
 use Rattle.sql_words.specs.Texts.{statement_texts}
 use Rattle.db_model.specs.Database.{Database}
-use Rattle.db_model.specs.State.{State, opened_state}
-use Rattle.db_model.specs.Run.{RunTexts}
-use Rattle.plain_folder.specs.Reopens.{Reopens}
-use Rattle.plain_folder.specs.Faults.{IsDamaged}
+use Rattle.db_model.specs.State.{State, opened_with}
+use Rattle.db_model.specs.Loading.{Files}
+use Rattle.db_model.specs.Run.{Setting, EndsUnless}
+use Rattle.folder_model.specs.Reopening.{Reopens}
+use Rattle.store_core.specs.Events.{ReopensTo}
+use Rattle.store_step.specs.declared.answer.StepFault.{StepFault}
 use Rattle.vert_cli.specs.declared.faults.RunFault.{RunFault}
 use Rattle.vert_cli.specs.declared.faults.Status.{Status}
-use Rattle.vert_cli.specs.Runs.{RanPart}
-use Rattle.vert_cli.specs.Folders.{OpenedAs, IsLeft, KeepsAll, LeftAtEither, StaysOpen}
+use Rattle.vert_cli.specs.Words.{Wanted}
+use Rattle.vert_cli.specs.Runs.{setting_of, RanWhole, RanFront, IsOnTheWay}
 
 -- the code of each status
 abbrev pub code_of : Status → ℕ
@@ -29,7 +31,7 @@ code_of Status.Memory = 7
 code_of Status.ReadFault = 8
 code_of Status.TooLarge = 9
 
--- the status of a run that stopped at a statement
+-- the status of a run that stopped
 abbrev pub status_of : RunFault → Status
 status_of RunFault.Sink = Status.SinkFault
 status_of RunFault.Disk = Status.DiskFault
@@ -38,21 +40,65 @@ status_of RunFault.Memory = Status.Memory
 status_of RunFault.Read = Status.ReadFault
 status_of RunFault.Halted = Status.DiskFault
 
--- the status of a run whose session didn't open
-abbrev pub status_of_open : StoreFault → Status
-status_of_open StoreFault.Disk = Status.DiskFault
-status_of_open (StoreFault.Damaged name) = Status.Damaged name
-status_of_open StoreFault.Memory = Status.Memory
+-- a fault of the store, as one of the run
+abbrev pub fault_of : StoreFault → RunFault
+fault_of StoreFault.Disk = RunFault.Disk
+fault_of (StoreFault.Damaged name) = RunFault.Damaged name
+fault_of StoreFault.Memory = RunFault.Memory
 
--- the status of a run whose clean end failed
-abbrev pub status_of_end : DiskFault → Status
-status_of_end DiskFault.Failed = Status.DiskFault
-status_of_end DiskFault.Memory = Status.Memory
+-- a fault of a statement text, as one of the run
+abbrev pub fault_of_step : StepFault → RunFault
+fault_of_step StepFault.Read = RunFault.Read
+fault_of_step StepFault.Disk = RunFault.Disk
+fault_of_step (StepFault.Damaged name) = RunFault.Damaged name
+fault_of_step StepFault.Memory = RunFault.Memory
 
 -- the status of a run that came to its end
 abbrev pub status_of_run : Bool → Status
 status_of_run true = Status.Refused
 status_of_run false = Status.Done
+
+-- The folder, and whatever a crash would leave of it, reopens to this database. An empty one reopens to no tables.
+pub record IsOpenable {D : Type 0} (disk : Ghosts D) (now : D) (d : Database) : Type 0 where
+  pub files : Contents
+  pub told : disk.holds now ≡ Some files
+  pub reopens : Reopens files d
+  pub images : (x : Contents) → ImageOf disk now x → Reopens x d
+
+-- whatever a crash leaves reopens to the database of a state, cut at its last good epoch
+abbrev pub IsLeft : {D : Type 0} → Ghosts D → D → State → Type 0
+IsLeft disk now state = (x : Contents) → ImageOf disk now x → ReopensTo state x
+
+-- All these texts ran, and the sink took exactly what they print; then came the end, where the run doesn't halt without it; and the folder
+-- reopens to the tables that were left then.
+pub record RanScript {D : Type 0} (disk : Ghosts D) (setting : Setting) (start : State) (texts : List (List ℕ)) (refused : Bool) (now : D) (before after : Option (List ℕ)) : Type 0 where
+  pub mid : State
+  pub ran : RanWhole setting start texts refused mid before after
+  pub new : State
+  pub ends : EndsUnless setting.halts mid new
+  pub left : IsLeft disk now new
+
+-- How a run of statement texts ends over an opened state. After a fault of the sink, the disk or a load file and after want of memory the first
+-- texts ran and their text was taken, and of the next one's text a front or nothing.
+abbrev pub TextsEnd : {D : Type 0} → Status → Ghosts D → Setting → State → List (List ℕ) → D → Option (List ℕ) → Option (List ℕ) → Type 0
+TextsEnd Status.Done disk setting start texts now before after = RanScript disk setting start texts false now before after
+TextsEnd Status.Refused disk setting start texts now before after = RanScript disk setting start texts true now before after
+TextsEnd Status.Usage disk setting start texts now before after = ⊥
+TextsEnd Status.NoScript disk setting start texts now before after = ⊥
+TextsEnd Status.SinkFault disk setting start texts now before after = RanFront setting start texts before after
+TextsEnd Status.DiskFault disk setting start texts now before after = RanFront setting start texts before after
+TextsEnd (Status.Damaged name) disk setting start texts now before after = ⊥
+TextsEnd Status.Memory disk setting start texts now before after = RanFront setting start texts before after
+TextsEnd Status.ReadFault disk setting start texts now before after = RanFront setting start texts before after
+TextsEnd Status.TooLarge disk setting start texts now before after = ⊥
+
+-- the same over a folder's database, with some numbers of the storage
+abbrev pub OpenedEnd : {D : Type 0} → Status → Ghosts D → Setting → Database → List (List ℕ) → D → Option (List ℕ) → Option (List ℕ) → Type 0
+OpenedEnd status disk setting d texts now before after = (next : ℕ) × (parts : ℕ) × TextsEnd status disk setting (opened_with next parts d) texts now before after
+
+-- whatever a crash leaves while the texts run over a folder's database
+abbrev pub CutInRun : Setting → Database → List (List ℕ) → Contents → Type 0
+CutInRun setting d texts x = Reopens x d ⊎ ((next : ℕ) × (parts : ℕ) × IsOnTheWay setting (opened_with next parts d) texts x)
 
 -- a script is within the limits, or over one of them
 pub record IsWithinLimits (script : List ℕ) : Type 0 where
@@ -62,86 +108,81 @@ pub record IsWithinLimits (script : List ℕ) : Type 0 where
 abbrev pub IsOverLimits : List ℕ → Type 0
 IsOverLimits script = (67108864 < length script) ⊎ (4096 < length (statement_texts script))
 
--- All these texts ran over the database that the folder opened to, and the sink took exactly what they print.
-pub record RanText (texts : List (List ℕ)) (refused : Bool) (before after : Option (List ℕ)) (found : Option Contents) (opened : Database) (new : State) : Type 0 where
-  pub starts : OpenedAs found opened
-  pub printed : List ℕ
-  pub run : RunTexts (opened_state opened) texts printed refused new
-  pub taken : Appends before after printed
-
--- And then the clean end left the tables in the folder; where the texts changed nothing, it left all as it was.
-pub record RanScript (texts : List (List ℕ)) (refused : Bool) (before after : Option (List ℕ)) (found left : Option Contents) : Type 0 where
-  pub opened : Database
-  pub new : State
-  pub ran : RanText texts refused before after found opened new
-  pub ends : IsLeft found left new.database
-  pub still : new.database ≡ opened → KeepsAll found left
-
--- all ran and what they print was taken; then the clean end failed: the folder opens to the tables that it held or to those of the run
-abbrev pub FailedAtEnd : List (List ℕ) → Option (List ℕ) → Option (List ℕ) → Option Contents → Option Contents → Type 0
-FailedAtEnd texts before after found left =
-    (refused : Bool) × (opened : Database) × (new : State) × RanText texts refused before after found opened new × LeftAtEither found left opened new.database
-
--- the first of them ran and what they print was taken; of the next one's text a front was taken, or nothing
-abbrev pub StoppedIn : RunFault → List (List ℕ) → Option (List ℕ) → Option (List ℕ) → Option Contents → Type 0
-StoppedIn fault texts before after found = (opened : Database) × OpenedAs found opened × RanPart fault (opened_state opened) texts before after
-
--- after these faults nothing was taken, or the whole text
-abbrev pub EndsAtFault : List (List ℕ) → Option (List ℕ) → Option (List ℕ) → Option Contents → Option Contents → Type 0
-EndsAtFault texts before after found left = (after ≡ before) ⊎ FailedAtEnd texts before after found left
-
--- how a run of statement texts ends
-abbrev pub TextsEnd : Status → List (List ℕ) → Option (List ℕ) → Option (List ℕ) → Option Contents → Option Contents → Type 0
-TextsEnd Status.Done texts before after found left = RanScript texts false before after found left
-TextsEnd Status.Refused texts before after found left = RanScript texts true before after found left
-TextsEnd Status.Usage texts before after found left = ⊥
-TextsEnd Status.NoScript texts before after found left = ⊥
-TextsEnd Status.SinkFault texts before after found left = StoppedIn RunFault.Sink texts before after found
-TextsEnd Status.DiskFault texts before after found left = EndsAtFault texts before after found left
-TextsEnd (Status.Damaged name) texts before after found left = after ≡ before
-TextsEnd Status.Memory texts before after found left = (after ≡ before) ⊎ (StoppedIn RunFault.Memory texts before after found ⊎ FailedAtEnd texts before after found left)
-TextsEnd Status.ReadFault texts before after found left = ⊥
-TextsEnd Status.TooLarge texts before after found left = ⊥
-
--- how a run of a script within the limit of bytes ends
-abbrev pub ScriptEnds : Status → List ℕ → Option (List ℕ) → Option (List ℕ) → Option Contents → Option Contents → Type 0
-ScriptEnds Status.Done script before after found left = (length (statement_texts script) ≤ 4096) × TextsEnd Status.Done (statement_texts script) before after found left
-ScriptEnds Status.Refused script before after found left = (length (statement_texts script) ≤ 4096) × TextsEnd Status.Refused (statement_texts script) before after found left
-ScriptEnds Status.Usage script before after found left = ⊥
-ScriptEnds Status.NoScript script before after found left = ⊥
-ScriptEnds Status.SinkFault script before after found left = (length (statement_texts script) ≤ 4096) × TextsEnd Status.SinkFault (statement_texts script) before after found left
-ScriptEnds Status.DiskFault script before after found left = (length (statement_texts script) ≤ 4096) × TextsEnd Status.DiskFault (statement_texts script) before after found left
-ScriptEnds (Status.Damaged name) script before after found left = (length (statement_texts script) ≤ 4096) × (after ≡ before)
-ScriptEnds Status.Memory script before after found left =
-    (after ≡ before) ⊎ ((length (statement_texts script) ≤ 4096) × TextsEnd Status.Memory (statement_texts script) before after found left)
-ScriptEnds Status.ReadFault script before after found left = ⊥
-ScriptEnds Status.TooLarge script before after found left = (4096 < length (statement_texts script)) × (after ≡ before)
-
 -- the files have this script under the name, and it is within the limits
 pub record IsServed (held : Option (List ℕ)) (script : List ℕ) : Type 0 where
   pub there : held ≡ Some script
   pub limits : IsWithinLimits script
 
--- How a run ends whose words name a script, by what the files have under that name, and by what the disk held before and after. After
--- Done and Refused the sink took exactly the script's text, and the folder opens to the tables of the run. After a fault of the sink
--- the first statements ran. After a fault of the disk nothing ran, or the whole script. After want of memory any of these.
-abbrev pub HeldEnds : Status → Option (List ℕ) → Option (List ℕ) → Option (List ℕ) → Option Contents → Option Contents → Type 0
-HeldEnds Status.Done held before after found left = (script : List ℕ) × IsServed held script × RanScript (statement_texts script) false before after found left
-HeldEnds Status.Refused held before after found left = (script : List ℕ) × IsServed held script × RanScript (statement_texts script) true before after found left
-HeldEnds Status.Usage held before after found left = ⊥
-HeldEnds Status.NoScript held before after found left = held ≡ None
-HeldEnds Status.SinkFault held before after found left = (script : List ℕ) × IsServed held script × StoppedIn RunFault.Sink (statement_texts script) before after found
-HeldEnds Status.DiskFault held before after found left = (script : List ℕ) × IsServed held script × EndsAtFault (statement_texts script) before after found left
-HeldEnds (Status.Damaged name) held before after found left = (script : List ℕ) × IsServed held script × (after ≡ before)
-HeldEnds Status.Memory held before after found left =
-    (after ≡ before) ⊎ ((script : List ℕ) × IsServed held script × (StoppedIn RunFault.Memory (statement_texts script) before after found ⊎ FailedAtEnd (statement_texts script) before after found left))
-HeldEnds Status.ReadFault held before after found left = after ≡ before
-HeldEnds Status.TooLarge held before after found left = (script : List ℕ) × (held ≡ Some script) × IsOverLimits script
+-- whether a script has too many statements, by the status of its run
+abbrev pub ManyAt : Status → List ℕ → Type 0
+ManyAt Status.Done script = length (statement_texts script) ≤ 4096
+ManyAt Status.Refused script = length (statement_texts script) ≤ 4096
+ManyAt Status.Usage script = ⊥
+ManyAt Status.NoScript script = ⊥
+ManyAt Status.SinkFault script = length (statement_texts script) ≤ 4096
+ManyAt Status.DiskFault script = length (statement_texts script) ≤ 4096
+ManyAt (Status.Damaged name) script = length (statement_texts script) ≤ 4096
+ManyAt Status.Memory script = ⊤
+ManyAt Status.ReadFault script = length (statement_texts script) ≤ 4096
+ManyAt Status.TooLarge script = 4096 < length (statement_texts script)
 
--- how a run ends, by the script's name in the words, if they name one, by what the files have under each name, and by what the disk holds
-abbrev pub RunEnds : Status → Option (List ℕ) → (List ℕ → Option (List ℕ)) → Option (List ℕ) → Option (List ℕ) → Option Contents → Option Contents → Type 0
-RunEnds status None map before after found left = status ≡ Status.Usage
-RunEnds status (Some name) map before after found left = HeldEnds status (map name) before after found left
+-- the texts of a script ran, if to their end or not
+abbrev pub IsRan : Status → Type 0
+IsRan Status.Done = ⊤
+IsRan Status.Refused = ⊤
+IsRan Status.Usage = ⊥
+IsRan Status.NoScript = ⊥
+IsRan Status.SinkFault = ⊤
+IsRan Status.DiskFault = ⊤
+IsRan (Status.Damaged name) = ⊤
+IsRan Status.Memory = ⊤
+IsRan Status.ReadFault = ⊤
+IsRan Status.TooLarge = ⊥
+
+-- how a run of a script within the limit of bytes ends
+abbrev pub ServedEnd : {D : Type 0} → Status → Ghosts D → Setting → Database → List ℕ → D → Option (List ℕ) → Option (List ℕ) → Type 0
+ServedEnd Status.Done disk setting d script now before after = OpenedEnd Status.Done disk setting d (statement_texts script) now before after
+ServedEnd Status.Refused disk setting d script now before after = OpenedEnd Status.Refused disk setting d (statement_texts script) now before after
+ServedEnd Status.Usage disk setting d script now before after = ⊥
+ServedEnd Status.NoScript disk setting d script now before after = ⊥
+ServedEnd Status.SinkFault disk setting d script now before after = OpenedEnd Status.SinkFault disk setting d (statement_texts script) now before after
+ServedEnd Status.DiskFault disk setting d script now before after = OpenedEnd Status.DiskFault disk setting d (statement_texts script) now before after
+ServedEnd (Status.Damaged name) disk setting d script now before after = ⊥
+ServedEnd Status.Memory disk setting d script now before after =
+    (after ≡ before) ⊎ ((length (statement_texts script) ≤ 4096) × OpenedEnd Status.Memory disk setting d (statement_texts script) now before after)
+ServedEnd Status.ReadFault disk setting d script now before after = OpenedEnd Status.ReadFault disk setting d (statement_texts script) now before after
+ServedEnd Status.TooLarge disk setting d script now before after = after ≡ before
+
+-- a script that is there ran
+abbrev pub ScriptEnd : {D : Type 0} → Status → Ghosts D → Setting → Database → Option (List ℕ) → D → Option (List ℕ) → Option (List ℕ) → Type 0
+ScriptEnd status disk setting d held now before after = (script : List ℕ) × IsServed held script × OpenedEnd status disk setting d (statement_texts script) now before after
+
+-- How a run ends whose words name a script, by what the files have under that name.
+abbrev pub HeldEnds : {D : Type 0} → Status → Ghosts D → Setting → Database → Option (List ℕ) → D → Option (List ℕ) → Option (List ℕ) → Type 0
+HeldEnds Status.Done disk setting d held now before after = ScriptEnd Status.Done disk setting d held now before after
+HeldEnds Status.Refused disk setting d held now before after = ScriptEnd Status.Refused disk setting d held now before after
+HeldEnds Status.Usage disk setting d held now before after = ⊥
+HeldEnds Status.NoScript disk setting d held now before after = (held ≡ None) × (after ≡ before)
+HeldEnds Status.SinkFault disk setting d held now before after = ScriptEnd Status.SinkFault disk setting d held now before after
+HeldEnds Status.DiskFault disk setting d held now before after = ScriptEnd Status.DiskFault disk setting d held now before after
+HeldEnds (Status.Damaged name) disk setting d held now before after = ⊥
+HeldEnds Status.Memory disk setting d held now before after = (after ≡ before) ⊎ ScriptEnd Status.Memory disk setting d held now before after
+HeldEnds Status.ReadFault disk setting d held now before after = (after ≡ before) ⊎ ScriptEnd Status.ReadFault disk setting d held now before after
+HeldEnds Status.TooLarge disk setting d held now before after = (script : List ℕ) × (held ≡ Some script) × IsOverLimits script × (after ≡ before)
+
+-- how a run ends, by what its words ask for and by what the files have under each name
+abbrev pub RunEnds : {D : Type 0} → Status → Ghosts D → Files → Option Wanted → Database → D → Option (List ℕ) → Option (List ℕ) → Type 0
+RunEnds status disk files None d now before after = status ≡ Status.Usage
+RunEnds status disk files (Some w) d now before after = HeldEnds status disk (setting_of files w.steps w.halts) d (files w.script) now before after
+
+-- what a crash leaves of a run: the folder as it opened, or on the way of the script that is there
+abbrev pub CutInScript : Setting → Database → Option (List ℕ) → Contents → Type 0
+CutInScript setting d None x = Reopens x d
+CutInScript setting d (Some script) x = CutInRun setting d (statement_texts script) x
+
+abbrev pub RunLeaves : Files → Option Wanted → Database → Contents → Type 0
+RunLeaves files None d x = Reopens x d
+RunLeaves files (Some w) d x = CutInScript (setting_of files w.steps w.halts) d (files w.script) x
 
 -- at these statuses nothing was taken
 abbrev pub UntouchedAt : Status → Option (List ℕ) → Option (List ℕ) → Type 0
@@ -151,9 +192,9 @@ UntouchedAt Status.Usage before after = after ≡ before
 UntouchedAt Status.NoScript before after = after ≡ before
 UntouchedAt Status.SinkFault before after = ⊤
 UntouchedAt Status.DiskFault before after = ⊤
-UntouchedAt (Status.Damaged name) before after = after ≡ before
+UntouchedAt (Status.Damaged name) before after = ⊤
 UntouchedAt Status.Memory before after = ⊤
-UntouchedAt Status.ReadFault before after = after ≡ before
+UntouchedAt Status.ReadFault before after = ⊤
 UntouchedAt Status.TooLarge before after = after ≡ before
 
 -- at these statuses the disk wasn't called
@@ -166,49 +207,36 @@ NotCalledAt Status.SinkFault old new = ⊤
 NotCalledAt Status.DiskFault old new = ⊤
 NotCalledAt (Status.Damaged name) old new = ⊤
 NotCalledAt Status.Memory old new = ⊤
-NotCalledAt Status.ReadFault old new = new ≡ old
+NotCalledAt Status.ReadFault old new = ⊤
 NotCalledAt Status.TooLarge old new = new ≡ old
 
--- At these statuses the disk holds what it held; after a fault of the disk and after want of memory it does, or the folder opens still.
-abbrev pub KeptAt : Status → Option Contents → Option Contents → Type 0
-KeptAt Status.Done found left = ⊤
-KeptAt Status.Refused found left = ⊤
-KeptAt Status.Usage found left = left ≡ found
-KeptAt Status.NoScript found left = left ≡ found
-KeptAt Status.SinkFault found left = left ≡ found
-KeptAt Status.DiskFault found left = StaysOpen found left
-KeptAt (Status.Damaged name) found left = left ≡ found
-KeptAt Status.Memory found left = StaysOpen found left
-KeptAt Status.ReadFault found left = left ≡ found
-KeptAt Status.TooLarge found left = left ≡ found
-
--- A Damaged names a file that keeps the folder from opening: no database is what its files spell.
-abbrev pub BlamesAt : Status → Option Contents → Type 0
-BlamesAt (Status.Damaged q) found = (m : Contents) → found ≡ Some m → IsDamaged m q × ((d : Database) → Reopens m d → ⊥)
-BlamesAt Status.Done found = ⊤
-BlamesAt Status.Refused found = ⊤
-BlamesAt Status.Usage found = ⊤
-BlamesAt Status.NoScript found = ⊤
-BlamesAt Status.SinkFault found = ⊤
-BlamesAt Status.DiskFault found = ⊤
-BlamesAt Status.Memory found = ⊤
-BlamesAt Status.ReadFault found = ⊤
-BlamesAt Status.TooLarge found = ⊤
-
 -- no file has the name that the words name
-abbrev pub IsAbsent : Option (List ℕ) → (List ℕ → Option (List ℕ)) → Type 0
-IsAbsent None map = ⊥
-IsAbsent (Some name) map = map name ≡ None
+abbrev pub IsAbsent : Option Wanted → Files → Type 0
+IsAbsent None files = ⊥
+IsAbsent (Some w) files = files w.script ≡ None
 
 -- the script that the words name is there, and over a limit
-abbrev pub IsTooLarge : Option (List ℕ) → (List ℕ → Option (List ℕ)) → Type 0
-IsTooLarge None map = ⊥
-IsTooLarge (Some name) map = (script : List ℕ) × (map name ≡ Some script) × IsOverLimits script
+abbrev pub IsTooLarge : Option Wanted → Files → Type 0
+IsTooLarge None files = ⊥
+IsTooLarge (Some w) files = (script : List ℕ) × (files w.script ≡ Some script) × IsOverLimits script
 
 -- the script that the words name is there, and within the limits
-abbrev pub IsServable : Option (List ℕ) → (List ℕ → Option (List ℕ)) → Type 0
-IsServable None map = ⊥
-IsServable (Some name) map = (script : List ℕ) × IsServed (map name) script
+abbrev pub IsServable : Option Wanted → Files → Type 0
+IsServable None files = ⊥
+IsServable (Some w) files = (script : List ℕ) × IsServed (files w.script) script
+
+-- what the files have under the script's name, by the status of the run
+abbrev pub FoundAs : Status → Option (List ℕ) → Type 0
+FoundAs Status.Done held = (script : List ℕ) × IsServed held script
+FoundAs Status.Refused held = (script : List ℕ) × IsServed held script
+FoundAs Status.Usage held = ⊥
+FoundAs Status.NoScript held = held ≡ None
+FoundAs Status.SinkFault held = (script : List ℕ) × IsServed held script
+FoundAs Status.DiskFault held = (script : List ℕ) × IsServed held script
+FoundAs (Status.Damaged name) held = (script : List ℕ) × IsServed held script
+FoundAs Status.Memory held = ⊤
+FoundAs Status.ReadFault held = ⊤
+FoundAs Status.TooLarge held = (script : List ℕ) × (held ≡ Some script) × IsOverLimits script
 
 -- want of memory, or a file that couldn't be read: these come in the place of any answer that speaks of the script
 abbrev pub IsUnread : Status → Type 0
@@ -225,15 +253,15 @@ pub record Counts : Type 0 where
   pub files : ℕ
   pub disk : ℕ
 
--- the run answers Done or Refused or wants memory, unless a count of faults rose, or the folder opens to no database
-abbrev pub IsAnswered : Status → Counts → Counts → Option Contents → Type 0
-IsAnswered Status.Done old new found = ⊤
-IsAnswered Status.Refused old new found = ⊤
-IsAnswered Status.Usage old new found = ⊥
-IsAnswered Status.NoScript old new found = ⊥
-IsAnswered Status.SinkFault old new found = Rose old.sink new.sink
-IsAnswered Status.DiskFault old new found = Rose old.disk new.disk
-IsAnswered (Status.Damaged q) old new found = (m : Contents) → found ≡ Some m → (d : Database) → Reopens m d → ⊥
-IsAnswered Status.Memory old new found = ⊤
-IsAnswered Status.ReadFault old new found = Rose old.files new.files
-IsAnswered Status.TooLarge old new found = ⊥
+-- the run answers Done or Refused or wants memory, unless a count of faults rose
+abbrev pub IsAnswered : Status → Counts → Counts → Type 0
+IsAnswered Status.Done old new = ⊤
+IsAnswered Status.Refused old new = ⊤
+IsAnswered Status.Usage old new = ⊥
+IsAnswered Status.NoScript old new = ⊥
+IsAnswered Status.SinkFault old new = Rose old.sink new.sink
+IsAnswered Status.DiskFault old new = Rose old.disk new.disk
+IsAnswered (Status.Damaged q) old new = ⊥
+IsAnswered Status.Memory old new = ⊤
+IsAnswered Status.ReadFault old new = Rose old.files new.files
+IsAnswered Status.TooLarge old new = ⊥

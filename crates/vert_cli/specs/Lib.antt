@@ -1,6 +1,6 @@
 pub mod Words
+pub mod Reading
 pub mod Sessions
 pub mod Statements
 pub mod Runs
-pub mod Folders
 pub mod Ends

@@ -1,7 +1,10 @@
--- A session as it is seen: the state that statements have made, and the catalogue by which the tables were read.
-use Rattle.catalog_types.specs.declared.catalogue.Catalogue.{Catalogue}
-use Rattle.db_model.specs.State.{State}
+-- A session as it is seen: its running store, and whether the disk failed at an earlier call.
+use Rattle.std.specs.Prelude.{Bool}
+use Rattle.store_core.specs.Running.{Running}
 
 pub record Sitting : Type 0 where
-  pub state : State
-  pub kept : Catalogue
+  pub running : Running
+  pub halted : Bool
+
+abbrev pub sitting : Running → Bool → Sitting
+sitting running halted = record { running = running; halted = halted }

@@ -1,9 +1,19 @@
--- One statement that is run and whose text is written.
-use Rattle.std.specs.Prelude.{ℕ, ◌≡◌, ◌⊎◌, List, Option, Some, None}
+-- One statement that is run and whose text is written, and the mover's steps behind it.
+use Rattle.std.specs.Prelude.{ℕ, ◌≡◌, ◌⊎◌, ◌<◌, List, Option, Some, None, Result, IfOk, IfErr, OnOk}
+use Rattle.common_laws.specs.Maps.{Contents}
 use Rattle.common_laws.specs.Told.{Appends, AppendsFront}
+use Rattle.col_disk.specs.Moved.{Leaves}
+use Rattle.col_disk.specs.declared.disk.Disk.{Ghosts}
 use Rattle.sql_tree.specs.declared.refusal.Refusal.{Refusal}
 use Rattle.db_model.specs.State.{State}
+use Rattle.db_model.specs.Loading.{Files}
+use Rattle.db_model.specs.Epochs.{last_good}
+use Rattle.db_model.specs.Mover.{MoverSteps, MoverRuns}
 use Rattle.db_model.specs.Step.{Step}
+use Rattle.store_core.specs.Running.{Running, IsState}
+use Rattle.store_core.specs.Cuts.{ReopensFrom, CutBeforeOrAfter, IsKept}
+use Rattle.store_step.specs.Forms.{is_served}
+use Rattle.store_step.specs.Steps.{SteppedTo}
 use Rattle.vert_cli.specs.declared.faults.Outcome.{Outcome}
 use Rattle.vert_cli.specs.declared.faults.RunFault.{RunFault}
 
@@ -17,25 +27,59 @@ abbrev pub outcome_of : Option Refusal → Outcome
 outcome_of None = Outcome.Done
 outcome_of (Some why) = Outcome.Refused why
 
--- a statement text was answered: a step was made, and the sink took exactly what it prints
-pub record Answered (old : State) (text : List ℕ) (refusal : Option Refusal) (new : State) (before after : Option (List ℕ)) : Type 0 where
+-- a step was made, and the sink took exactly what it prints
+pub record Answered (files : Files) (old : State) (text : List ℕ) (refusal : Option Refusal) (new : State) (before after : Option (List ℕ)) : Type 0 where
   pub printed : List ℕ
-  pub step : Step old text printed refusal new
+  pub step : Step is_served old files text printed refusal new
   pub taken : Appends before after printed
 
 -- a step was made, and of what it prints the sink took a front
-pub record AnsweredPart (old : State) (text : List ℕ) (new : State) (before after : Option (List ℕ)) : Type 0 where
+pub record AnsweredPart (files : Files) (old : State) (text : List ℕ) (new : State) (before after : Option (List ℕ)) : Type 0 where
   pub printed : List ℕ
   pub refusal : Option Refusal
-  pub step : Step old text printed refusal new
+  pub step : Step is_served old files text printed refusal new
   pub taken : AppendsFront before after printed
 
--- A statement text wasn't answered whole. After a fault of the sink the step was made. After want of memory it was made too,
--- or nothing was taken. No other fault comes.
-abbrev pub Stopped : RunFault → State → List ℕ → State → Option (List ℕ) → Option (List ℕ) → Type 0
-Stopped RunFault.Sink old text new before after = AnsweredPart old text new before after
-Stopped RunFault.Disk old text new before after = ⊥
-Stopped (RunFault.Damaged name) old text new before after = ⊥
-Stopped RunFault.Memory old text new before after = (after ≡ before) ⊎ AnsweredPart old text new before after
-Stopped RunFault.Read old text new before after = ⊥
-Stopped RunFault.Halted old text new before after = ⊥
+-- Where memory was short, the sink took nothing and the store is the state as before, but for moveouts that were done; or the sink was
+-- short of memory, and the step was made.
+abbrev pub ShortIn : {D : Type 0} → Ghosts D → Files → List ℕ → Running → D → State → Option (List ℕ) → Option (List ℕ) → Type 0
+ShortIn disk files text is now state before after =
+    ((after ≡ before) × (next : State) × IsKept state next × IsState disk is now next)
+    ⊎ ((next : State) × AnsweredPart files state text next before after × IsState disk is now next)
+
+-- A statement text wasn't answered whole. After a fault of the sink the step was made; of the other faults but want of memory the sink took
+-- nothing. No file is blamed over a state.
+abbrev pub StoppedIn : {D : Type 0} → Ghosts D → Files → List ℕ → Running → D → State → Option (List ℕ) → Option (List ℕ) → RunFault → Type 0
+StoppedIn disk files text is now state before after RunFault.Sink = (next : State) × AnsweredPart files state text next before after × IsState disk is now next
+StoppedIn disk files text is now state before after RunFault.Disk = after ≡ before
+StoppedIn disk files text is now state before after (RunFault.Damaged name) = ⊥
+StoppedIn disk files text is now state before after RunFault.Memory = ShortIn disk files text is now state before after
+StoppedIn disk files text is now state before after RunFault.Read = after ≡ before
+StoppedIn disk files text is now state before after RunFault.Halted = ⊥
+
+-- a statement text over a state of a session that isn't halted
+pub record Executed {D : Type 0} (disk : Ghosts D) (files : Files) (text : List ℕ) (is : Running) (old new : D) (result : Result Outcome RunFault) (state : State) (before after : Option (List ℕ)) : Type 0 where
+  pub done : IfOk result (λ outcome. (next : State) × Answered files state text (refusal_in outcome) next before after × IsState disk is new next)
+  pub stopped : IfErr result (StoppedIn disk files text is new state before after)
+  pub any_moment : Leaves disk (CutBeforeOrAfter state (SteppedTo files text state)) old new
+
+-- whatever a crash leaves reopens as the state does, or as one of the first steps of the mover behind it may leave it
+abbrev pub CutInMover : ℕ → State → Contents → Type 0
+CutInMover steps state x =
+    ReopensFrom (last_good state.database) state x
+    ⊎ ((moves : ℕ) × (moves < steps) × (mid : State) × MoverRuns moves state mid × CutBeforeOrAfter mid (MoverSteps mid) x)
+
+-- a fault of the mover, which no file is blamed for
+abbrev pub IsOfMover : RunFault → Type 0
+IsOfMover RunFault.Sink = ⊥
+IsOfMover RunFault.Disk = Unit {0}
+IsOfMover (RunFault.Damaged name) = ⊥
+IsOfMover RunFault.Memory = Unit {0}
+IsOfMover RunFault.Read = ⊥
+IsOfMover RunFault.Halted = ⊥
+
+-- so many steps of the mover over a state, with the faults that may come
+pub record MovedOn {D F : Type 0} (disk : Ghosts D) (steps : ℕ) (is : Running) (old new : D) (result : Result (Unit {0}) F) (MayCome : F → Type 0) (state : State) : Type 0 where
+  pub done : OnOk result ((next : State) × MoverRuns steps state next × IsState disk is new next)
+  pub stopped : IfErr result MayCome
+  pub any_moment : Leaves disk (CutInMover steps state) old new

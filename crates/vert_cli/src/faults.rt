@@ -1,12 +1,13 @@
 //! How a run and a statement end.
 #![tactic(auto)]
 
-ghost use Rattle.std.specs.Prelude.{◌≡◌, ◌||◌, is_some};
+ghost use Rattle.std.specs.Prelude.{◌≡◌, is_some};
 ghost use Rattle.vert_cli.specs.Statements.{refusal_in, outcome_of};
-ghost use Rattle.vert_cli.specs.Ends.{code_of, status_of, status_of_open, status_of_end, status_of_run};
+ghost use Rattle.vert_cli.specs.Ends.{code_of, fault_of, fault_of_step, status_of, status_of_run};
 
-use col_disk::{DiskFault, StoreFault};
+use col_disk::StoreFault;
 use sql_tree::Refusal;
+use store_step::StepFault;
 
 /// How the program ends.
 #[derive(Debug, Clone, Copy, PartialEq, Eq)]
@@ -15,7 +16,7 @@ pub enum Status {
     Done,
     /// Every statement was answered, and some was refused.
     Refused,
-    /// The words are not the program's name, DIR and SCRIPT.
+    /// The words are not the program's name, its options, DIR and SCRIPT.
     Usage,
     /// No file has the script's name.
     NoScript,
@@ -73,12 +74,12 @@ impl Outcome {
         }
     }
 
-    // Whether some statement was refused, up to this one.
-    pub(crate) fn adds_to(&self, refused: bool) -> bool
-        ensures { result ≡ (refused || is_some (refusal_in self.now)) }
+    // Whether it was refused.
+    pub(crate) fn is_refused(&self) -> bool
+        ensures { result ≡ is_some (refusal_in self.now) }
     {
         match self {
-            Outcome::Done => refused,
+            Outcome::Done => false,
             Outcome::Refused(_) => true,
         }
     }
@@ -117,24 +118,26 @@ impl RunFault {
     }
 }
 
-// The status of a run whose session did not open.
-pub(crate) fn status_of_open(fault: StoreFault) -> Status
-    ensures { result ≡ status_of_open fault }
+// A fault of the store, as one of the run.
+pub(crate) fn fault_of(fault: StoreFault) -> RunFault
+    ensures { result ≡ fault_of fault }
 {
     match fault {
-        StoreFault::Disk => Status::DiskFault,
-        StoreFault::Damaged(name) => Status::Damaged(name),
-        StoreFault::Memory => Status::Memory,
+        StoreFault::Disk => RunFault::Disk,
+        StoreFault::Damaged(name) => RunFault::Damaged(name),
+        StoreFault::Memory => RunFault::Memory,
     }
 }
 
-// The status of a run whose clean end failed.
-pub(crate) fn status_of_end(fault: DiskFault) -> Status
-    ensures { result ≡ status_of_end fault }
+// A fault of a statement text, as one of the run.
+pub(crate) fn fault_of_step(fault: StepFault) -> RunFault
+    ensures { result ≡ fault_of_step fault }
 {
     match fault {
-        DiskFault::Failed => Status::DiskFault,
-        DiskFault::Memory => Status::Memory,
+        StepFault::Read => RunFault::Read,
+        StepFault::Disk => RunFault::Disk,
+        StepFault::Damaged(name) => RunFault::Damaged(name),
+        StepFault::Memory => RunFault::Memory,
     }
 }
 

@@ -1,14 +1,19 @@
 //! The program.
 #![tactic(auto)]
 
-ghost use Rattle.std.specs.Prelude.{◌≡◌, ◌≢◌, ◌≤◌, ◌↔◌, length, map, IfSome, string_bytes};
+ghost use Rattle.std.specs.Prelude.{◌≡◌, ◌≢◌, ◌≤◌, ◌↔◌, map, None, Some, IfSome, string_bytes};
 ghost use Rattle.common_laws.specs.Causes.{Rose};
+ghost use Rattle.col_disk.specs.Moved.{Leaves};
+ghost use Rattle.db_model.specs.Database.{Database as Logical};
+ghost use Rattle.db_model.specs.Loading.{Files as LoadFiles};
 ghost use Rattle.vert_cli.specs.declared.faults.Status.TheVariants.{Usage as usage_refused, NoScript as no_script, SinkFault as sink_fault, ReadFault as read_fault, DiskFault as disk_fault, TooLarge as too_large};
-ghost use Rattle.vert_cli.specs.Words.{script_name};
-ghost use Rattle.vert_cli.specs.Ends.{RunEnds, HeldEnds, UntouchedAt, NotCalledAt, KeptAt, BlamesAt, ExactlyWhere, IsAbsent, IsTooLarge, IsAnswered, IsServable};
+ghost use Rattle.vert_cli.specs.Words.{wanted};
+ghost use Rattle.vert_cli.specs.Runs.{setting_of};
+ghost use Rattle.vert_cli.specs.Ends.{CutInScript, ExactlyWhere, FoundAs, HeldEnds, IsAbsent, IsAnswered, IsOpenable, IsServable, IsTooLarge, NotCalledAt, RunEnds, RunLeaves, UntouchedAt};
 
 use crate::faults::Status;
 use crate::script::run_script;
+use crate::words::{Wanted, read_words};
 use col_disk::Disk;
 use col_io::{Files, FilesFault, Got, Sink};
 use std::alloc::Global;
@@ -16,13 +21,13 @@ use std::alloc::Global;
 // The most bytes of a script.
 const MOST_BYTES: usize = 67_108_864;
 
-/// Does all that the program does: `vert DIR SCRIPT`, its own name as the first word.
+/// Does all that the program does: `vert [--mover K] [--halt] DIR SCRIPT`, its own name as the first word.
 ///
-/// It reads the file SCRIPT, opens the tables that the disk holds, runs the script's statements in order over them, and
-/// writes what each prints. At the clean end, after `Done` and `Refused`, the disk holds the tables as the script left
-/// them. Each status comes as `Status` says; `Memory` is free to come at any time but where the words are wrong. What is
-/// said of the script holds where the files tell their content, what is said of the written bytes where the sink tells
-/// them, and what is said of the tables that are opened and left where the disk tells what it holds.
+/// It reads the file SCRIPT, opens the tables that the disk holds, runs the script's statements in order over them, each with K steps of the
+/// mover behind it, and writes what each prints. At the end, after `Done` and `Refused`, all tables are on the disk, but with `--halt`, which
+/// leaves the end out. Each status comes as `Status` says; `Memory` is free to come at any time but where the words are wrong. What is said
+/// of the script holds where the files tell their content, what is said of the written bytes where the sink tells them, and what is said of
+/// the tables where the disk tells what it holds.
 pub fn run<F: Files, S: Sink, D: Disk>(
     alloc: Global,
     words: &[String],
@@ -30,51 +35,73 @@ pub fn run<F: Files, S: Sink, D: Disk>(
     out: &mut S,
     disk: &mut D,
 ) -> Status
-    ensures usage { (result ≡ usage_refused) ↔ (length words.now ≢ 3) }
-    ensures no_script { IfSome (F.content files.old) (λ there. ExactlyWhere result no_script (IsAbsent (script_name (map string_bytes words.now)) there)) }
-    ensures too_large { IfSome (F.content files.old) (λ there. ExactlyWhere result too_large (IsTooLarge (script_name (map string_bytes words.now)) there)) }
-    ensures output { IfSome (F.content files.old) (λ there. RunEnds result (script_name (map string_bytes words.now)) there (S.taken out.old) (S.taken out.new) (D.holds disk.old) (D.holds disk.new)) }
-    ensures complete { IfSome (F.content files.old) (λ there. IsServable (script_name (map string_bytes words.now)) there → IsAnswered result (record { sink = S.faults out.old; files = F.faults files.old; disk = D.faults disk.old }) (record { sink = S.faults out.new; files = F.faults files.new; disk = D.faults disk.new }) (D.holds disk.old)) }
+    ensures usage { (result ≡ usage_refused) ↔ (wanted (map string_bytes words.now) ≡ None) }
+    ensures no_script { IfSome (F.content files.old) (λ there. ExactlyWhere result no_script (IsAbsent (wanted (map string_bytes words.now)) there)) }
+    ensures too_large { IfSome (F.content files.old) (λ there. ExactlyWhere result too_large (IsTooLarge (wanted (map string_bytes words.now)) there)) }
+    ensures output { (there : LoadFiles) (d : Logical) → F.content files.old ≡ Some there → IsOpenable ⟦<D as Disk>⟧ disk.old d
+        → RunEnds result ⟦<D as Disk>⟧ there (wanted (map string_bytes words.now)) d disk.new (S.taken out.old) (S.taken out.new) }
+    ensures any_moment { (there : LoadFiles) (d : Logical) → F.content files.old ≡ Some there → IsOpenable ⟦<D as Disk>⟧ disk.old d
+        → Leaves ⟦<D as Disk>⟧ (RunLeaves there (wanted (map string_bytes words.now)) d) disk.old disk.new }
+    ensures complete { (there : LoadFiles) (d : Logical) → F.content files.old ≡ Some there → IsOpenable ⟦<D as Disk>⟧ disk.old d → IsServable (wanted (map string_bytes words.now)) there
+        → IsAnswered result (record { sink = S.faults out.old; files = F.faults files.old; disk = D.faults disk.old }) (record { sink = S.faults out.new; files = F.faults files.new; disk = D.faults disk.new }) }
     ensures untouched { UntouchedAt result (S.taken out.old) (S.taken out.new) }
+    ensures not_called { NotCalledAt result disk.old disk.new }
+    ensures content { F.content files.new ≡ F.content files.old }
     ensures sink { result ≡ sink_fault → Rose (S.faults out.old) (S.faults out.new) }
     ensures read { result ≡ read_fault → Rose (F.faults files.old) (F.faults files.new) }
-    ensures content { F.content files.new ≡ F.content files.old }
-    ensures later { S.faults out.old ≤ S.faults out.new }
-    ensures blamed { BlamesAt result (D.holds disk.old) }
-    ensures kept { KeptAt result (D.holds disk.old) (D.holds disk.new) }
-    ensures not_called { NotCalledAt result disk.old disk.new }
     ensures fault { result ≡ disk_fault → Rose (D.faults disk.old) (D.faults disk.new) }
+    ensures later { S.faults out.old ≤ S.faults out.new }
+    ensures files_later { F.faults files.old ≤ F.faults files.new }
     ensures disk_later { D.faults disk.old ≤ D.faults disk.new }
 {
-    let [_, _, script] = words else {
-        return Status::Usage;
-    };
-    run_file(alloc, script.as_str(), files, out, disk)
+    match read_words(words) {
+        Some(
+            Wanted {
+                script,
+                steps,
+                halts,
+            },
+        ) => run_file(alloc, script, steps, halts, files, out, disk),
+        None => Status::Usage,
+    }
 }
 
-// Runs the script of this name.
+// Runs the script that the words name.
 fn run_file<F: Files, S: Sink, D: Disk>(
     alloc: Global,
     name: &str,
+    steps: u32,
+    halts: bool,
     files: &mut F,
     out: &mut S,
     disk: &mut D,
 ) -> Status
-    ensures ends { IfSome (F.content files.old) (λ there. HeldEnds result (there name.now) (S.taken out.old) (S.taken out.new) (D.holds disk.old) (D.holds disk.new)) }
+    ensures ends { (there : LoadFiles) (d : Logical) → F.content files.old ≡ Some there → IsOpenable ⟦<D as Disk>⟧ disk.old d
+        → HeldEnds result ⟦<D as Disk>⟧ (setting_of there steps halts) d (there name.now) disk.new (S.taken out.old) (S.taken out.new) }
+    ensures any_moment { (there : LoadFiles) (d : Logical) → F.content files.old ≡ Some there → IsOpenable ⟦<D as Disk>⟧ disk.old d
+        → Leaves ⟦<D as Disk>⟧ (CutInScript (setting_of there steps halts) d (there name.now)) disk.old disk.new }
+    ensures found { IfSome (F.content files.old) (λ there. FoundAs result (there name.now)) }
     ensures named { result ≢ usage_refused }
     ensures untouched { UntouchedAt result (S.taken out.old) (S.taken out.new) }
+    ensures not_called { NotCalledAt result disk.old disk.new }
+    ensures content { F.content files.new ≡ F.content files.old }
     ensures sink { result ≡ sink_fault → Rose (S.faults out.old) (S.faults out.new) }
     ensures read { result ≡ read_fault → Rose (F.faults files.old) (F.faults files.new) }
-    ensures content { F.content files.new ≡ F.content files.old }
-    ensures later { S.faults out.old ≤ S.faults out.new }
-    ensures blamed { BlamesAt result (D.holds disk.old) }
-    ensures kept { KeptAt result (D.holds disk.old) (D.holds disk.new) }
-    ensures not_called { NotCalledAt result disk.old disk.new }
     ensures fault { result ≡ disk_fault → Rose (D.faults disk.old) (D.faults disk.new) }
+    ensures later { S.faults out.old ≤ S.faults out.new }
+    ensures files_later { F.faults files.old ≤ F.faults files.new }
     ensures disk_later { D.faults disk.old ≤ D.faults disk.new }
 {
     match files.read(alloc, name, MOST_BYTES) {
-        Ok(Got::Whole(script)) => run_script(alloc, script.as_slice(), files, out, disk),
+        Ok(Got::Whole(script)) => run_script(
+            alloc,
+            script.as_slice(),
+            steps,
+            halts,
+            files,
+            out,
+            disk,
+        ),
         Ok(Got::Absent) => Status::NoScript,
         Ok(Got::TooLong) => Status::TooLarge,
         Err(FilesFault::Failed) => Status::ReadFault,

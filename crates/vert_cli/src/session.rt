@@ -1,33 +1,36 @@
-//! A session: a store that statements are run on, one after the other.
+//! A session: a running store that statements are run on, one after the other.
 #![tactic(auto)]
 
-ghost use Rattle.std.specs.Prelude.{◌≡◌, ◌≤◌, Some, IfOk, IfErr, OnOk, IsErrOf};
+ghost use Rattle.std.specs.Prelude.{◌≡◌, ◌≤◌, ℕ, Some, false, true, IfOk, IfErr, OnOk, IsErrOf};
 ghost use Rattle.common_laws.specs.Causes.{Rose, HasCause};
-ghost use Rattle.col_disk.specs.Moved.{Moved, NoName};
-ghost use Rattle.col_disk.specs.declared.disk.DiskFault.TheVariants.{Failed};
+ghost use Rattle.common_laws.specs.Maps.{Contents};
+ghost use Rattle.col_disk.specs.Moved.{ImageOf, Leaves};
 ghost use Rattle.col_disk.specs.declared.disk.StoreFault.TheVariants.{Disk as disk_failed};
-ghost use Rattle.db_model.specs.State.{opened_state};
 ghost use Rattle.db_model.specs.Database.{Database as Logical};
-ghost use Rattle.plain_folder.specs.Opening.{IsRead};
-ghost use Rattle.plain_folder.specs.Faults.{BlamesFolder};
-ghost use Rattle.plain_folder.specs.Closing.{IsUnchanged, LeavesTables, KeepsTables};
-ghost use Rattle.vert_cli.specs.declared.faults.RunFault.TheVariants.{Sink as sink_failed};
-ghost use Rattle.vert_cli.specs.Statements.{Answered, Stopped, refusal_in};
+ghost use Rattle.db_model.specs.Loading.{Files as LoadFiles};
+ghost use Rattle.db_model.specs.State.{State, opened_with};
+ghost use Rattle.folder_model.specs.Reopening.{Reopens};
+ghost use Rattle.store_opening.specs.Opening.{BlamesOpening};
+ghost use Rattle.store_core.specs.Running.{Running, IsState};
+ghost use Rattle.store_step.specs.Faults.{IsUnblamedStore};
+ghost use Rattle.store_step.specs.Steps.{Ends};
+ghost use Rattle.vert_cli.specs.declared.faults.RunFault.TheVariants.{Sink as sink_failed, Disk as stopped, Read as read_failed, Halted as halted};
+ghost use Rattle.vert_cli.specs.Statements.{Executed, IsOfMover, MovedOn};
 
-use crate::faults::{Outcome, RunFault};
-use catalog_types::Catalogue;
-use col_disk::{Disk, DiskFault, StoreFault};
+use crate::faults::{Outcome, RunFault, fault_of, fault_of_step};
+use col_disk::{Disk, StoreFault};
 use col_io::{Files, Sink, SinkFault, write_all};
-use plain_folder::{Opened, close_tables, open_tables};
-use plain_store::PlainStore;
-use std::alloc::{AllocError, Global};
+use std::alloc::Global;
 use std::marker::Model;
+use store_core::Store;
+use store_step::{Answer, end, mover_step, step};
 
-/// A store that statements are run on, seen as the state of the program and the catalogue that its tables were read by.
+/// A running store that statements are run on. Over a disk it is a state of the database with its eight sessions; once the disk has
+/// failed it is halted.
 #[derive(Drop)]
 pub struct Session {
-    store: PlainStore,
-    kept: Catalogue,
+    store: Store,
+    halted: bool,
 }
 
 impl Model for Session {
@@ -35,32 +38,47 @@ impl Model for Session {
 
     ghost Value = { Sitting };
 
-    ghost view = { λ s. record { state = s.store; kept = s.kept } };
+    ghost view = { λ s. record { running = s.store; halted = s.halted } };
 }
 
 impl Session {
-    /// A session over the tables that the folder holds. Nothing is written. `Damaged` names a file that keeps the folder
-    /// from opening: the body of the greatest open gate, a listed file that is absent or not what it has to be, or a data
-    /// file where no gate is open.
+    /// A session over the tables that the folder reopens to, cut at the last good epoch. `Damaged` names a file that keeps the folder from
+    /// opening: the body of the greatest open gate, a listed file that is absent or not what it has to be, or a data file where no gate is
+    /// open.
     pub fn open<D: Disk>(alloc: Global, disk: &mut D) -> Result<Session, StoreFault>
-        ensures opened { IfOk result (λ session. (d : Logical) × (session.state ≡ opened_state d) × IsRead (D.holds disk.old) session.kept d) }
-        ensures blamed { IfErr result (BlamesFolder (D.holds disk.old)) }
-        ensures kept { D.holds disk.new ≡ D.holds disk.old }
-        ensures moved { Moved ⟦<D as Disk>⟧ NoName NoName disk.old disk.new }
+        ensures opened { IfOk result (λ s. (m : Contents) (d : Logical) → D.holds disk.old ≡ Some m → Reopens m d → (next : ℕ) × (parts : ℕ) × IsState ⟦<D as Disk>⟧ s.running disk.new (opened_with next parts d)) }
+        ensures live { IfOk result (λ s. s.halted ≡ false) }
+        ensures any_moment { (m : Contents) (d : Logical) → D.holds disk.old ≡ Some m → ((x : Contents) → ImageOf ⟦<D as Disk>⟧ disk.old x → Reopens x d) → Leaves ⟦<D as Disk>⟧ (λ x. Reopens x d) disk.old disk.new }
+        ensures blamed { IfErr result (BlamesOpening (D.holds disk.old)) }
         ensures cause { HasCause disk_failed (D.faults disk.old) (D.faults disk.new) result }
     {
-        match open_tables(alloc, disk) {
-            Ok(Opened { store, kept }) => Ok(Session { store, kept }),
+        match Store::open(alloc, disk) {
+            Ok(store) => Ok(Session {
+                store,
+                halted: false,
+            }),
             Err(fault) => Err(fault),
         }
     }
 
+    // Keeps in mind that the disk failed.
+    fn note(&mut self, fault: RunFault) -> RunFault
+        ensures same { result ≡ fault }
+        ensures running { self.new.running ≡ self.old.running }
+    {
+        if fault == RunFault::Disk {
+            self.halted = true;
+        }
+        fault
+    }
+
     /// Runs one statement text, without its `;`, and writes what it prints.
     ///
-    /// The whole printed text is made first and written afterwards. After `Ok` the sink took exactly the text, and the
-    /// refusal in the outcome is the statement's. After `Sink` the statement has taken effect, and a front of its text
-    /// was taken; the sink's count of faults rose. After `Memory` nothing was taken, or the statement has taken effect
-    /// and a front of its text was taken. No other fault comes yet, and files and disk are left as they were.
+    /// The whole printed text is made first and written afterwards. After `Ok` the sink took exactly the text, and the refusal in the
+    /// outcome is the statement's. After `Sink` the statement has taken effect, and a front of its text was taken; the sink's count of
+    /// faults rose. After `Memory` nothing was taken and nothing changed, but for moveouts that were done; or the sink was short of memory,
+    /// and the statement has taken effect. Whatever a crash leaves at any moment reopens to the tables before or after the statement. Once
+    /// the disk has failed, `Halted` is answered and nothing is called.
     pub fn execute<F: Files, S: Sink, D: Disk>(
         &mut self,
         alloc: Global,
@@ -69,37 +87,82 @@ impl Session {
         disk: &mut D,
         out: &mut S,
     ) -> Result<Outcome, RunFault>
-        ensures answered { IfOk result (λ outcome. Answered self.old.state text.now (refusal_in outcome) self.new.state (S.taken out.old) (S.taken out.new)) }
-        ensures stopped { IfErr result (λ fault. Stopped fault self.old.state text.now self.new.state (S.taken out.old) (S.taken out.new)) }
-        ensures kept { self.new.kept ≡ self.old.kept }
+        ensures executed { (there : LoadFiles) (state : State) → F.content files.old ≡ Some there → self.old.halted ≡ false → IsState ⟦<D as Disk>⟧ self.old.running disk.old state
+            → Executed ⟦<D as Disk>⟧ there text.now self.new.running disk.old disk.new result state (S.taken out.old) (S.taken out.new) }
+        ensures live { IfOk result (λ outcome. self.new.halted ≡ false) }
+        ensures content { F.content files.new ≡ F.content files.old }
         ensures sink { IsErrOf result sink_failed → Rose (S.faults out.old) (S.faults out.new) }
+        ensures read { IsErrOf result read_failed → Rose (F.faults files.old) (F.faults files.new) }
+        ensures cause { HasCause stopped (D.faults disk.old) (D.faults disk.new) result }
         ensures later { S.faults out.old ≤ S.faults out.new }
-        ensures files { files.new ≡ files.old }
-        ensures disk { disk.new ≡ disk.old }
+        ensures files_later { F.faults files.old ≤ F.faults files.new }
+        ensures only_halted { IsErrOf result halted → self.old.halted ≡ true }
+        ensures always_halted { self.old.halted ≡ true → IsErrOf result halted × (self.new ≡ self.old) × (disk.new ≡ disk.old) × (out.new ≡ out.old) }
     {
-        let _ = &*files;
-        let _ = &*disk;
-        let answer = match self.store.answer(alloc, text) {
+        if self.halted {
+            return Err(RunFault::Halted);
+        }
+        let Answer { text, refusal } = match step(alloc, &mut self.store, text, files, disk) {
             Ok(answer) => answer,
-            Err(AllocError) => return Err(RunFault::Memory),
+            Err(fault) => return Err(self.note(fault_of_step(fault))),
         };
-        match write_all(out, answer.text.as_slice()) {
-            Ok(()) => Ok(Outcome::of(answer.refusal)),
+        match write_all(out, text.as_slice()) {
+            Ok(()) => Ok(Outcome::of(refusal)),
             Err(SinkFault::Failed) => Err(RunFault::Sink),
             Err(SinkFault::Memory) => Err(RunFault::Memory),
         }
     }
 
-    /// The clean end: writes the tables to the folder, so that it opens to them. Where nothing was committed and no table
-    /// made since the opening, the disk isn't called. What waits for COMMIT is dropped. Whatever is answered, the folder
-    /// opens to the tables that it held or to these.
-    pub fn close<D: Disk>(self, alloc: Global, disk: &mut D) -> Result<(), DiskFault>
-        ensures leaves { OnOk result (LeavesTables self.kept self.state (D.holds disk.old) (D.holds disk.new)) }
-        ensures keeps { KeepsTables self.kept self.state (D.holds disk.old) (D.holds disk.new) }
-        ensures still { IsUnchanged self.kept self.state → disk.new ≡ disk.old }
-        ensures cause { HasCause Failed (D.faults disk.old) (D.faults disk.new) result }
+    /// So many steps of the mover. Once the disk has failed, `Halted` is answered and nothing is called.
+    pub fn move_on<D: Disk>(
+        &mut self,
+        alloc: Global,
+        steps: u32,
+        disk: &mut D,
+    ) -> Result<(), RunFault>
+        ensures moved { (state : State) → self.old.halted ≡ false → IsState ⟦<D as Disk>⟧ self.old.running disk.old state → MovedOn ⟦<D as Disk>⟧ steps self.new.running disk.old disk.new result IsOfMover state }
+        ensures live { OnOk result (self.new.halted ≡ false) }
+        ensures no_sink { IsErrOf result sink_failed → ⊥ }
+        ensures no_read { IsErrOf result read_failed → ⊥ }
+        ensures cause { HasCause stopped (D.faults disk.old) (D.faults disk.new) result }
+        ensures only_halted { IsErrOf result halted → self.old.halted ≡ true }
+        ensures always_halted { self.old.halted ≡ true → IsErrOf result halted × (self.new ≡ self.old) × (disk.new ≡ disk.old) }
     {
-        let Session { store, kept } = self;
-        close_tables(alloc, disk, store, &kept)
+        if self.halted {
+            return Err(RunFault::Halted);
+        }
+        match move_steps(alloc, &mut self.store, steps, disk) {
+            Ok(()) => Ok(()),
+            Err(fault) => Err(self.note(fault_of(fault))),
+        }
     }
+
+    /// The end of a script: what waits for COMMIT in any session is dropped, and all tables go to disk, up to a moveout that would draw
+    /// where the numbers of files are spent. Whatever a crash leaves at any moment reopens to the same tables.
+    pub fn close<D: Disk>(self, alloc: Global, disk: &mut D) -> Result<(), StoreFault>
+        ensures ends { (state : State) → IsState ⟦<D as Disk>⟧ self.running disk.old state → (is : Running) × Ends ⟦<D as Disk>⟧ is disk.old disk.new result state }
+        ensures cause { HasCause disk_failed (D.faults disk.old) (D.faults disk.new) result }
+    {
+        let Session { mut store, .. } = self;
+        end(alloc, &mut store, disk)
+    }
+}
+
+// So many steps of the mover.
+fn move_steps<D: Disk>(
+    alloc: Global,
+    store: &mut Store,
+    steps: u32,
+    disk: &mut D,
+) -> Result<(), StoreFault>
+    ensures moved { (state : State) → IsState ⟦<D as Disk>⟧ store.old disk.old state → MovedOn ⟦<D as Disk>⟧ steps store.new disk.old disk.new result IsUnblamedStore state }
+    ensures cause { HasCause disk_failed (D.faults disk.old) (D.faults disk.new) result }
+{
+    for _ in 0..steps {
+        match mover_step(alloc, store, disk) {
+            Ok(()) => {}
+            Err(fault) => return Err(fault),
+        }
+    }
+    Ok(())
 }

@@ -113,7 +113,7 @@ fn two_sessions(rt: HostRuntime) -> Result<(), Fail> {
             .execute(alloc, text, &mut files, &mut disk, &mut out)
             .map_err(|_| "stopped")?;
         assert_eq!(rt; matches!(outcome, Outcome::Done), done);
-        session.close(alloc, &mut disk)?;
+        session.close(alloc, &mut disk).map_err(|_| "not closed")?;
         assert_eq!(rt; disk.names(alloc)?.as_slice(), [5, 6].as_slice());
     }
     assert!(rt; out.bytes() == b"CREATE TABLE\n(0 rows)\nERROR 2 UnknownTable s\n".as_slice());

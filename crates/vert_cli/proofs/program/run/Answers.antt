@@ -1,14 +1,17 @@
-use Rattle.std.proofs.Common.{ℕ, List, ◌≡◌, ◌∙◌, map, sym, ap, arith}
-use Rattle.std.specs.Prelude.{Some, string_bytes}
-use Rattle.vert_cli.specs.Words.{script_name}
-use Rattle.vert_cli.proofs.Ending.{complete_named, third_word}
+use Rattle.std.proofs.Common.{map, sym, subst}
+use Rattle.std.specs.Prelude.{Option, string_bytes}
+use Rattle.col_disk.specs.Moved.{Leaves}
+use Rattle.vert_cli.specs.Words.{Wanted, wanted}
+use Rattle.vert_cli.specs.Reading.{wanted_of}
+use Rattle.vert_cli.specs.Ends.{RunLeaves}
+use Rattle.vert_cli.proofs.Serving.{complete}
 use Rattle.vert_cli.proofs.program.run.Goals as goal
 
-pub returns-clause-complete : goal.returns-clause-complete
-returns-clause-complete g c =
-    let named : script_name (map string_bytes c.args.words.now) ≡ Some c.as_str.result.now =
-    third_word string_bytes c.args.words.now _ c.script-item.result (omega (arith, c.in-len3.len_at_least, c.in-len3.len_below)) c.script-item.is
-    ∙ ap (λ (n : List ℕ). Some n) (sym c.as_str.ensures.value) in
-    complete_named (g.F.Files.content c.args.files.now) (script_name (map string_bytes c.args.words.now)) c.as_str.result.now c.run_file.result
-    (g.S.Sink.taken c.args.out.now) (g.S.Sink.taken c.run_file.new.out) (g.D.Disk.holds c.args.disk.now) (g.D.Disk.holds c.run_file.new.disk) _ _
-    named c.run_file.ensures.ends c.run_file.ensures.blamed c.run_file.ensures.sink c.run_file.ensures.read c.run_file.ensures.fault
+pub returns-in-Some-clause-any_moment : goal.returns-in-Some-clause-any_moment
+returns-in-Some-clause-any_moment g c = λ there d content openable.
+    subst (λ (w : Option Wanted). Leaves g.D.Disk (RunLeaves there w d) c.args.disk.now c.run_file.new.disk) c.in-Some.ensures (c.run_file.ensures.any_moment there d content openable)
+
+pub returns-in-Some-clause-complete : goal.returns-in-Some-clause-complete
+returns-in-Some-clause-complete g c = λ there d content openable servable.
+    complete g.D.Disk there (wanted (map string_bytes c.args.words.now)) (wanted_of c.in-Some.field-0) d c.run_file.new.disk (g.S.Sink.taken c.args.out.now) (g.S.Sink.taken c.run_file.new.out) _ _ c.run_file.result
+    (sym c.in-Some.ensures) (c.run_file.ensures.ends there d content openable) c.run_file.ensures.sink c.run_file.ensures.read c.run_file.ensures.fault servable

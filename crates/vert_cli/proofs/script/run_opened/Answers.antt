@@ -1,73 +1,97 @@
 use Rattle.std.proofs.Common.{◌∙◌, map, sym, ap, subst}
+use Rattle.db_model.specs.State.{opened_with}
 use Rattle.sql_words.specs.Texts.{cut}
 use Rattle.vert_cli.specs.declared.faults.Status.{Status}
-use Rattle.vert_cli.specs.Ends.{TextsEnd, BlamesAt, KeptAt}
-use Rattle.vert_cli.proofs.Ending.{ended, failed, run_ends, end_ends, fault_ends, open_blames, end_kept, same_kept, run_kept}
+use Rattle.vert_cli.specs.Runs.{setting_of}
+use Rattle.vert_cli.specs.Ends.{status_of, OpenedEnd}
+use Rattle.vert_cli.proofs.Ending.{not_opened, texts_stopped, texts_halted, texts_ended, end_failed, opening_leaves, texts_leave, end_leaves}
 use Rattle.vert_cli.proofs.script.run_opened.Goals as goal
 
-pub returns-in-Err-clause-blamed : goal.returns-in-Err-clause-blamed
-returns-in-Err-clause-blamed g c =
-    subst (λ (s : Status). BlamesAt s (g.D.Disk.holds c.args.disk.now)) (sym c.status_of_open.ensures)
-    (open_blames c.in-Err.fault (g.D.Disk.holds c.args.disk.now) c.in-Err.ensures.blamed)
-
-pub returns-in-Ok-close-clause-ends : goal.returns-in-Ok-close-clause-ends
-returns-in-Ok-close-clause-ends g c =
+pub returns-in-Err-clause-ends : goal.returns-in-Err-clause-ends
+returns-in-Err-clause-ends g c = λ there d content openable.
+    let setting = setting_of there c.args.steps c.args.halts in
     let texts = map (cut c.args.script.now) c.args.spans.now in
-    let before = g.S.Sink.taken c.args.out.now in
-    let after = g.S.Sink.taken c.run_spans.new.out in
-    let found = g.D.Disk.holds c.args.disk.now in
-    let left = g.D.Disk.holds c.close.new.disk in
-    subst (λ (s : Status). TextsEnd s texts before after found left) (sym c.status_of_run.ensures)
-    (run_ends c.in-Ok-run_spans.refused texts before after found left
-    (ended texts c.in-Ok-run_spans.refused c.in-Ok.session c.run_spans.new.session before after found (g.D.Disk.holds c.run_spans.new.disk) left
-    c.in-Ok.ensures.opened c.in-Ok-run_spans.ensures.read_by (ap g.D.Disk.holds c.in-Ok-run_spans.ensures.disk ∙ c.in-Ok.ensures.kept)
-    c.in-Ok-run_spans.ensures.whole c.in-Ok-close.ensures.leaves (λ is. ap g.D.Disk.holds (c.in-Ok-close.ensures.still is))))
+    let told = g.S.Sink.taken c.args.out.now in
+    subst (λ (s : Status). OpenedEnd s g.D.Disk setting d texts c.open.new.disk told told) (sym (c.status.ensures ∙ ap status_of c.fault_of.ensures))
+    (not_opened g.D.Disk setting d texts c.args.disk.now c.open.new.disk c.in-Err.fault told openable c.in-Err.ensures.blamed)
 
-pub returns-in-Err-close-clause-ends : goal.returns-in-Err-close-clause-ends
-returns-in-Err-close-clause-ends g c =
-    let texts = map (cut c.args.script.now) c.args.spans.now in
-    let before = g.S.Sink.taken c.args.out.now in
-    let after = g.S.Sink.taken c.run_spans.new.out in
-    let found = g.D.Disk.holds c.args.disk.now in
-    let left = g.D.Disk.holds c.close.new.disk in
-    subst (λ (s : Status). TextsEnd s texts before after found left) (sym c.status_of_end.ensures)
-    (end_ends c.in-Err-close.fault texts before after found left
-    (failed texts c.in-Ok-run_spans.refused c.in-Ok.session c.run_spans.new.session before after found (g.D.Disk.holds c.run_spans.new.disk) left
-    c.in-Ok.ensures.opened c.in-Ok-run_spans.ensures.read_by (ap g.D.Disk.holds c.in-Ok-run_spans.ensures.disk ∙ c.in-Ok.ensures.kept)
-    c.in-Ok-run_spans.ensures.whole c.close.ensures.keeps))
-
-pub returns-in-Err-close-clause-kept : goal.returns-in-Err-close-clause-kept
-returns-in-Err-close-clause-kept g c =
-    let texts = map (cut c.args.script.now) c.args.spans.now in
-    let before = g.S.Sink.taken c.args.out.now in
-    let after = g.S.Sink.taken c.run_spans.new.out in
-    let found = g.D.Disk.holds c.args.disk.now in
-    let left = g.D.Disk.holds c.close.new.disk in
-    subst (λ (s : Status). KeptAt s found left) (sym c.status_of_end.ensures)
-    (end_kept c.in-Err-close.fault texts before after found left
-    (failed texts c.in-Ok-run_spans.refused c.in-Ok.session c.run_spans.new.session before after found (g.D.Disk.holds c.run_spans.new.disk) left
-    c.in-Ok.ensures.opened c.in-Ok-run_spans.ensures.read_by (ap g.D.Disk.holds c.in-Ok-run_spans.ensures.disk ∙ c.in-Ok.ensures.kept)
-    c.in-Ok-run_spans.ensures.whole c.close.ensures.keeps))
-
-pub returns-in-Ok-close-clause-kept : goal.returns-in-Ok-close-clause-kept
-returns-in-Ok-close-clause-kept g c =
-    let found = g.D.Disk.holds c.args.disk.now in
-    let left = g.D.Disk.holds c.close.new.disk in
-    subst (λ (s : Status). KeptAt s found left) (sym c.status_of_run.ensures) (run_kept c.in-Ok-run_spans.refused found left)
-
-pub returns-in-Err-clause-kept : goal.returns-in-Err-clause-kept
-returns-in-Err-clause-kept g c = same_kept c.status_of_open.result _ _ c.in-Err.ensures.kept
-
-pub returns-in-Err-run_spans-clause-kept : goal.returns-in-Err-run_spans-clause-kept
-returns-in-Err-run_spans-clause-kept g c =
-    same_kept c.status.result _ _ (ap g.D.Disk.holds c.in-Err-run_spans.ensures.disk ∙ c.in-Ok.ensures.kept)
+pub returns-in-Err-clause-any_moment : goal.returns-in-Err-clause-any_moment
+returns-in-Err-clause-any_moment g c = λ there d content openable.
+    opening_leaves g.D.Disk (setting_of there c.args.steps c.args.halts) d (map (cut c.args.script.now) c.args.spans.now) c.args.disk.now c.open.new.disk
+    (c.in-Err.ensures.any_moment openable.files d openable.told openable.images)
 
 pub returns-in-Err-run_spans-clause-ends : goal.returns-in-Err-run_spans-clause-ends
-returns-in-Err-run_spans-clause-ends g c =
+returns-in-Err-run_spans-clause-ends g c = λ there d content openable.
+    let setting = setting_of there c.args.steps c.args.halts in
     let texts = map (cut c.args.script.now) c.args.spans.now in
     let before = g.S.Sink.taken c.args.out.now in
     let after = g.S.Sink.taken c.run_spans.new.out in
-    let found = g.D.Disk.holds c.args.disk.now in
-    let left = g.D.Disk.holds c.run_spans.new.disk in
-    subst (λ (s : Status). TextsEnd s texts before after found left) (sym c.status.ensures)
-    (fault_ends c.in-Err-run_spans.fault texts c.in-Ok.session before after found left c.in-Ok.ensures.opened c.in-Err-run_spans.ensures.part)
+    let start = c.in-Ok.ensures.opened openable.files d openable.told openable.reopens in
+    subst (λ (s : Status). OpenedEnd s g.D.Disk setting d texts c.run_spans.new.disk before after) (sym c.status-in-Err-run_spans.ensures)
+    (texts_stopped g.D.Disk setting d texts start.0 start.1 c.run_spans.new.session.running c.open.new.disk c.run_spans.new.disk c.in-Err-run_spans.fault before after
+    (c.in-Err-run_spans.ensures.ran there (opened_with start.0 start.1 d) c.args.halts content start.2))
+
+pub returns-in-Err-run_spans-clause-any_moment : goal.returns-in-Err-run_spans-clause-any_moment
+returns-in-Err-run_spans-clause-any_moment g c = λ there d content openable.
+    let setting = setting_of there c.args.steps c.args.halts in
+    let texts = map (cut c.args.script.now) c.args.spans.now in
+    let start = c.in-Ok.ensures.opened openable.files d openable.told openable.reopens in
+    let ran = c.in-Err-run_spans.ensures.ran there (opened_with start.0 start.1 d) c.args.halts content start.2 in
+    texts_leave g.D.Disk setting d texts start.0 start.1 c.args.disk.now c.open.new.disk c.run_spans.new.disk (c.in-Ok.ensures.any_moment openable.files d openable.told openable.images) ran.any_moment
+
+pub returns-then-halts-clause-ends : goal.returns-then-halts-clause-ends
+returns-then-halts-clause-ends g c = λ there d content openable.
+    let setting = setting_of there c.args.steps c.args.halts in
+    let texts = map (cut c.args.script.now) c.args.spans.now in
+    let before = g.S.Sink.taken c.args.out.now in
+    let after = g.S.Sink.taken c.run_spans.new.out in
+    let start = c.in-Ok.ensures.opened openable.files d openable.told openable.reopens in
+    subst (λ (s : Status). OpenedEnd s g.D.Disk setting d texts c.run_spans.new.disk before after) (sym c.status_of_run.ensures)
+    (texts_halted g.D.Disk there c.args.steps c.args.halts d texts start.0 start.1 c.run_spans.new.session.running c.open.new.disk c.run_spans.new.disk c.in-Ok-run_spans.refused before after c.if-halts.true
+    (c.in-Ok-run_spans.ensures.ran there (opened_with start.0 start.1 d) c.args.halts content start.2))
+
+pub returns-then-halts-clause-any_moment : goal.returns-then-halts-clause-any_moment
+returns-then-halts-clause-any_moment g c = λ there d content openable.
+    let setting = setting_of there c.args.steps c.args.halts in
+    let texts = map (cut c.args.script.now) c.args.spans.now in
+    let start = c.in-Ok.ensures.opened openable.files d openable.told openable.reopens in
+    let ran = c.in-Ok-run_spans.ensures.ran there (opened_with start.0 start.1 d) c.args.halts content start.2 in
+    texts_leave g.D.Disk setting d texts start.0 start.1 c.args.disk.now c.open.new.disk c.run_spans.new.disk (c.in-Ok.ensures.any_moment openable.files d openable.told openable.images) ran.any_moment
+
+pub returns-in-Ok-close-clause-ends : goal.returns-in-Ok-close-clause-ends
+returns-in-Ok-close-clause-ends g c = λ there d content openable.
+    let setting = setting_of there c.args.steps c.args.halts in
+    let texts = map (cut c.args.script.now) c.args.spans.now in
+    let before = g.S.Sink.taken c.args.out.now in
+    let after = g.S.Sink.taken c.run_spans.new.out in
+    let start = c.in-Ok.ensures.opened openable.files d openable.told openable.reopens in
+    subst (λ (s : Status). OpenedEnd s g.D.Disk setting d texts c.close.new.disk before after) (sym c.status_of_run-in-Ok-close.ensures)
+    (texts_ended g.D.Disk there c.args.steps c.args.halts d texts start.0 start.1 c.run_spans.new.session.running c.open.new.disk c.run_spans.new.disk c.close.new.disk c.in-Ok-run_spans.refused c.in-Ok-close.field-0 before after c.if-halts.false
+    (c.in-Ok-run_spans.ensures.ran there (opened_with start.0 start.1 d) c.args.halts content start.2) (λ state here. c.in-Ok-close.ensures.ends state here))
+
+pub returns-in-Ok-close-clause-any_moment : goal.returns-in-Ok-close-clause-any_moment
+returns-in-Ok-close-clause-any_moment g c = λ there d content openable.
+    let texts = map (cut c.args.script.now) c.args.spans.now in
+    let start = c.in-Ok.ensures.opened openable.files d openable.told openable.reopens in
+    end_leaves g.D.Disk there c.args.steps c.args.halts d texts start.0 start.1 c.run_spans.new.session.running c.args.disk.now c.open.new.disk c.run_spans.new.disk c.close.new.disk c.in-Ok-run_spans.refused _ (g.S.Sink.taken c.args.out.now)
+    (g.S.Sink.taken c.run_spans.new.out) c.if-halts.false (c.in-Ok.ensures.any_moment openable.files d openable.told openable.images)
+    (c.in-Ok-run_spans.ensures.ran there (opened_with start.0 start.1 d) c.args.halts content start.2) (λ state here. c.in-Ok-close.ensures.ends state here)
+
+pub returns-in-Err-close-clause-ends : goal.returns-in-Err-close-clause-ends
+returns-in-Err-close-clause-ends g c = λ there d content openable.
+    let setting = setting_of there c.args.steps c.args.halts in
+    let texts = map (cut c.args.script.now) c.args.spans.now in
+    let before = g.S.Sink.taken c.args.out.now in
+    let after = g.S.Sink.taken c.run_spans.new.out in
+    let start = c.in-Ok.ensures.opened openable.files d openable.told openable.reopens in
+    subst (λ (s : Status). OpenedEnd s g.D.Disk setting d texts c.close.new.disk before after) (sym (c.status-in-Err-close.ensures ∙ ap status_of c.fault_of-in-Err-close.ensures))
+    (end_failed g.D.Disk setting d texts start.0 start.1 c.run_spans.new.session.running c.open.new.disk c.run_spans.new.disk c.close.new.disk c.in-Ok-run_spans.refused c.in-Err-close.fault before after
+    (c.in-Ok-run_spans.ensures.ran there (opened_with start.0 start.1 d) c.args.halts content start.2) (λ state here. c.in-Err-close.ensures.ends state here))
+
+pub returns-in-Err-close-clause-any_moment : goal.returns-in-Err-close-clause-any_moment
+returns-in-Err-close-clause-any_moment g c = λ there d content openable.
+    let texts = map (cut c.args.script.now) c.args.spans.now in
+    let start = c.in-Ok.ensures.opened openable.files d openable.told openable.reopens in
+    end_leaves g.D.Disk there c.args.steps c.args.halts d texts start.0 start.1 c.run_spans.new.session.running c.args.disk.now c.open.new.disk c.run_spans.new.disk c.close.new.disk c.in-Ok-run_spans.refused _ (g.S.Sink.taken c.args.out.now)
+    (g.S.Sink.taken c.run_spans.new.out) c.if-halts.false (c.in-Ok.ensures.any_moment openable.files d openable.told openable.images)
+    (c.in-Ok-run_spans.ensures.ran there (opened_with start.0 start.1 d) c.args.halts content start.2) (λ state here. c.in-Err-close.ensures.ends state here)

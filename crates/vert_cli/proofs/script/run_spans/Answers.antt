@@ -1,21 +1,42 @@
-use Rattle.std.proofs.Common.{◌∙◌, arith}
+use Rattle.std.proofs.Common.{◌∙◌, refl, map, arith}
 use Rattle.sql_words.specs.Texts.{cut}
-use Rattle.vert_cli.proofs.Running.{whole_next, part_next}
+use Rattle.vert_cli.specs.Runs.{setting_of}
+use Rattle.vert_cli.proofs.Ending.{so_far_none, so_far_more, so_far_stopped, so_far_all}
 use Rattle.vert_cli.proofs.script.run_spans.Goals as goal
 
-pub returns-in-Err-clause-part : goal.returns-in-Err-clause-part
-returns-in-Err-clause-part g c =
-    part_next (cut c.args.script.now) c.args.spans.now c.loop-span.span-index _ c.in-Err.fault c.args.session.now.state c.loop-span.session.state c.execute.new.self.state
-    c.loop-span.refused (g.S.Sink.taken c.args.out.now) (g.S.Sink.taken c.loop-span.out) (g.S.Sink.taken c.execute.new.out)
-    (omega arith) c.loop-span.invariant.ran c.in-Err.ensures.stopped
+pub loop-span-init : goal.loop-span-init
+loop-span-init g c = record {
+  ran = λ there start halts content here.
+      so_far_none g.D.Disk (setting_of there c.args.steps halts) (map (cut c.args.script.now) c.args.spans.now) c.args.session.now.running c.args.disk.now start (g.S.Sink.taken c.args.out.now) here;
+  live = c.requires.live;
+  content = refl;
+  sinks = omega arith;
+  reads = omega arith;
+  faults = omega arith;
+}
+
+pub returns-in-Err-clause-ran : goal.returns-in-Err-clause-ran
+returns-in-Err-clause-ran g c = λ there start halts content here.
+    let so_far = c.loop-span.invariant.ran there start halts content here in
+    so_far_stopped g.D.Disk (cut c.args.script.now) c.args.spans.now c.loop-span.span-index _ (setting_of there c.args.steps halts) c.loop-span.session.running c.run_text.new.session.running c.args.disk.now c.loop-span.disk c.run_text.new.disk start
+    c.loop-span.refused c.in-Err.fault (g.S.Sink.taken c.args.out.now) (g.S.Sink.taken c.loop-span.out) (g.S.Sink.taken c.run_text.new.out) (omega (arith, c.loop-span-test.true)) so_far
+    (c.in-Err.ensures.ran there so_far.mid halts (c.loop-span.invariant.content ∙ content) so_far.stands)
 
 pub loop-span-preserved : goal.loop-span-preserved
 loop-span-preserved g c = record {
-  ran = whole_next (cut c.args.script.now) c.args.spans.now c.loop-span.span-index _ c.args.session.now.state c.loop-span.session.state c.execute.new.self.state
-      c.loop-span.refused c.adds_to-refused.result _ (g.S.Sink.taken c.args.out.now) (g.S.Sink.taken c.loop-span.out) (g.S.Sink.taken c.execute.new.out)
-      (omega arith) c.adds_to-refused.ensures c.loop-span.invariant.ran c.in-Ok.ensures.answered;
-  kept = c.in-Ok.ensures.kept ∙ c.loop-span.invariant.kept;
-  later = omega (arith, c.loop-span.invariant.later, c.in-Ok.ensures.later);
-  files = c.in-Ok.ensures.files ∙ c.loop-span.invariant.files;
-  disk = c.in-Ok.ensures.disk ∙ c.loop-span.invariant.disk;
+  ran = λ there start halts content here.
+      (let so_far = c.loop-span.invariant.ran there start halts content here in
+      so_far_more g.D.Disk (cut c.args.script.now) c.args.spans.now c.loop-span.span-index _ (setting_of there c.args.steps halts) c.loop-span.session.running c.run_text.new.session.running c.args.disk.now c.loop-span.disk c.run_text.new.disk start
+      c.loop-span.refused c.either-refused.result c.in-Ok.was (g.S.Sink.taken c.args.out.now) (g.S.Sink.taken c.loop-span.out) (g.S.Sink.taken c.run_text.new.out) (omega (arith, c.loop-span-test.true)) c.either-refused.ensures so_far
+      (c.in-Ok.ensures.ran there so_far.mid halts (c.loop-span.invariant.content ∙ content) so_far.stands));
+  live = c.in-Ok.ensures.live;
+  content = c.in-Ok.ensures.content ∙ c.loop-span.invariant.content;
+  sinks = omega (arith, c.loop-span.invariant.sinks, c.in-Ok.ensures.later);
+  reads = omega (arith, c.loop-span.invariant.reads, c.in-Ok.ensures.files_later);
+  faults = omega (arith, c.loop-span.invariant.faults, c.in-Ok.ensures.cause.later);
 }
+
+pub returns-clause-ran : goal.returns-clause-ran
+returns-clause-ran g c = λ there start halts content here.
+    so_far_all g.D.Disk (cut c.args.script.now) c.args.spans.now c.loop-span.span-index (setting_of there c.args.steps halts) c.loop-span.session.running c.args.disk.now c.loop-span.disk start c.loop-span.refused (g.S.Sink.taken c.args.out.now)
+    (g.S.Sink.taken c.loop-span.out) (omega (arith, c.loop-span-test.false)) (c.loop-span.invariant.ran there start halts content here)

@@ -1,5 +1,0 @@
-mod Firsts
-mod Finding
-mod Binding
-mod Joining
-mod Steps

@@ -1,5 +1,0 @@
-mod Seen
-mod Collected
-mod Places
-mod Taken
-pub mod OneTable

@@ -1,6 +1,0 @@
-pub mod FirstOnes
-pub mod Storing
-pub mod Splitting
-pub mod Lacking
-pub mod KnownKeys
-pub mod Numbered

@@ -1,6 +1,0 @@
-use Rattle.std.proofs.Common.{◌≡◌, map, take}
-use Rattle.sql_binder.specs.Queries.{key_place}
-use Rattle.sql_binder.proofs.keys.bind_order.Given as goal
-
-abbrev pub invariant-loop-key : goal.invariant-loop-key
-invariant-loop-key l = l.out.items ≡ map (λ k. (key_place l.outputs k.key, k.descending)) (take l.key-index l.order)

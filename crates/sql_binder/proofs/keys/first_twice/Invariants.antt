@@ -1,6 +1,0 @@
-use Rattle.std.proofs.Common.{◌≡◌, drop}
-use Rattle.sql_binder.specs.Queries.{twice_named, first_given}
-use Rattle.sql_binder.proofs.keys.first_twice.Given as goal
-
-abbrev pub invariant-loop-key : goal.invariant-loop-key
-invariant-loop-key l = first_given (λ k. twice_named l.outputs k.key) (drop l.key-index l.order) ≡ first_given (λ k. twice_named l.outputs k.key) l.order
