@@ -10,6 +10,7 @@ a file of its own, and their ratio. A query is run several times inside one proc
 Peak memory is that of the process that runs it. sqlite3 is left out where it isn't installed.
 """
 import glob
+import json
 import os
 import shutil
 import subprocess
@@ -79,7 +80,7 @@ def literal(value):
     return str(value) if isinstance(value, int) else "'" + value + "'"
 
 
-def run(words, source):
+def run_here(words, source):
     """Seconds and peak megabytes of a process of its own."""
     pid = os.fork()
     if pid == 0:
@@ -90,6 +91,18 @@ def run(words, source):
     start = time.time()
     _, _, used = os.wait4(pid, 0)
     return time.time() - start, used.ru_maxrss / 1024
+
+
+def serve():
+    """Runs what is asked for on standard input. A small process does this, since the peak of a process begins with that of its parent."""
+    for line in sys.stdin:
+        print(json.dumps(run_here(*json.loads(line))), flush=True)
+
+
+def run(words, source):
+    SERVER.stdin.write(json.dumps([words, source]) + "\n")
+    SERVER.stdin.flush()
+    return tuple(json.loads(SERVER.stdout.readline()))
 
 
 def best(words, source):
@@ -163,4 +176,8 @@ def main():
             print(f"  {name}, {title}: {spent[-1] / max(spent[0], 1e-4):.1f}")
 
 
-main()
+if sys.argv[1:] == ["--serve"]:
+    serve()
+else:
+    SERVER = subprocess.Popen([sys.executable, os.path.abspath(__file__), "--serve"], stdin=subprocess.PIPE, stdout=subprocess.PIPE, text=True)
+    main()
