@@ -1,0 +1,71 @@
+"""Folders that the tests of stops fill and hold against what was announced."""
+import subprocess
+
+
+def run(program, folder, script):
+    done = subprocess.run([program, folder, script], stdout=subprocess.PIPE)
+    return done.returncode, done.stdout.decode()
+
+
+class Folder:
+    """A folder, and which rows each transaction of it inserted."""
+
+    def __init__(self, program, place):
+        self.program, self.place, self.commits, self.tables = program, place, {}, 0
+        self.script, self.make_room = place + '.sql', lambda: None
+
+    def say(self, lines):
+        with open(self.script, 'w') as f:
+            f.write('\n'.join(lines) + '\n')
+
+    def now(self):
+        """The closed epoch and the rows that the folder reopens to."""
+        self.say(['SELECT GET_CURRENT_EPOCH();', 'SELECT a, b FROM t;', 'SELECT b FROM t;'] + ['SELECT x FROM t%d;' % i for i in range(self.tables)])
+        status, text = run(self.program, self.place, self.script)
+        assert status in (0, 1), 'the folder opens with status %d' % status
+        lines = text.split('\n')
+        epoch = int(lines[0].split()[1]) - 1
+        end = next(i for i, line in enumerate(lines) if line.endswith('rows)'))
+        pairs = [tuple(line.split('|')) for line in lines[1:end]]
+        after = next(i for i, line in enumerate(lines) if i > end and line.endswith('rows)'))
+        assert sorted(lines[end + 1:after]) == sorted(b for _, b in pairs), 'the projections differ'
+        assert 'ERROR' not in '\n'.join(lines[after:]), 'a table is gone'
+        return epoch, sorted(pairs)
+
+    def rows_to(self, epoch):
+        return sorted(row for e, rows in self.commits.items() if e <= epoch for row in rows)
+
+    def begin(self):
+        self.say(['CREATE TABLE t (a INTEGER, b VARCHAR(8));', 'CREATE PROJECTION by_b (b) AS SELECT b FROM t ORDER BY b;'])
+        status, text = run(self.program, self.place, self.script)
+        assert status == 0, 'it begins with status %d: %s' % (status, text)
+
+    def transactions(self, dice, first, count):
+        """So many transactions from an epoch on, with moveouts and new tables between them: the script and the rows of each epoch."""
+        lines, planned, made = [], {}, self.tables
+        for epoch in range(first, first + count):
+            rows = [(str(dice.randrange(1000)), 'b%d' % dice.randrange(50)) for _ in range(dice.randrange(1, 40))]
+            lines += ['INSERT INTO t VALUES %s;' % ', '.join("(%s, '%s')" % row for row in rows), 'COMMIT;']
+            planned[epoch] = rows
+            what = dice.randrange(4)
+            if what == 0:
+                lines.append("SELECT DO_TM_TASK('moveout');")
+            elif what == 1:
+                lines.append('\\step;')
+            elif what == 2 and made < 20:
+                lines.append('CREATE TABLE t%d (x INTEGER);' % made)
+                made += 1
+            lines.append('SELECT GET_LAST_GOOD_EPOCH();')
+        return lines, planned
+
+    def holds(self, good, last):
+        """The folder reopens to the rows up to one epoch, no earlier than the good one."""
+        epoch, here = self.now()
+        assert good <= epoch <= last, 'epoch %d after the announced %d' % (epoch, good)
+        assert here == self.rows_to(epoch), 'rows of epoch %d aren\'t those of its transactions' % epoch
+
+
+def announced(text):
+    """The last good epochs and the number of tables that whole lines announce; a line that was cut short announces nothing."""
+    told = text.split('\n')[:-1]
+    return [int(line.split()[1]) for line in told if line.startswith('LGE ')], sum(line == 'CREATE TABLE' for line in told)
