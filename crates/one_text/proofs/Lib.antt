@@ -1,6 +1,5 @@
 pub mod OneLoad
 pub mod OneStep
-pub mod Permutes
 pub mod OneQuery
 pub mod Numbered
 pub mod OneScript

@@ -33,44 +33,14 @@ use Rattle.db_model.specs.Refusals.{SumRefuses, query_refusal_in}
 use Rattle.db_model.specs.Refusing.{epoch_refusal}
 use Rattle.db_model.specs.State.{Changes, State, own_changes, pending_deletes, pending_rows}
 use Rattle.db_model.specs.Views.{bound_in, columns_found, inputs, rows_read, source_tables, table_found}
-use Rattle.one_text.proofs.Permutes.{rows_permuted, seen_permuted}
+use Rattle.alike_laws.proofs.Changes.{changes_at, deletes_alike, pending_alike}
+use Rattle.alike_laws.proofs.Permutes.{rows_permuted, seen_permuted}
 use Rattle.one_text.specs.OneText.{QueriesHaveOneCause, QueriesHaveOneText}
 
 abbrev Found : Type 0
 Found = ℕ × Table
 
 -- ---- the changes of a session
-
-pending_alike : (name : List ℕ) (cs es : List Changes) → AllZip AreAlikeChanges cs es → SameBag (pending_rows name cs) (pending_rows name es)
-pending_alike name [] [] alike = bag_refl []
-pending_alike name [] (e ∷ es) alike = absurd alike
-pending_alike name (c ∷ cs) [] alike = absurd alike
-pending_alike name (c ∷ cs) (e ∷ es) (here, more) = by (bytes_eq c.table name) (bytes_eq e.table name) (ap (λ (n : List ℕ). bytes_eq n name) here.table) (pending_alike name cs es more)
-  where
-    by : (b d : Bool) → b ≡ d → SameBag (pending_rows name cs) (pending_rows name es) → SameBag (cond b c.rows (pending_rows name cs)) (cond d e.rows (pending_rows name es))
-    by true true is rest = here.rows
-    by true false is rest = absurd (cc)
-    by false true is rest = absurd (cc)
-    by false false is rest = rest
-
-deletes_alike : (name : List ℕ) (cs es : List Changes) → AllZip AreAlikeChanges cs es → SameBag (pending_deletes name cs) (pending_deletes name es)
-deletes_alike name [] [] alike = bag_refl []
-deletes_alike name [] (e ∷ es) alike = absurd alike
-deletes_alike name (c ∷ cs) [] alike = absurd alike
-deletes_alike name (c ∷ cs) (e ∷ es) (here, more) = by (bytes_eq c.table name) (bytes_eq e.table name) (ap (λ (n : List ℕ). bytes_eq n name) here.table) (deletes_alike name cs es more)
-  where
-    by : (b d : Bool) → b ≡ d → SameBag (pending_deletes name cs) (pending_deletes name es) → SameBag (cond b c.deletes (pending_deletes name cs)) (cond d e.deletes (pending_deletes name es))
-    by true true is rest = here.deletes
-    by true false is rest = absurd (cc)
-    by false true is rest = absurd (cc)
-    by false false is rest = rest
-
-changes_at : (cs es : List (List Changes)) (i : ℕ) → AllZip (AllZip AreAlikeChanges) cs es → AllZip AreAlikeChanges (slice_index_or cs i []) (slice_index_or es i [])
-changes_at [] [] i alike = tt
-changes_at [] (e ∷ es) i alike = absurd alike
-changes_at (c ∷ cs) [] i alike = absurd alike
-changes_at (c ∷ cs) (e ∷ es) zero (here, more) = here
-changes_at (c ∷ cs) (e ∷ es) (suc i) (here, more) = changes_at cs es i more
 
 pub own_alike : (a b : State) → AreAlikeStates a b → AllZip AreAlikeChanges (own_changes a) (own_changes b)
 own_alike a b alike =

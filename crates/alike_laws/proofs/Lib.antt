@@ -1,0 +1,5 @@
+pub mod Changes
+pub mod Permutes
+pub mod Refused
+pub mod Sound
+pub mod Committed
