@@ -7,3 +7,4 @@ pub mod Shaped
 pub mod Unshaped
 pub mod Commits
 pub mod Fits
+mod Loaded

@@ -10,6 +10,7 @@ ghost use Rattle.sql_tree.specs.declared.statement.NewProjection.{NewProjection}
 ghost use Rattle.sql_binding.specs.Inserts.{inserted_rows};
 ghost use Rattle.db_model.specs.Database.{Table, table_named};
 ghost use Rattle.db_model.specs.State.{State};
+ghost use Rattle.db_model.specs.Loading.{Load, Loads};
 ghost use Rattle.db_model.specs.Events.{changes_committed, changes_dropped, is_not_named, projection_created, projection_dropped, rows_pending, table_created, table_dropped};
 ghost use Rattle.db_model.specs.Numbers.{IsDrawn};
 ghost use Rattle.db_model.specs.Refusals.{locked, projection_created_refusal, projection_dropped_refusal, table_created_refusal, table_dropped_refusal};
@@ -45,6 +46,12 @@ pub fn projections_may_be_dropped()
 /// The rows of an INSERT that isn't refused for what they are fit the columns of its table.
 pub fn inserted_rows_fit()
     ensures { (columns : List Column) (i : Insert) → AreStored columns i → All IsRow (inserted_rows i) → All (RowFits columns) (inserted_rows i) }
+{}
+
+/// The rows of a load file fit the columns of its table.
+pub fn loaded_rows_fit()
+    ensures fit { (columns : List Column) (bytes : List ℕ) (rows : List (List Value)) → Loads columns bytes (Load.Rows rows) → All (RowFits columns) rows }
+    ensures rows { (columns : List Column) (bytes : List ℕ) (rows : List (List Value)) → Loads columns bytes (Load.Rows rows) → All IsRow rows }
 {}
 
 /// A state stays sound where rows that fit become pending in a table that no other session holds in mode X.

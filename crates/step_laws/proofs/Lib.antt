@@ -1,0 +1,7 @@
+pub mod Reached
+pub mod Moves
+pub mod Named
+pub mod Inserted
+pub mod Copied
+pub mod Steps
+pub mod Runs
