@@ -23,12 +23,15 @@ use Rattle.sql_binding.specs.Inserts.{insert_refusal, stored_refusal}
 use Rattle.sql_binding.specs.Queries.{bound_query, query_refusal}
 use Rattle.db_model.specs.Database.{Table, Shape, has_columns, is_taken, super_name}
 use Rattle.db_model.specs.State.{State, Changes, has_changes, own_changes, pending_rows}
+use Rattle.db_model.specs.Loading.{Load}
 use Rattle.db_model.specs.Locks.{excludes}
 use Rattle.db_model.specs.Numbers.{spent_refusal}
 use Rattle.db_model.specs.Refusing.{columns_limit, commit_refusal, create_limit, create_refusal, epoch_refusal, if_taken, name_limit, repeated_behind, rows_limit, taken_name}
-use Rattle.db_model.specs.Refusals.{joining_limit, last_super_refusal, locked, owner, projection_created_refusal, projection_dropped_refusal, projection_refusal_over, query_refusal_in, rows_deleted_refusal, rows_inserted_refusal, table_created_refusal, table_dropped_refusal, unknown_table_refusal}
+use Rattle.db_model.specs.Refusals.{joining_limit, last_super_refusal, load_refusal, locked, owner, projection_created_refusal, projection_dropped_refusal, projection_refusal_over, query_refusal_in, rows_deleted_refusal, rows_inserted_refusal, table_created_refusal, table_dropped_refusal, unknown_table_refusal}
 use Rattle.db_model.specs.Views.{bound_in, columns_found, table_found}
+use Rattle.alike_laws.proofs.Refused.{commit_alike, joining_alike, load_alike, locked_alike}
 use Rattle.statement_plan.specs.Bare.{IsBare, IsBareTable}
+use Rattle.statement_plan.specs.Places.{columns_at}
 use Rattle.statement_plan.specs.Planned.{early_refusal, select_refusal}
 
 abbrev pub pair : ℕ × Table → ℕ × List Column
@@ -57,6 +60,9 @@ pair_found tables name = option_map pair (table_found name tables)
 
 pub found_same : (name : List ℕ) (bs ts : List Table) → AllZip IsBareTable bs ts → pair_found bs name ≡ pair_found ts name
 found_same name bs ts z = found_from name 0 bs ts z
+
+pub columns_of_name : (bare state : State) (name : List ℕ) → IsBare bare state → columns_at name bare.database.tables ≡ columns_at name state.database.tables
+columns_of_name bare state name is = found_same name bare.database.tables state.database.tables is.tables
 
 -- what is said of a table that was found, by its place and its columns
 columns_by : (o : Option (ℕ × Table)) → option_map (λ (e : ℕ × Table). e.1.columns) o ≡ option_map (λ (p : ℕ × List Column). p.1) (option_map pair o)
@@ -126,18 +132,11 @@ taken_same name (b ∷ bs) (t ∷ ts) z =
 spent_same : (bare state : State) → IsBare bare state → spent_refusal bare ≡ spent_refusal state
 spent_same bare state is = ap (λ (n : ℕ). refused_where (nat_le 1152921504606846976 n) Refusal.NumbersSpent) is.next
 
-own_same : (bare state : State) → IsBare bare state → own_changes bare ≡ own_changes state
-own_same bare state is = ap₂ (λ (sessions : List (List Changes)) (current : ℕ). slice_index_or sessions (current - 1) []) is.sessions is.current
-
-locked_same : (bare state : State) (name : List ℕ) (want : Bool) → IsBare bare state → locked bare name want ≡ locked state name want
-locked_same bare state name want is =
-    ap₂ (λ (sessions : List (List Changes)) (current : ℕ).
-    option_map Refusal.Locked (option_map (λ (e : ℕ × List Changes). e.0)
-    (find (λ (e : ℕ × List Changes). not (e.0 == current) && excludes name want e.1) (enumerate_from 1 sessions))))
-    is.sessions is.current
+pub locked_same : (bare state : State) (name : List ℕ) (want : Bool) → IsBare bare state → locked bare name want ≡ locked state name want
+locked_same bare state name want is = locked_alike bare state name want is.sessions is.current
 
 joining_same : (bare state : State) (name : List ℕ) (more : ℕ) → IsBare bare state → joining_limit bare name more ≡ joining_limit state name more
-joining_same bare state name more is = ap (λ (changes : List Changes). rows_limit (length (pending_rows name changes) + more)) (own_same bare state is)
+joining_same bare state name more is = joining_alike bare state name more is.sessions is.current
 
 if_taken_same : (name : List ℕ) (bs ts : List Table) → AllZip IsBareTable bs ts → if_taken bs name ≡ if_taken ts name
 if_taken_same name bs ts z = ap (λ (b : Bool). cond b (Some name) None) (taken_same name bs ts z)
@@ -174,10 +173,15 @@ inserted_same bare state i is =
     (ap₂ (λ (l : Option Refusal) (o : Option (List Column)). first_of l (option_and_then (λ (cs : List Column). stored_refusal cs i) o))
     (locked_same bare state i.table false is) columns))
 
+-- why the rows of a load file can't be committed
+pub loaded_same : (bare state : State) (name : List ℕ) (load : Load) → IsBare bare state → load_refusal bare name load ≡ load_refusal state name load
+loaded_same bare state name (Load.Wrong line field) is = refl
+loaded_same bare state name (Load.Rows rows) is =
+    ap₂ (λ (o p : Option Refusal). first_of o p) (joining_same bare state name (length rows) is)
+    (ap₂ (λ (o p : Option Refusal). first_of o p) (locked_same bare state name false is) (load_alike bare state name rows is.sessions is.current is.last))
+
 committed_same : (bare state : State) → IsBare bare state → commit_refusal bare ≡ commit_refusal state
-committed_same bare state is =
-    ap₂ (λ (changes : List Changes) (last : ℕ). refused_where (has_changes changes && nat_le 9223372036854775807 last) Refusal.EpochsSpent)
-    (own_same bare state is) is.last
+committed_same bare state is = commit_alike bare state is.sessions is.current is.last
 
 queried_same : (bare state : State) (q : Query) → IsBare bare state → query_refusal_in bare q ≡ query_refusal_in state q
 queried_same bare state q is =

@@ -8,3 +8,4 @@ mod Alike
 mod Early
 mod Carried
 mod Standing
+pub mod Filled

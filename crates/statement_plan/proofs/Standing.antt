@@ -8,6 +8,7 @@ use Rattle.stored_rows.specs.Stored.{Projected}
 use Rattle.db_model.specs.Database.{Table}
 use Rattle.db_model.specs.State.{State}
 use Rattle.folder_model.specs.Tables.{AreDatabase, StandForTables, StandsForTable}
+use Rattle.alike_laws.proofs.Changes.{sessions_themselves}
 use Rattle.statement_plan.specs.Bare.{bare_state, bare_table, IsBare, IsBareTable}
 
 one_bare : (m : Contents) (mark : ℕ) (t : kept.Table) (ps : List Projected) (u : Table) → StandsForTable m mark t ps u → IsBareTable (bare_table t) u
@@ -28,7 +29,7 @@ frame_of m c stores state are = record {
   tables = all_bare m c.ahm c.tables stores state.database.tables are.tables;
   last = sym are.last;
   mark = sym are.ahm;
-  sessions = refl;
+  sessions = sessions_themselves state.sessions;
   current = refl;
   next = refl;
 }

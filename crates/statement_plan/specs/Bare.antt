@@ -5,6 +5,7 @@ use Rattle.catalog_types.specs.declared.catalogue.Table as kept
 use Rattle.db_model.specs.Database.{Table}
 use Rattle.db_model.specs.State.{State, Changes}
 use Rattle.folder_model.specs.Projections.{shape_of}
+use Rattle.alike_laws.specs.Reordered.{AreAlikeSessions}
 
 -- a table of the catalogue as one that has no rows
 abbrev pub bare_table : kept.Table → Table
@@ -29,11 +30,11 @@ pub record IsBareTable (bare t : Table) : Type 0 where
   pub columns : bare.columns ≡ t.columns
   pub shapes : bare.shapes ≡ t.shapes
 
--- the state is the other one without its rows
+-- the state is the other one without its rows, and knows what its sessions have changed up to the order of rows
 pub record IsBare (bare state : State) : Type 0 where
   pub tables : AllZip IsBareTable bare.database.tables state.database.tables
   pub last : bare.database.last ≡ state.database.last
   pub mark : bare.database.ahm ≡ state.database.ahm
-  pub sessions : bare.sessions ≡ state.sessions
+  pub sessions : AreAlikeSessions bare.sessions state.sessions
   pub current : bare.current ≡ state.current
   pub next : bare.next ≡ state.next

@@ -4,6 +4,7 @@ use Rattle.std.specs.List.{All, list_any, enumerate_from}
 use Rattle.sql_tree.specs.declared.statement.Delete.{Delete}
 use Rattle.sql_tree.specs.declared.statement.NewProjection.{NewProjection}
 use Rattle.sql_tree.specs.declared.statement.Update.{Update}
+use Rattle.col_value.specs.declared.column.Column.{Column}
 use Rattle.col_value.specs.declared.kinds.Encoding.{Encoding}
 use Rattle.sql_bound.specs.declared.query.Assigned.{Assigned}
 use Rattle.sql_bound.specs.declared.query.BoundQuery.{BoundQuery}
@@ -21,6 +22,10 @@ use Rattle.db_model.specs.Views.{table_found}
 -- the place of the table of a name
 abbrev pub table_place : List ℕ → List Table → Option ℕ
 table_place name tables = option_map (λ e. e.0) (table_found name tables)
+
+-- the columns of the table of a name, with its place
+abbrev pub columns_at : List ℕ → List Table → Option (ℕ × List Column)
+columns_at name tables = option_map (λ e. (e.0, e.1.columns)) (table_found name tables)
 
 -- a projection of the table is called so
 unfoldable pub has_projection : List ℕ → Table → Bool

@@ -1,19 +1,23 @@
 //! What refusals look at.
 
-ghost use Rattle.std.specs.Prelude.{◌≡◌, ◌≤◌, ◌||◌, bytes_eq, length, map, option_map};
+ghost use Rattle.std.specs.Prelude.{◌≡◌, ◌≤◌, ◌&&◌, ◌||◌, bytes_eq, length, map, nat_le, not, option_map};
 ghost use Rattle.std.specs.List.{list_any};
 ghost use Rattle.db_model.specs.Database.{is_taken};
-ghost use Rattle.db_model.specs.State.{pending_rows};
+ghost use Rattle.db_model.specs.Events.{rows_pending};
+ghost use Rattle.db_model.specs.State.{has_changes, is_empty, pending_rows};
 ghost use Rattle.db_model.specs.Numbers.{spent_refusal};
 ghost use Rattle.db_model.specs.Refusing.{commit_refusal, epoch_refusal};
 ghost use Rattle.db_model.specs.Refusals.{joining_limit, locked};
 ghost use Rattle.db_model.specs.Views.{table_found};
 ghost use Rattle.folder_model.specs.Projections.{shape_of};
+ghost use Rattle.sql_binding.specs.Firsts.{refused_where};
+ghost use Rattle.sql_tree.specs.declared.refusal.Refusal.{Refusal};
 ghost use Rattle.statement_plan.specs.Bare.{bare_state, bare_table};
 ghost use Rattle.statement_plan.specs.Places.{owner_found};
 
 use crate::placed::{Placed, is_projection, owner_of, same, table_named};
 use catalog_types::Table;
+use col_value::Row;
 use name_binder::Found;
 use sql_tree::{At, Refusal, Which};
 use std::marker::Model;
@@ -26,7 +30,7 @@ const SPENT: u64 = 1 << 60;
 const MOST_EPOCHS: u64 = 9_223_372_036_854_775_807;
 
 // The most rows that a session may have pending in a table.
-const MOST_ROWS: usize = 16_777_216;
+pub(crate) const MOST_ROWS: usize = 16_777_216;
 
 /// The tables of a catalogue, the newest closed epoch, the ancient history mark, the next number, what the sessions have changed and
 /// which one is current, from 1 to 8.
@@ -80,6 +84,24 @@ fn waiting(session: &Session, name: &[u8]) -> usize
         }
     }
     0
+}
+
+/// Whether a session with these rows more has something to commit.
+fn has_some(session: &Session, rows: &[Row]) -> bool
+    ensures { result ≡ (not (is_empty rows.now) || has_changes session.now) }
+{
+    !rows.is_empty() || session.has_changes()
+}
+
+/// Where there is something to commit and the greatest epoch is closed, the refusal.
+fn closing(changes: bool, last: u64) -> Option<Refusal>
+    ensures { result ≡ refused_where (changes && nat_le 9223372036854775807 last) Refusal.EpochsSpent }
+{
+    if changes && last >= MOST_EPOCHS {
+        Some(Refusal::EpochsSpent)
+    } else {
+        None
+    }
 }
 
 impl<'a> Frame<'a> {
@@ -181,11 +203,15 @@ impl<'a> Frame<'a> {
     pub(crate) fn committing(&self) -> Option<Refusal>
         ensures { result ≡ commit_refusal self.now }
     {
-        if self.txns.session(self.current).has_changes() && self.last >= MOST_EPOCHS {
-            Some(Refusal::EpochsSpent)
-        } else {
-            None
-        }
+        closing(self.txns.session(self.current).has_changes(), self.last)
+    }
+
+    /// Where the current session, with these rows more pending, has something to commit and the greatest epoch is closed, the refusal.
+    pub(crate) fn loading(&self, name: &[u8], rows: &[Row]) -> Option<Refusal>
+        ensures { length self.now.sessions ≡ 8 → result ≡ commit_refusal (rows_pending name.now rows.now self.now) }
+    {
+        let _ = name;
+        closing(has_some(self.txns.session(self.current), rows), self.last)
     }
 
     /// Why an epoch can't be read: it lies before the ancient history mark, or in the future.

@@ -4,7 +4,8 @@
 //! names, columns and projections, at the epochs, the next number and what the sessions have changed. `make_plan` gives what the statement
 //! does, or the refusal (`IsPlanned`, `early_refusal` of `specs/Planned.antt`); `rows_decide_nothing_here` says that it is that of each
 //! state of which this is the frame, as a catalogue's is by `catalogues_give_frames`; and `early_refusals_stand` that db_model refuses the
-//! statement for it.
+//! statement for it. `load_refusal` is what is looked at where a load file
+//! was read, and `change_refusal` where the rows of an UPDATE were found.
 #![tactic(auto)]
 
 mod changing;
@@ -13,6 +14,7 @@ mod dropping;
 mod frame;
 mod inserting;
 mod laws;
+mod loading;
 mod placed;
 mod planning;
 mod plans;
@@ -20,7 +22,10 @@ mod projecting;
 mod querying;
 mod refusing;
 
+pub use changing::change_refusal;
+pub use dropping::known_table;
 pub use frame::Frame;
 pub use laws::{catalogues_give_frames, early_refusals_stand, rows_decide_nothing_here};
+pub use loading::load_refusal;
 pub use planning::make_plan;
 pub use plans::Plan;

@@ -12,7 +12,8 @@ mod words;
 
 pub use explaining::explain;
 pub use lines::{
-    commit_text, deleted_text, epoch_text, insert_text, lge_text, mark_text, updated_text,
+    commit_text, copy_text, deleted_text, epoch_text, insert_text, lge_text, mark_text,
+    updated_text,
 };
 pub use printing::listing;
 pub use words::{

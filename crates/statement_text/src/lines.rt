@@ -1,6 +1,7 @@
 //! Texts of a word and a number.
 
-ghost use Rattle.std.specs.Prelude.{◌≡◌, ◌+◌, if◌then◌else◌, codes, IfOk};
+ghost use Rattle.std.specs.Prelude.{◌≡◌, ◌+◌, ◌++◌, if◌then◌else◌, codes, IfOk};
+ghost use Rattle.std.specs.Fmt.{decimal};
 ghost use Rattle.db_model.specs.Answers.{commit_line, epoch_line, insert_line};
 ghost use Rattle.db_model.specs.Printing.{counted_line};
 
@@ -73,4 +74,37 @@ pub fn updated_text(alloc: Global, count: usize) -> Result<Vec<u8>, AllocError>
 {
     let line = format!(in alloc; "UPDATE {count}\n")?;
     Vec::from_slice(alloc, line.as_bytes())
+}
+
+/// `COPY n`
+fn loaded_text(alloc: Global, loaded: usize) -> Result<Vec<u8>, AllocError>
+    ensures { IfOk result (λ v. v.items ≡ codes "COPY " ++ (decimal loaded ++ codes "\n")) }
+{
+    let line = format!(in alloc; "COPY {loaded}\n")?;
+    Vec::from_slice(alloc, line.as_bytes())
+}
+
+/// `COPY n EPOCH e`, for the epoch behind the last one
+fn loaded_epoch_text(alloc: Global, loaded: usize, last: u64) -> Result<Vec<u8>, AllocError>
+    ensures { IfOk result (λ v. v.items ≡ codes "COPY " ++ (decimal loaded ++ (codes " EPOCH " ++ (decimal (last + 1) ++ codes "\n")))) }
+{
+    let epoch = u128::from(last) + 1;
+    let line = format!(in alloc; "COPY {loaded} EPOCH {epoch}\n")?;
+    Vec::from_slice(alloc, line.as_bytes())
+}
+
+/// What a COPY of so many rows prints: the epoch behind the last one, if its commit closes that, and else their number alone.
+pub fn copy_text(
+    alloc: Global,
+    loaded: usize,
+    commits: bool,
+    last: u64,
+) -> Result<Vec<u8>, AllocError>
+    ensures { IfOk result (λ v. v.items ≡ codes "COPY " ++ (decimal loaded ++ (if commits then codes " EPOCH " ++ (decimal (last + 1) ++ codes "\n") else codes "\n"))) }
+{
+    if commits {
+        loaded_epoch_text(alloc, loaded, last)
+    } else {
+        loaded_text(alloc, loaded)
+    }
 }
