@@ -3,3 +3,4 @@ pub mod Leaves
 pub mod Walked
 pub mod Scopes
 pub mod Taken
+pub mod Bars

@@ -14,9 +14,8 @@ use Rattle.sql_bound.specs.declared.query.BoundQuery.{BoundQuery}
 use Rattle.sql_bound.specs.Bounds.{column_bound}
 use Rattle.sql_bound.specs.Outputs.{aggregate_over, group_keys, group_scope, group_scopes, keys_of, kept, members, output, same_keys}
 use Rattle.sql_bound.specs.Values.{Scope, of_row}
-use Rattle.query_order.specs.Enough.{AreFew, IsEnough}
-use Rattle.query_order.proofs.Enough.{enough_more}
-use Rattle.query_run.specs.Outputs.{HoldsOutput, IsAdded, items_in, scope_of, scopes_of, shown}
+use Rattle.query_order.specs.Enough.{IsEnough}
+use Rattle.query_run.specs.Outputs.{HoldsOutput, items_in, scope_of, scopes_of, shown}
 use Rattle.query_run.specs.declared.collected.Collected.{Collected}
 
 pub next_scope : (keys : List (List Value)) (aggs : List (List Wide)) (i : ℕ) (k : List Value) (a : List Wide) → i < length keys → k ≡ get_or keys i k → i < length aggs → a ≡ get_or aggs i a
@@ -61,17 +60,6 @@ groups_behind q keys aggs i k a h is g are fit =
 
 pub held_few : (q : BoundQuery) (rows : List (List Value)) (c : Collected) → HoldsOutput q rows c → length rows ≤ column_bound
 held_few q rows c held = subst (λ (n : ℕ). n ≤ column_bound) held.taken held.few
-
--- a row more, and the rows cut back behind it
-pub row_added : (q : BoundQuery) (order : List (ℕ × Bool)) (row : List Wide) (old all new : List (List Wide)) → order ≡ q.order → all ≡ old ++ row ∷ []
-    → ((l : List (List Wide)) → IsEnough order q.limit l all → IsEnough order q.limit l new) → AreFew q.limit new → IsAdded q row old new
-row_added q order row old all new own is enough few = record {
-  enough = λ l before.
-      subst (λ (o : List (ℕ × Bool)). IsEnough o q.limit (l ++ row ∷ []) new) own
-      (enough (l ++ row ∷ []) (subst (λ (o : List (ℕ × Bool)). IsEnough o q.limit (l ++ row ∷ []) all) (sym own)
-      (subst (IsEnough q.order q.limit (l ++ row ∷ [])) (sym is) (enough_more q.order q.limit l old (row ∷ []) before))));
-  few = few;
-}
 
 made_scopes : {X : Type 0} (keys : X → List Value) (aggs : X → List Wide) (xs : List X) → scopes_of (map keys xs) (map aggs xs) ≡ map (λ x. scope_of (keys x) (aggs x)) xs
 made_scopes keys aggs [] = refl

@@ -1,12 +1,13 @@
 -- What is collected of the tuples that are kept.
-use Rattle.std.specs.Prelude.{◌≡◌, ◌≤◌, ◌++◌, true, false, List, [], ◌∷◌, filter, length, map}
+use Rattle.std.specs.Prelude.{◌≡◌, ℕ, ◌≤◌, ◌++◌, Bool, true, false, List, [], ◌∷◌, filter, length, map, Option, Some, None}
 use Rattle.std.specs.List.{All}
+use Rattle.std.specs.Option.{IfSome}
 use Rattle.col_value.specs.Order.{IsRow}
 use Rattle.col_value.specs.declared.value.Value.{Value}
 use Rattle.col_value.specs.declared.wide.Wide.{Wide}
 use Rattle.exec_group.specs.Groups.{HoldsGroups}
 use Rattle.plain_query.specs.Scopes.{is_shown}
-use Rattle.query_order.specs.Enough.{IsEnough, AreFew}
+use Rattle.query_order.specs.Enough.{count_up_to, IsEnough, AreFew}
 use Rattle.sql_bound.specs.declared.query.BoundQuery.{BoundQuery}
 use Rattle.sql_bound.specs.Bounds.{column_bound}
 use Rattle.sql_bound.specs.Outputs.{kept}
@@ -17,6 +18,11 @@ use Rattle.query_run.specs.declared.collected.Collected.{Collected}
 abbrev pub items_in : BoundQuery → Scope → List Wide
 items_in q s = map (value_of s) q.items
 
+-- as many of the rows as are printed stand before this one or beside it
+abbrev pub IsBar : List (ℕ × Bool) → Option ℕ → List (List Wide) → List Wide → Type 0
+IsBar order None rows bar = ⊥
+IsBar order (Some n) rows bar = n ≤ count_up_to order bar rows
+
 -- Output rows of some tuples, enough for what is printed of all and few where there is a limit, or else the groups of the tuples; and how
 -- many tuples there are.
 pub record HoldsOutput (q : BoundQuery) (tuples : List (List Value)) (c : Collected) : Type 0 where
@@ -24,12 +30,14 @@ pub record HoldsOutput (q : BoundQuery) (tuples : List (List Value)) (c : Collec
   pub few : c.taken ≤ column_bound
   pub rows : q.grouped ≡ false → IsEnough q.order q.limit (map (items_in q) (map of_row tuples)) c.rows.items
   pub cut : AreFew q.limit c.rows.items
+  pub bar : IfSome c.bar (IsBar q.order q.limit c.rows.items)
   pub groups : q.grouped ≡ true → HoldsGroups q tuples c.groups
 
--- rows that were enough are enough with an output row more, and few
-pub record IsAdded (q : BoundQuery) (row : List Wide) (old new : List (List Wide)) : Type 0 where
+-- rows that were enough are enough with an output row more, and few; what was the bar is it, or another row
+pub record IsAdded (q : BoundQuery) (row : List Wide) (old new : List (List Wide)) (bar next : Option (List Wide)) : Type 0 where
   pub enough : (all : List (List Wide)) → IsEnough q.order q.limit all old → IsEnough q.order q.limit (all ++ row ∷ []) new
   pub few : AreFew q.limit new
+  pub barred : IfSome bar (IsBar q.order q.limit old) → IfSome next (IsBar q.order q.limit new)
 
 -- what is collected of the tuples that the conditions keep, where the FROM items have these rows of tables
 pub record HasCollected (q : BoundQuery) (inputs : List (List (List Value))) (c : Collected) : Type 0 where

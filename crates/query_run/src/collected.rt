@@ -1,25 +1,29 @@
 //! What is collected of the tuples of a query.
 
-ghost use Rattle.std.specs.Prelude.{◌++◌, ◌∷◌, List, [], OnOk, IfOk};
+ghost use Rattle.std.specs.Prelude.{◌≡◌, ◌++◌, ◌∷◌, false, List, [], OnOk, IfOk};
 ghost use Rattle.col_value.specs.Order.{IsRow};
 ghost use Rattle.col_value.specs.declared.value.Value.{Value};
 ghost use Rattle.plain_query.specs.Bounded.{IsBoundedQuery};
+ghost use Rattle.query_order.specs.Enough.{AreFew};
 ghost use Rattle.query_run.specs.Outputs.{HoldsOutput, IsAdded};
 
+use crate::bar::{bar_of, is_barred};
 use col_value::{Value, WideRow};
 use exec_group::Groups;
 use expr_value::items_of;
-use query_order::cut_back;
+use query_order::order_rows;
 use sql_bound::BoundQuery;
 use std::alloc::{AllocError, Global};
 
 /// The most rows that a count counts, 2^63 - 1.
 const MOST: u64 = 9223372036854775807;
 
-/// Output rows of a query without groups, those that can still be printed, or else its groups, and of how many tuples.
+/// Output rows of a query without groups, those that can still be printed, with a bar behind which none can, or else its groups, and of
+/// how many tuples.
 #[derive(Drop)]
 pub struct Collected {
     pub rows: Vec<WideRow>,
+    pub bar: Option<WideRow>,
     pub groups: Groups,
     pub taken: u64,
 }
@@ -31,6 +35,7 @@ impl Collected {
     {
         Ok(Collected {
             rows: Vec::new(alloc),
+            bar: None,
             groups: Groups::new(alloc, query)?,
             taken: 0,
         })
@@ -54,22 +59,42 @@ impl Collected {
         if query.grouped {
             return self.groups.push(alloc, query, tuple);
         }
+        if is_barred(query, &self.bar, tuple) {
+            return Ok(());
+        }
         let row = items_of(alloc, query.items.as_slice(), tuple)?;
-        add_row(alloc, &mut self.rows, query, row)
+        add_row(alloc, &mut self.rows, &mut self.bar, query, row)
     }
 }
 
-/// A row joins the others. Where the query has a limit, they are cut back once they are many more.
+/// Whether rows are so many more than are printed that a sort of them pays.
+fn are_many(rows: &[WideRow], limit: Option<u128>) -> bool
+    ensures { result ≡ false → AreFew limit rows.now }
+{
+    match limit {
+        Some(count) => rows.len() as u128 >= count.saturating_mul(2).saturating_add(4096),
+        None => false,
+    }
+}
+
+/// A row joins the others. Where the query has a limit, they are cut back once they are many more, and the last of them is the bar.
 fn add_row(
     alloc: Global,
     rows: &mut Vec<WideRow>,
+    bar: &mut Option<WideRow>,
     query: &BoundQuery,
     row: WideRow,
 ) -> Result<(), AllocError>
-    ensures { OnOk result (IsAdded query.now row rows.old.items rows.new.items) }
+    ensures { OnOk result (IsAdded query.now row rows.old.items rows.new.items bar.old bar.new) }
 {
     let mut all = std::mem::replace(rows, Vec::new(alloc));
     all.push(row)?;
-    *rows = cut_back(all, query.order.as_slice(), query.limit)?;
+    if !are_many(all.as_slice(), query.limit) {
+        *rows = all;
+        return Ok(());
+    }
+    let first = order_rows(all, query.order.as_slice(), query.limit)?;
+    *bar = bar_of(alloc, query, first.as_slice())?;
+    *rows = first;
     Ok(())
 }

@@ -2,12 +2,13 @@
 //!
 //! `printed` gives what `sql_bound` defines a query to print. The rows of each FROM item behind the first stand in a table under the
 //! columns that a condition equates with columns of the items before it, so that only rows that can join are put together; each
-//! tuple that is kept goes at once to its group, or becomes an output row, of which few more are held than a LIMIT asks for. The promise
-//! is that of `plain_query`, with its words.
+//! tuple that is kept goes at once to its group, or becomes an output row, of which few more are held than a LIMIT asks for; one that stands
+//! behind as many by the keys of ORDER BY isn't even made. The promise is that of `plain_query`, with its words.
 //! A `Run` is the same where the rows of the first FROM item come one by one, and are not held: `HasTaken` in `specs/Runs.antt` says
 //! what came.
 #![tactic(auto)]
 
+mod bar;
 mod collected;
 mod equated;
 mod output;

@@ -3,6 +3,7 @@ use Rattle.std.proofs.Common.{◌≡◌, ℕ, ◌+◌, ◌++◌, List, [], ◌�
 use Rattle.std.specs.Prelude.{IsSomeAnd}
 use Rattle.std.specs.List.{All, AllZip, slice_get}
 use Rattle.std.specs.Option.{option_map_or}
+use Rattle.std.proofs.lemmas.List.{nil_from_length}
 use Rattle.std.proofs.lemmas.List.Elements.{All-cons, All-nil}
 use Rattle.common_laws.specs.Bags.{SameBag}
 use Rattle.common_laws.specs.Maps.{Contents}
@@ -25,14 +26,22 @@ use Rattle.store_commit.specs.Seen.{Seen}
 use Rattle.exec_scan.specs.Scanning as scan
 use Rattle.query_cover.specs.Seen.{AreSeen, AreSeenFrom, placed}
 use Rattle.query_cover.proofs.Placed.{shows_same}
-use Rattle.store_query.specs.Lessening.{cleared, deletes_of, HasChanges, IsLess}
+use Rattle.query_run.specs.Runs.{HasTaken}
+use Rattle.query_run.specs.declared.run.Run.{Run}
+use Rattle.wanted_rows.specs.Wanted.{tally}
+use Rattle.store_query.specs.Feeding.{HasRead, TakesItem, TakesLess, TakesRows}
+use Rattle.store_query.specs.Lessening.{asked, cleared, deletes_of, HasChanges, IsLess}
 use Rattle.store_query.specs.Placing.{ArePlacesOf}
 use Rattle.store_query.specs.Faults.{of_store, IsUnblamed}
 use Rattle.store_query.specs.Reading.{epoch_of, item_rows, pending_of, rows_of, source_rows, AreOver, CanRead, IsOver, IsRead, IsSeen}
 use Rattle.store_query.specs.Taking.{IsTaken}
+use Rattle.store_query.proofs.Fed.{gone_counted}
 use Rattle.store_query.proofs.Putting.{places_cover}
 use Rattle.store_query.proofs.Seeing.{changed_seen, fitting, gone_in, gone_is, mark_before, pending_in, pending_is, rows_asked, rows_split}
-use Rattle.store_query.proofs.Served.{taken_serves}
+use Rattle.store_query.proofs.Served.{taken_serves, Serves}
+
+abbrev no_rows : List (List Value)
+no_rows = []
 
 -- ---- a FROM item
 
@@ -42,11 +51,13 @@ pub record AreRows (s : Seen) (changes : List Changes) (at : At) (f : FromItem) 
   pub found : (rows : List Stamped) → Stores m p rows → scanned ≡ map (placed places) (visible epoch rows)
   pub changed : HasChanges (map (λ a. cleared places a.row) (deletes_of at s.catalogue.tables changes f)) (pending_of at s.catalogue.tables changes f) scanned out
 
-read_over : (m : Contents) (s : Seen) (changes : List Changes) (at : At) (q : BoundQuery) (f : FromItem) (d : Database) (p : Projected) (epoch : ℕ) (places : List (Option ℕ)) (out : List (List Value)) (t : Table)
-    → IsTaken s q f p → IsRead m s changes at d → ArePlacesOf q f.first f.columns (ordinals p.entry) places → epoch ≡ epoch_of at s.catalogue.last → AreRows s changes at f m p epoch places out
-    → slice_get d.tables f.table ≡ Some t → f.columns ≡ length t.columns → AreSeen q f.first f.columns out (rows_of at d changes t)
-read_over m s changes at q f d p epoch places out t taken read are epoch_is rows is wide =
-    let serves = taken_serves m s q f d t p taken read.are is in
+-- so are these rows for the query, whatever the projection stores
+over_seen : (m : Contents) (s : Seen) (changes : List Changes) (at : At) (q : BoundQuery) (f : FromItem) (d : Database) (p : Projected) (epoch : ℕ) (places : List (Option ℕ)) (out : List (List Value)) (t : Table) (taken : IsTaken s q f p)
+    → IsRead m s changes at d → ArePlacesOf q f.first f.columns (ordinals p.entry) places → epoch ≡ epoch_of at s.catalogue.last → slice_get d.tables f.table ≡ Some t → f.columns ≡ length t.columns
+    → (serves : Serves m q f d taken.table t p)
+    → HasChanges (map (λ a. cleared places a.row) (deletes_of at s.catalogue.tables changes f)) (pending_of at s.catalogue.tables changes f) (map (placed places) (visible epoch serves.history.stored)) out
+    → AreSeen q f.first f.columns out (rows_of at d changes t)
+over_seen m s changes at q f d p epoch places out t taken read are epoch_is is wide serves (less, lessens, out_is) =
     let e = epoch_of at d.last in
     let fits = fitting d at changes t f.table f.columns read.sound read.session is wide in
     let stored = serves.history.stored in
@@ -56,18 +67,25 @@ read_over m s changes at q f d p epoch places out t taken read are epoch_is rows
     let at_epoch : epoch ≡ e = epoch_is ∙ ap (λ (n : ℕ). epoch_of at n) (sym read.are.last) in
     let bag : SameBag shown (map (λ row. projected row (ordinals p.entry)) (visible e t.rows)) =
     shows_same (ordinals p.entry) d.ahm e stored t.rows (mark_before at d read.sound read.epoch) serves.history.history in
-    let scan_is : rows.scanned ≡ map (placed places) shown = rows.found stored serves.history.are ∙ ap (λ (n : ℕ). map (placed places) (visible n stored)) at_epoch in
     let gone : deletes_of at s.catalogue.tables changes f ≡ deletes = gone_is at s.catalogue.tables changes f taken.table t taken.there serves.name in
     let behind : pending_of at s.catalogue.tables changes f ≡ more = pending_is at s.catalogue.tables changes f taken.table t taken.there serves.name in
-    let less = rows.changed.0 in
     let lessened : IsLess (map (λ a. cleared places a.row) deletes) (map (placed places) shown) less =
-    subst (λ (xs : List (List Value)). IsLess (map (λ a. cleared places a.row) deletes) xs less) scan_is
-    (subst (λ (ds : List Asked). IsLess (map (λ a. cleared places a.row) ds) rows.scanned less) gone rows.changed.1) in
+    subst (λ (n : ℕ). IsLess (map (λ a. cleared places a.row) deletes) (map (placed places) (visible n stored)) less) at_epoch
+    (subst (λ (ds : List Asked). IsLess (map (λ a. cleared places a.row) ds) (map (placed places) (visible epoch stored)) less) gone lessens) in
     let seen : AreSeen q f.first f.columns (less ++ more) (without (rows_asked deletes) (visible e t.rows) ++ more) =
     changed_seen q f.first f.columns (ordinals p.entry) places deletes shown (visible e t.rows) fits.live.0 less more (places_cover q f p.entry places serves.covers are) fits.wide fits.pending bag fits.live.1 lessened in
-    let all : out ≡ less ++ more = rows.changed.2 ∙ ap (λ (xs : List (List Value)). less ++ xs) behind in
+    let all : out ≡ less ++ more = out_is ∙ ap (λ (xs : List (List Value)). less ++ xs) behind in
     subst (λ (xs : List (List Value)). AreSeen q f.first f.columns xs (rows_of at d changes t)) (sym all)
     (subst (AreSeen q f.first f.columns (less ++ more)) (sym (rows_split at d changes t read.epoch)) seen)
+
+read_over : (m : Contents) (s : Seen) (changes : List Changes) (at : At) (q : BoundQuery) (f : FromItem) (d : Database) (p : Projected) (epoch : ℕ) (places : List (Option ℕ)) (out : List (List Value)) (t : Table)
+    → IsTaken s q f p → IsRead m s changes at d → ArePlacesOf q f.first f.columns (ordinals p.entry) places → epoch ≡ epoch_of at s.catalogue.last → AreRows s changes at f m p epoch places out
+    → slice_get d.tables f.table ≡ Some t → f.columns ≡ length t.columns → AreSeen q f.first f.columns out (rows_of at d changes t)
+read_over m s changes at q f d p epoch places out t taken read are epoch_is rows is wide =
+    let serves = taken_serves m s q f d t p taken read.are is in
+    over_seen m s changes at q f d p epoch places out t taken read are epoch_is is wide serves
+    (subst (λ (xs : List (List Value)). HasChanges (map (λ a. cleared places a.row) (deletes_of at s.catalogue.tables changes f)) (pending_of at s.catalogue.tables changes f) xs out) (rows.found serves.history.stored serves.history.are)
+    rows.changed)
 
 pub item_seen : (m : Contents) (s : Seen) (changes : List Changes) (at : At) (q : BoundQuery) (f : FromItem) (d : Database) (p : Projected) (epoch : ℕ) (places : List (Option ℕ)) (out : List (List Value))
     → IsTaken s q f p → IsRead m s changes at d → ArePlacesOf q f.first f.columns (ordinals p.entry) places → epoch ≡ epoch_of at s.catalogue.last → AreRows s changes at f m p epoch places out → IsSeen at changes q d f out
@@ -76,6 +94,41 @@ item_seen m s changes at q f d p epoch places out taken read are epoch_is rows =
     by : (o : Option Table) → slice_get d.tables f.table ≡ o → IsSomeAnd o (λ t. f.columns ≡ length t.columns) → AreSeen q f.first f.columns out (option_map_or (rows_of at d changes) o [])
     by None is none = absurd none
     by (Some t) is wide = read_over m s changes at q f d p epoch places out t taken read are epoch_is rows is wide
+
+table_at : (d : Database) (f : FromItem) → IsOver d.tables f → (t : Table) × (slice_get d.tables f.table ≡ Some t) × (f.columns ≡ length t.columns)
+table_at d f over = by (slice_get d.tables f.table) refl over
+  where
+    by : (o : Option Table) → slice_get d.tables f.table ≡ o → IsSomeAnd o (λ t. f.columns ≡ length t.columns) → (t : Table) × (slice_get d.tables f.table ≡ Some t) × (f.columns ≡ length t.columns)
+    by None is none = absurd none
+    by (Some t) is wide = (t, is, wide)
+
+-- so it is where the rows go to a run of the query
+pub item_taken : (m : Contents) (s : Seen) (changes : List Changes) (at : At) (q : BoundQuery) (f : FromItem) (d : Database) (p : Projected) (epoch : ℕ) (places : List (Option ℕ)) (first : Asked → ℕ) (old mid new : Run) → IsTaken s q f p
+    → ArePlacesOf q f.first f.columns (ordinals p.entry) places → epoch ≡ epoch_of at s.catalogue.last → ((a : Asked) → first a ≡ tally a (map (λ x. asked (cleared places x.row)) (deletes_of at s.catalogue.tables changes f)))
+    → ((rows : List Stamped) → Stores m p rows → TakesLess q first (map (placed places) (visible epoch rows)) old mid) → TakesRows q (pending_of at s.catalogue.tables changes f) mid new → IsRead m s changes at d → IsOver d.tables f
+    → TakesItem at changes q d f old new
+item_taken m s changes at q f d p epoch places first old mid new taken are epoch_is first_is takes pending read over = λ more has. by more (table_at d f over) has
+  where
+    gone : List (List Value)
+    gone = map (λ (a : Asked). cleared places a.row) (deletes_of at s.catalogue.tables changes f)
+
+    behind : List (List Value)
+    behind = pending_of at s.catalogue.tables changes f
+
+    counted : (a : Asked) → first a ≡ tally a (map asked gone)
+    counted a = first_is a ∙ ap (tally a) (sym (gone_counted places (deletes_of at s.catalogue.tables changes f)))
+
+    by : (more : List (List (List Value))) → (t : Table) × (slice_get d.tables f.table ≡ Some t) × (f.columns ≡ length t.columns) → HasTaken q more [] old
+        → (rows : List (List Value)) × IsSeen at changes q d f rows × HasTaken q more rows new
+    by more (t, is, wide) has =
+        let serves = taken_serves m s q f d t p taken read.are is in
+        let less = takes serves.history.stored serves.history.are more has in
+        let seen : AreSeen q f.first f.columns (less.0 ++ behind) (rows_of at d changes t) =
+        over_seen m s changes at q f d p epoch places (less.0 ++ behind) t taken read are epoch_is is wide serves (less.0, less.1 gone counted, refl) in (
+          less.0 ++ behind,
+          λ there. subst (λ (o : Option Table). AreSeen q f.first f.columns (less.0 ++ behind) (option_map_or (rows_of at d changes) o no_rows)) (sym is) seen,
+          pending more less.0 less.2,
+        )
 
 -- no file of the projection is to blame
 pub item_unblamed : (m : Contents) (s : Seen) (changes : List Changes) (at : At) (q : BoundQuery) (f : FromItem) (d : Database) (p : Projected) (fault : StoreFault) → IsTaken s q f p → IsRead m s changes at d → IsOver d.tables f
@@ -107,13 +160,35 @@ each_over first tables (f ∷ fs) (is, here, over) = All-cons (IsOver tables) f 
 pub read_of : {D : Type 0} (disk : Ghosts D) (s : Seen) (now : D) (changes : List Changes) (at : At) (q : BoundQuery) (d : Database) (can : CanRead disk s now changes at q d) → IsRead can.stands.files s changes at d
 read_of disk s now changes at q d can = record { are = can.stands.are; sound = can.stands.sound; epoch = can.epoch; session = can.session }
 
--- what was read of the FROM items is, for the query, what they have
-pub select_seen : {D : Type 0} (disk : Ghosts D) (s : Seen) (now : D) (changes : List Changes) (at : At) (q : BoundQuery) (d : Database) (items : List FromItem) (inputs given : List (List (List Value))) → items ≡ q.sources → given ≡ inputs
-    → ((m : Contents) → disk.holds now ≡ Some m → (e : Database) → IsRead m s changes at e → AllZip (IsSeen at changes q e) items inputs) → CanRead disk s now changes at q d → AreSeenFrom q 0 q.sources given (source_rows at d changes q)
-select_seen disk s now changes at q d items inputs given is same zip can =
-    let all = zip can.stands.files can.stands.quiet.told_is d (read_of disk s now changes at q d can) in
-    subst (λ (rows : List (List (List Value))). AreSeenFrom q 0 q.sources rows (source_rows at d changes q)) (sym same)
-    (seen_from at changes q d 0 q.sources inputs can.over (subst (λ (fs : List FromItem). AllZip (IsSeen at changes q d) fs inputs) is all))
+-- a run that has taken what a query reads of all items
+pub items_read : (at : At) (changes : List Changes) (q : BoundQuery) (d : Database) (first : FromItem) (others : List FromItem) (given more : List (List (List Value))) (old new : Run) → given ≡ more → AllZip (IsSeen at changes q d) others more
+    → HasTaken q given [] old → TakesItem at changes q d first old new → HasRead at changes q d (first ∷ others) new
+items_read at changes q d first others given more old new same seen none takes =
+    let own = subst (λ (xs : List (List (List Value))). HasTaken q xs [] old) same none in
+    let took = takes more own in
+    record {
+      rows = took.0;
+      more = more;
+      seen = (took.1, seen);
+      taken = took.2;
+    }
+
+-- a query without a FROM item reads nothing
+pub nothing_read : (at : At) (d : Database) (changes : List Changes) (q : BoundQuery) (items : List FromItem) → items ≡ q.sources → length items ≡ 0 → source_rows at d changes q ≡ []
+nothing_read at d changes q items is none = ap (map (item_rows at d changes)) (sym is ∙ nil_from_length items none)
+
+-- what a run took and holds is, for the query, what the FROM items have
+pub run_seen : {D : Type 0} (disk : Ghosts D) (s : Seen) (now : D) (changes : List Changes) (at : At) (q : BoundQuery) (d : Database) (items : List FromItem) (r : Run) → items ≡ q.sources
+    → ((m : Contents) → disk.holds now ≡ Some m → (e : Database) → IsRead m s changes at e → All (IsOver e.tables) items → HasRead at changes q e items r) → CanRead disk s now changes at q d
+    → (rows : List (List Value)) × (more : List (List (List Value))) × AreSeenFrom q 0 q.sources (rows ∷ more) (source_rows at d changes q) × HasTaken q more rows r
+run_seen disk s now changes at q d items r is reads can =
+    let over = subst (λ (fs : List FromItem). All (IsOver d.tables) fs) (sym is) (each_over 0 d.tables q.sources can.over) in
+    let has = reads can.stands.files can.stands.quiet.told_is d (read_of disk s now changes at q d can) over in (
+      has.rows,
+      has.more,
+      seen_from at changes q d 0 q.sources (has.rows ∷ has.more) can.over (subst (λ (fs : List FromItem). AllZip (IsSeen at changes q d) fs (has.rows ∷ has.more)) is has.seen),
+      has.taken,
+    )
 
 store_unblamed : (fault : StoreFault) → scan.IsUnblamed fault → IsUnblamed (of_store fault)
 store_unblamed store.Disk is = tt

@@ -26,7 +26,7 @@ row_of_asked : (xs : Rows) → map (λ (a : Asked). a.row) (map asked xs) ≡ xs
 row_of_asked [] = refl
 row_of_asked (x ∷ xs) = ap (λ (ys : Rows). x ∷ ys) (row_of_asked xs)
 
-tally_push : (q : Asked) (xs : Rows) (x : List Value) → tally q (map asked (xs ++ x ∷ [])) ≡ tally q (map asked xs) + one_of (asked x) q
+pub tally_push : (q : Asked) (xs : Rows) (x : List Value) → tally q (map asked (xs ++ x ∷ [])) ≡ tally q (map asked xs) + one_of (asked x) q
 tally_push q xs x =
     let join : map asked (xs ++ x ∷ []) ≡ map asked xs ++ asked x ∷ [] = map-append asked xs (x ∷ []) in
     let none : tally q [] ≡ 0 = refl in

@@ -1,4 +1,5 @@
 pub mod Faults
+pub mod Feeding
 pub mod Lessening
 pub mod Placing
 pub mod Reading

@@ -11,7 +11,7 @@ ghost use Rattle.store_query.specs.Faults.{IsUnblamed};
 ghost use Rattle.store_query.specs.Reading.{source_rows, CanRead};
 
 use crate::fault::SelectFault;
-use crate::sources::rows_of_items;
+use crate::sources::run_of;
 use col_disk::Disk;
 use col_value::WideRow;
 use query_run::printed;
@@ -42,19 +42,17 @@ pub fn select<D: Disk>(
     ensures moved { Moved ⟦<D as Disk>⟧ NoName NoName disk.old disk.new }
     ensures cause { HasCause SelectFault.Disk (D.faults disk.old) (D.faults disk.new) result }
 {
-    let inputs = match rows_of_items(
-        alloc,
-        tables,
-        changes,
-        at,
-        query,
-        query.sources.as_slice(),
-        disk,
-    ) {
-        Ok(inputs) => inputs,
+    let Some((first, others)) = query.sources.as_slice().split_first() else {
+        return match printed(alloc, query, &[]) {
+            Ok(rows) => Ok(rows),
+            Err(fault) => Err(SelectFault::from(fault)),
+        };
+    };
+    let run = match run_of(alloc, tables, changes, at, query, *first, others, disk) {
+        Ok(run) => run,
         Err(fault) => return Err(SelectFault::from(fault)),
     };
-    match printed(alloc, query, inputs.as_slice()) {
+    match run.finish(alloc, query) {
         Ok(rows) => Ok(rows),
         Err(fault) => Err(SelectFault::from(fault)),
     }

@@ -76,7 +76,11 @@ fn cleared(alloc: Global, row: &[Value], places: &[Option<usize>]) -> Result<Row
 }
 
 /// How often each row is deleted, as a scan makes it.
-fn wants_of(alloc: Global, deletes: &[Asked], places: &[Option<usize>]) -> Result<Wants, AllocError>
+pub fn wants_of(
+    alloc: Global,
+    deletes: &[Asked],
+    places: &[Option<usize>],
+) -> Result<Wants, AllocError>
     ensures { IfOk result (λ w. (q : ARow) → need_in w.counts q ≡ tally q (map (λ a. asked (cleared places.now a.row)) deletes.now)) }
 {
     let mut gone = Vec::with_capacity(alloc, deletes.len())?;

@@ -1,6 +1,6 @@
 //! The rows of the FROM items.
 
-ghost use Rattle.std.specs.Prelude.{◌≡◌, Some, map, IfOk, IfErr};
+ghost use Rattle.std.specs.Prelude.{◌≡◌, ◌∷◌, Some, map, IfOk, IfErr, OnOk};
 ghost use Rattle.std.specs.List.{All, AllZip};
 ghost use Rattle.std.specs.Option.{IfSome};
 ghost use Rattle.common_laws.specs.Causes.{HasCause};
@@ -8,12 +8,16 @@ ghost use Rattle.common_laws.specs.Maps.{Contents};
 ghost use Rattle.col_disk.specs.Moved.{Moved, NoName};
 ghost use Rattle.col_value.specs.Order.{IsRow};
 ghost use Rattle.db_model.specs.Database.{Database};
+ghost use Rattle.plain_query.specs.Bounded.{IsBoundedQuery};
+ghost use Rattle.query_run.specs.Runs.{IsRunOf};
 ghost use Rattle.exec_scan.specs.Scanning.{IsUnblamed};
+ghost use Rattle.store_query.specs.Feeding.{HasRead, TakesItem};
 ghost use Rattle.store_query.specs.Lessening.{cleared, deletes_of, HasChanges};
 ghost use Rattle.store_query.specs.Reading.{epoch_of, pending_of, IsOver, IsRead, IsSeen};
 ghost use Rattle.store_query.specs.Taking.{IsTaken};
 
-use crate::lessening::{deletes_of, without_deletes};
+use crate::feeding::{feed_rows, feed_scan};
+use crate::lessening::{deletes_of, wants_of, without_deletes};
 use crate::pending::{add_rows, pending_of};
 use crate::places::places_of;
 use col_disk::{Disk, StoreFault};
@@ -21,6 +25,7 @@ use col_value::{List, Row};
 use exec_scan::scan_rows;
 use plan_choice::choose;
 use proj_store::ProjStore;
+use query_run::Run;
 use sql_bound::{BoundQuery, FromItem};
 use sql_tree::At;
 use std::alloc::{AllocError, Global};
@@ -122,8 +127,53 @@ fn rows_of_item<D: Disk>(
     }
 }
 
+/// Gives a run the rows that a query reads of a FROM item's table, of which none but a batch is held: those of the chosen projection, but
+/// for those that the session deletes, and then its pending ones.
+fn feed_item<D: Disk>(
+    alloc: Global,
+    tables: &TableStore,
+    changes: &Session,
+    at: At,
+    query: &BoundQuery,
+    item: FromItem,
+    run: &mut Run,
+    disk: &mut D,
+) -> Result<(), StoreFault>
+    requires bounded { IsBoundedQuery query.now }
+    requires run { IsRunOf query.now run.old }
+    ensures taken { OnOk result ((m : Contents) → D.holds disk.old ≡ Some m → (d : Database) → IsRead m tables.now changes.now at d → IsOver d.tables item → TakesItem at changes.now query.now d item run.old run.new) }
+    ensures run { OnOk result (IsRunOf query.now run.new) }
+    ensures unblamed { IfErr result (λ fault. (m : Contents) → D.holds disk.old ≡ Some m → (d : Database) → IsRead m tables.now changes.now at d → IsOver d.tables item → IsUnblamed fault) }
+    ensures kept { D.holds disk.new ≡ D.holds disk.old }
+    ensures moved { Moved ⟦<D as Disk>⟧ NoName NoName disk.old disk.new }
+    ensures cause { HasCause StoreFault.Disk (D.faults disk.old) (D.faults disk.new) result }
+{
+    let Some(store) = projection_for(tables, query, item) else {
+        return Err(StoreFault::Memory);
+    };
+    let columns = store.entry().columns.as_slice();
+    let places = match places_of(alloc, query, item, columns) {
+        Ok(places) => places,
+        Err(AllocError) => return Err(StoreFault::Memory),
+    };
+    let deletes = deletes_of(tables, changes, at, item);
+    let wants = match wants_of(alloc, deletes, places.as_slice()) {
+        Ok(wants) => wants,
+        Err(AllocError) => return Err(StoreFault::Memory),
+    };
+    let epoch = epoch_of(at, tables.last());
+    match feed_scan(alloc, query, store, epoch, places, wants, run, disk) {
+        Ok(()) => {}
+        Err(fault) => return Err(fault),
+    }
+    match feed_rows(alloc, query, run, pending_of(tables, changes, at, item)) {
+        Ok(()) => Ok(()),
+        Err(AllocError) => Err(StoreFault::Memory),
+    }
+}
+
 /// The rows that a query reads of each of these FROM items.
-pub fn rows_of_items<D: Disk>(
+fn rows_of_items<D: Disk>(
     alloc: Global,
     tables: &TableStore,
     changes: &Session,
@@ -151,4 +201,38 @@ pub fn rows_of_items<D: Disk>(
         }
     }
     Ok(out)
+}
+
+/// A run of a query to which all that the query reads of its FROM items has come: the rows of the first one by one, when it holds those
+/// of the others.
+pub fn run_of<D: Disk>(
+    alloc: Global,
+    tables: &TableStore,
+    changes: &Session,
+    at: At,
+    query: &BoundQuery,
+    first: FromItem,
+    others: &[FromItem],
+    disk: &mut D,
+) -> Result<Run, StoreFault>
+    requires bounded { IsBoundedQuery query.now }
+    ensures read { IfOk result (λ run. (m : Contents) → D.holds disk.old ≡ Some m → (d : Database) → IsRead m tables.now changes.now at d → All (IsOver d.tables) (first ∷ others.now) → HasRead at changes.now query.now d (first ∷ others.now) run) }
+    ensures run { IfOk result (IsRunOf query.now) }
+    ensures unblamed { IfErr result (λ fault. (m : Contents) → D.holds disk.old ≡ Some m → (d : Database) → IsRead m tables.now changes.now at d → All (IsOver d.tables) (first ∷ others.now) → IsUnblamed fault) }
+    ensures kept { D.holds disk.new ≡ D.holds disk.old }
+    ensures moved { Moved ⟦<D as Disk>⟧ NoName NoName disk.old disk.new }
+    ensures cause { HasCause StoreFault.Disk (D.faults disk.old) (D.faults disk.new) result }
+{
+    let more = match rows_of_items(alloc, tables, changes, at, query, others, disk) {
+        Ok(more) => more,
+        Err(fault) => return Err(fault),
+    };
+    let mut run = match Run::new(alloc, query, more) {
+        Ok(run) => run,
+        Err(AllocError) => return Err(StoreFault::Memory),
+    };
+    match feed_item(alloc, tables, changes, at, query, first, &mut run, disk) {
+        Ok(()) => Ok(run),
+        Err(fault) => Err(fault),
+    }
 }

@@ -1,39 +1,61 @@
-use Rattle.std.proofs.Common.{◌≡◌, ◌∙◌, Err, refl, sym, ap, subst}
+use Rattle.std.proofs.Common.{◌≡◌, ◌∙◌, List, ◌∷◌, Err, refl, sym, ap, subst}
+use Rattle.col_disk.proofs.Moving.{moved_none}
 use Rattle.plain_query.specs.declared.fault.QueryFault.{QueryFault}
 use Rattle.plain_query.specs.declared.fault.QueryFault.TheVariants as query
 use Rattle.query_cover.proofs.Permuted.{great_seen, not_great_seen, printed_seen}
 use Rattle.store_query.specs.declared.fault.SelectFault.{SelectFault}
 use Rattle.store_query.specs.declared.fault.SelectFault.TheVariants as select
+use Rattle.col_value.specs.declared.value.Value.{Value}
+use Rattle.sql_bound.specs.Outputs.{IsSumTooGreat}
 use Rattle.store_query.specs.Faults.{of_query, IsUnblamed}
 use Rattle.store_query.specs.Reading.{source_rows}
-use Rattle.store_query.proofs.ItemRows.{select_seen, select_unblamed}
+use Rattle.store_query.proofs.ItemRows.{nothing_read, run_seen, select_unblamed}
 use Rattle.store_query.proofs.answering.select.Goals as goal
 
 great_told : (f : QueryFault) → of_query f ≡ select.SumOutOfRange → f ≡ query.SumOutOfRange
 great_told query.SumOutOfRange is = refl
 great_told query.Memory is = absurd (cc)
 
-pub returns-in-Err-clause-unblamed : goal.returns-in-Err-clause-unblamed
-returns-in-Err-clause-unblamed g c = λ d can.
-    subst (λ (x : SelectFault). IsUnblamed x) (sym c.from.ensures)
-    (select_unblamed g.D.Disk c.args.tables.now c.args.disk.now c.args.changes.now c.args.at c.args.query.now d c.as_slice.result.now c.in-Err.fault c.as_slice.ensures c.in-Err.ensures.unblamed can)
+pub returns-in-Ok-clause-moved : goal.returns-in-Ok-clause-moved
+returns-in-Ok-clause-moved g c = moved_none g.D.Disk c.args.disk.now
 
-pub returns-in-Ok-printed-clause-printed : goal.returns-in-Ok-printed-clause-printed
-returns-in-Ok-printed-clause-printed g c = λ d can.
-    let q = c.args.query.now in
-    let seen = select_seen g.D.Disk c.args.tables.now c.args.disk.now c.args.changes.now c.args.at q d c.as_slice.result.now c.in-Ok.inputs.items c.as_slice-2.result.now c.as_slice.ensures c.as_slice-2.ensures.value c.in-Ok.ensures.seen can in
-    printed_seen q c.as_slice-2.result.now (source_rows c.args.at d c.args.changes.now q) c.in-Ok-printed.rows.items seen c.in-Ok-printed.ensures.printed
+pub returns-in-Err-clause-moved : goal.returns-in-Err-clause-moved
+returns-in-Err-clause-moved g c = moved_none g.D.Disk c.args.disk.now
 
-pub returns-in-Ok-printed-clause-in_range : goal.returns-in-Ok-printed-clause-in_range
-returns-in-Ok-printed-clause-in_range g c = λ d can great.
+pub returns-in-Err-run_of-clause-unblamed : goal.returns-in-Err-run_of-clause-unblamed
+returns-in-Err-run_of-clause-unblamed g c = λ d can.
     let q = c.args.query.now in
-    let seen = select_seen g.D.Disk c.args.tables.now c.args.disk.now c.args.changes.now c.args.at q d c.as_slice.result.now c.in-Ok.inputs.items c.as_slice-2.result.now c.as_slice.ensures c.as_slice-2.ensures.value c.in-Ok.ensures.seen can in
-    c.in-Ok-printed.ensures.in_range (not_great_seen q c.as_slice-2.result.now (source_rows c.args.at d c.args.changes.now q) seen great)
+    let own = sym c.in-Some.ensures.cases.0 ∙ c.as_slice.ensures in
+    subst (λ (x : SelectFault). IsUnblamed x) (sym c.from-in-Err-run_of.ensures)
+    (select_unblamed g.D.Disk c.args.tables.now c.args.disk.now c.args.changes.now c.args.at q d (c.in-Some.first.now ∷ c.in-Some.others.now) c.in-Err-run_of.fault own c.in-Err-run_of.ensures.unblamed can)
 
-pub returns-clause-great : goal.returns-clause-great
-returns-clause-great g c = λ is d can.
+pub returns-in-Ok-finish-clause-printed : goal.returns-in-Ok-finish-clause-printed
+returns-in-Ok-finish-clause-printed g c = λ d can.
     let q = c.args.query.now in
-    let same : c.from-in-Err-printed.result ≡ select.SumOutOfRange = cc in
-    let told = great_told c.in-Err-printed.fault (sym c.from-in-Err-printed.ensures ∙ same) in
-    let seen = select_seen g.D.Disk c.args.tables.now c.args.disk.now c.args.changes.now c.args.at q d c.as_slice.result.now c.in-Ok.inputs.items c.as_slice-2.result.now c.as_slice.ensures c.as_slice-2.ensures.value c.in-Ok.ensures.seen can in
-    great_seen q c.as_slice-2.result.now (source_rows c.args.at d c.args.changes.now q) seen (c.in-Err-printed.ensures.great (ap (λ (f : QueryFault). Err f) told))
+    let own = sym c.in-Some.ensures.cases.0 ∙ c.as_slice.ensures in
+    let seen = run_seen g.D.Disk c.args.tables.now c.args.disk.now c.args.changes.now c.args.at q d (c.in-Some.first.now ∷ c.in-Some.others.now) c.in-Ok-run_of.run' own c.in-Ok-run_of.ensures.read can in
+    printed_seen q (seen.0 ∷ seen.1) (source_rows c.args.at d c.args.changes.now q) c.in-Ok-finish.rows.items seen.2 (c.in-Ok-finish.ensures.printed seen.1 seen.0 seen.3)
+
+pub returns-in-Ok-finish-clause-in_range : goal.returns-in-Ok-finish-clause-in_range
+returns-in-Ok-finish-clause-in_range g c = λ d can great.
+    let q = c.args.query.now in
+    let own = sym c.in-Some.ensures.cases.0 ∙ c.as_slice.ensures in
+    let seen = run_seen g.D.Disk c.args.tables.now c.args.disk.now c.args.changes.now c.args.at q d (c.in-Some.first.now ∷ c.in-Some.others.now) c.in-Ok-run_of.run' own c.in-Ok-run_of.ensures.read can in
+    c.in-Ok-finish.ensures.in_range seen.1 seen.0 seen.3 (not_great_seen q (seen.0 ∷ seen.1) (source_rows c.args.at d c.args.changes.now q) seen.2 great)
+
+pub returns-in-Err-clause-great : goal.returns-in-Err-clause-great
+returns-in-Err-clause-great g c = λ is d can.
+    let q = c.args.query.now in
+    let same : c.from.result ≡ select.SumOutOfRange = cc in
+    let told = great_told c.in-Err.fault (sym c.from.ensures ∙ same) in
+    let none = nothing_read c.args.at d c.args.changes.now q c.as_slice.result.now c.as_slice.ensures c.in_default.ensures.cases in
+    subst (λ (inputs : List (List (List Value))). IsSumTooGreat q inputs) (sym none) (c.in-Err.ensures.great (ap (λ (f : QueryFault). Err f) told))
+
+pub returns-in-Err-finish-clause-great : goal.returns-in-Err-finish-clause-great
+returns-in-Err-finish-clause-great g c = λ is d can.
+    let q = c.args.query.now in
+    let own = sym c.in-Some.ensures.cases.0 ∙ c.as_slice.ensures in
+    let same : c.from-in-Err-finish.result ≡ select.SumOutOfRange = cc in
+    let told = great_told c.in-Err-finish.fault (sym c.from-in-Err-finish.ensures ∙ same) in
+    let seen = run_seen g.D.Disk c.args.tables.now c.args.disk.now c.args.changes.now c.args.at q d (c.in-Some.first.now ∷ c.in-Some.others.now) c.in-Ok-run_of.run' own c.in-Ok-run_of.ensures.read can in
+    great_seen q (seen.0 ∷ seen.1) (source_rows c.args.at d c.args.changes.now q) seen.2 (c.in-Err-finish.ensures.great (ap (λ (f : QueryFault). Err f) told) seen.1 seen.0 seen.3)

@@ -1,0 +1,138 @@
+//! The bar of a query with a LIMIT: an output row that stands behind it isn't printed.
+
+ghost use Rattle.std.specs.Prelude.{◌≡◌, ◌-◌, true, false, List, Some, length, IfOk, IsSomeAnd, slice_index_or};
+ghost use Rattle.std.specs.List.{slice_get};
+ghost use Rattle.std.specs.Option.{IfSome};
+ghost use Rattle.std.specs.Ordering.{is_lt};
+ghost use Rattle.col_value.specs.Order.{IsRow, wide_cmp, wide_kind};
+ghost use Rattle.col_value.specs.declared.wide.Wide.{Wide as Result};
+ghost use Rattle.col_value.specs.declared.wide.Wide.TheVariants.{Null};
+ghost use Rattle.expr_value.specs.Worths.{wide_of};
+ghost use Rattle.plain_query.specs.Bounded.{IsBoundedQuery};
+ghost use Rattle.sql_bound.specs.Printed.{key_cmp, printed_cmp, IsPrinted};
+ghost use Rattle.sql_bound.specs.Values.{of_row};
+ghost use Rattle.query_run.specs.Outputs.{items_in, IsBar};
+
+use col_value::{Value, WideRow};
+use expr_value::{Sight, Worth, value_of};
+use sql_bound::BoundQuery;
+use std::alloc::{AllocError, Global};
+use std::cmp::Ordering;
+
+/// The place of its kind in the order of values.
+fn kind_of(value: &Worth<'_>) -> u8
+    ensures { result ≡ wide_kind (wide_of value.now) }
+{
+    match value {
+        Worth::Null => 0,
+        Worth::Bool(_) => 1,
+        Worth::Int(_) => 2,
+        Worth::Text(_) => 3,
+    }
+}
+
+/// The order of values.
+fn order_of(a: &Worth<'_>, b: &Worth<'_>) -> Ordering
+    ensures { result ≡ wide_cmp (wide_of a.now) (wide_of b.now) }
+{
+    match (a, b) {
+        (Worth::Bool(a), Worth::Bool(b)) => a.cmp(b),
+        (Worth::Int(a), Worth::Int(b)) => a.cmp(b),
+        (Worth::Text(a), Worth::Text(b)) => a.as_bytes().cmp(&b.as_bytes()),
+        _ => kind_of(a).cmp(&kind_of(b)),
+    }
+}
+
+/// The value of an output row's column; NULL where it is not there.
+fn value_in(row: &WideRow, column: usize) -> Worth<'_>
+    ensures { wide_of result ≡ slice_index_or row.now column Null }
+{
+    match row.as_slice().get(column) {
+        Some(value) => Worth::of_wide(value),
+        None => Worth::Null,
+    }
+}
+
+/// The same of the output row that a tuple makes.
+fn value_made<'a>(query: &'a BoundQuery, tuple: &'a [Value], column: usize) -> Worth<'a>
+    requires bounded { IsBoundedQuery query.now }
+    requires plain { query.now.grouped ≡ false }
+    requires tuple { IsRow tuple.now }
+    ensures { wide_of result ≡ slice_index_or (items_in query.now (of_row tuple.now)) column Null }
+{
+    match query.items.as_slice().get(column) {
+        Some(item) => value_of(item, &Sight::of_row(tuple)),
+        None => Worth::Null,
+    }
+}
+
+/// How an output row and that of a tuple stand by one key of ORDER BY.
+fn order_by(
+    query: &BoundQuery,
+    row: &WideRow,
+    tuple: &[Value],
+    column: usize,
+    descending: bool,
+) -> Ordering
+    requires bounded { IsBoundedQuery query.now }
+    requires plain { query.now.grouped ≡ false }
+    requires tuple { IsRow tuple.now }
+    ensures { result ≡ key_cmp (column, descending) row.now (items_in query.now (of_row tuple.now)) }
+{
+    let order = order_of(&value_in(row, column), &value_made(query, tuple, column));
+    if descending { order.reverse() } else { order }
+}
+
+/// Whether an output row stands before that of a tuple by the keys of ORDER BY. The tuple's isn't made.
+fn is_before(query: &BoundQuery, row: &WideRow, tuple: &[Value]) -> bool
+    requires bounded { IsBoundedQuery query.now }
+    requires plain { query.now.grouped ≡ false }
+    requires tuple { IsRow tuple.now }
+    ensures { result ≡ true → is_lt (printed_cmp query.now.order row.now (items_in query.now (of_row tuple.now))) ≡ true }
+{
+    for (column, descending) in query.order.as_slice() {
+        match order_by(query, row, tuple, *column, *descending) {
+            Ordering::Less => return true,
+            Ordering::Equal => {},
+            Ordering::Greater => return false,
+        }
+    }
+    false
+}
+
+/// Whether the bar stands before the output row of a tuple by the keys of ORDER BY.
+pub fn is_barred(query: &BoundQuery, bar: &Option<WideRow>, tuple: &[Value]) -> bool
+    requires bounded { IsBoundedQuery query.now }
+    requires plain { query.now.grouped ≡ false }
+    requires tuple { IsRow tuple.now }
+    ensures { result ≡ true → IsSomeAnd bar.now (λ row. is_lt (printed_cmp query.now.order row (items_in query.now (of_row tuple.now))) ≡ true) }
+{
+    match bar {
+        Some(row) => is_before(query, row, tuple),
+        None => false,
+    }
+}
+
+/// The last of some rows.
+fn last_of(alloc: Global, rows: &[WideRow]) -> Result<Option<WideRow>, AllocError>
+    ensures { IfOk result (λ last. IfSome last (λ row. slice_get rows.now (length rows.now - 1) ≡ Some row)) }
+{
+    match rows.last() {
+        Some(row) => Ok(Some(row.copy(alloc)?)),
+        None => Ok(None),
+    }
+}
+
+/// The last of the rows that are printed of some others, where they are as many as the limit.
+pub fn bar_of(
+    alloc: Global,
+    query: &BoundQuery,
+    rows: &[WideRow],
+) -> Result<Option<WideRow>, AllocError>
+    ensures { IfOk result (λ bar. (all : List (List Result)) → IsPrinted query.now.order query.now.limit all rows.now → IfSome bar (IsBar query.now.order query.now.limit rows.now)) }
+{
+    match query.limit {
+        Some(count) if rows.len() as u128 == count => last_of(alloc, rows),
+        _ => Ok(None),
+    }
+}

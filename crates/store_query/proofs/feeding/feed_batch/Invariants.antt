@@ -1,0 +1,11 @@
+use Rattle.std.proofs.Common.{take}
+use Rattle.query_run.specs.Runs.{IsRunOf}
+use Rattle.wanted_rows.specs.Wanted.{need_in}
+use Rattle.store_query.specs.Feeding.{Feeds}
+use Rattle.store_query.proofs.feeding.feed_batch.Given as goal
+
+abbrev pub invariant-loop-i : goal.invariant-loop-i
+invariant-loop-i l = record {
+  fed : Feeds l.query (take l.i l.batch) (need_in l.fn.wants.counts) l.fn.run (need_in l.wants.counts) l.run;
+  run : IsRunOf l.query l.run;
+}

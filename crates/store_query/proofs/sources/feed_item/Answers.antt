@@ -1,0 +1,45 @@
+use Rattle.std.proofs.Common.{◌≡◌, ◌∙◌, ℕ, List, ap, map, subst}
+use Rattle.std.specs.Prelude.{Option}
+use Rattle.col_disk.proofs.Moving.{moved_none}
+use Rattle.col_value.specs.declared.row.Asked.{Asked}
+use Rattle.col_value.specs.declared.value.Value.{Value}
+use Rattle.catalog_types.specs.declared.catalogue.ProjColumn.{ProjColumn}
+use Rattle.catalog_types.specs.declared.catalogue.Projection.{Projection}
+use Rattle.folder_model.specs.Projections.{ordinals}
+use Rattle.wanted_rows.specs.Wanted.{need_in, tally}
+use Rattle.store_query.specs.Feeding.{TakesRows}
+use Rattle.store_query.specs.Lessening.{asked, cleared}
+use Rattle.store_query.specs.Placing.{ArePlacesOf}
+use Rattle.store_query.specs.Reading.{epoch_of}
+use Rattle.store_query.proofs.ItemRows.{item_taken, item_unblamed}
+use Rattle.store_query.proofs.sources.feed_item.Goals as goal
+
+pub returns-in_default-clause-moved : goal.returns-in_default-clause-moved
+returns-in_default-clause-moved g c = moved_none g.D.Disk c.args.disk.now
+
+pub returns-in-Err-clause-moved : goal.returns-in-Err-clause-moved
+returns-in-Err-clause-moved g c = moved_none g.D.Disk c.args.disk.now
+
+pub returns-in-Err-wants_of-clause-moved : goal.returns-in-Err-wants_of-clause-moved
+returns-in-Err-wants_of-clause-moved g c = moved_none g.D.Disk c.args.disk.now
+
+pub returns-in-Err-feed_scan-clause-unblamed : goal.returns-in-Err-feed_scan-clause-unblamed
+returns-in-Err-feed_scan-clause-unblamed g c = λ m told d read over.
+    item_unblamed m c.args.tables.now c.args.changes.now c.args.at c.args.query.now c.args.item d c.in-Some.store.now.stored c.in-Err-feed_scan.fault c.in-Some.ensures read over (c.in-Err-feed_scan.ensures.unblamed m told)
+
+pub returns-in-Ok-feed_rows-clause-taken : goal.returns-in-Ok-feed_rows-clause-taken
+returns-in-Ok-feed_rows-clause-taken g c = λ m told d read over.
+    let s = c.args.tables.now in
+    let f = c.args.item in
+    let q = c.args.query.now in
+    let p = c.in-Some.store.now.stored in
+    let places = c.in-Ok.places.items in
+    let columns : c.as_slice-columns.result.now ≡ p.entry.columns = c.as_slice-columns.ensures ∙ ap (λ (x : Projection). x.columns) c.entry.ensures.entry in
+    let are : ArePlacesOf q f.first f.columns (ordinals p.entry) places = subst (λ (ks : List ProjColumn). ArePlacesOf q f.first f.columns (map (λ k. k.ordinal) ks) places) columns c.in-Ok.ensures.places in
+    let first : (a : Asked) → need_in c.in-Ok-wants_of.wants.counts a ≡ tally a (map (λ x. asked (cleared places x.row)) c.deletes_of-deletes.result.now) =
+    subst (λ (ps : List (Option ℕ)). (a : Asked) → need_in c.in-Ok-wants_of.wants.counts a ≡ tally a (map (λ x. asked (cleared ps x.row)) c.deletes_of-deletes.result.now)) c.as_slice.ensures.value c.in-Ok-wants_of.ensures in
+    item_taken m s c.args.changes.now c.args.at q f d p c.epoch_of-epoch.result places (need_in c.in-Ok-wants_of.wants.counts) c.args.run.now c.feed_scan.new.run c.feed_rows.new.run c.in-Some.ensures are
+    (c.epoch_of-epoch.ensures ∙ ap (epoch_of c.args.at) c.last.ensures)
+    (λ a. first a ∙ ap (λ (ds : List Asked). tally a (map (λ x. asked (cleared places x.row)) ds)) c.deletes_of-deletes.ensures)
+    (c.in-Ok-feed_scan.ensures.fed m told)
+    (subst (λ (rows : List (List Value)). TakesRows q rows c.feed_scan.new.run c.feed_rows.new.run) c.pending_of.ensures.rows c.in-Ok-feed_rows.ensures.rows) read over
