@@ -8,7 +8,7 @@ use Rattle.std.proofs.lemmas.Option.{same_Some}
 use Rattle.std.proofs.lemmas.List.Elements.{All-cons, All-filter, All-head, All-nil, All-tail, All-weaker}
 use Rattle.common_laws.specs.Bags.{SameBag}
 use Rattle.common_laws.specs.Maps.{Contents}
-use Rattle.common_laws.proofs.BagLaws.{bag_filter, bag_map, bag_sym, bag_trans, count_cons}
+use Rattle.common_laws.proofs.BagLaws.{bag_filter, bag_map, bag_refl, bag_sym, bag_trans, count_cons}
 use Rattle.catalog_types.specs.declared.catalogue.Catalogue.{Catalogue}
 use Rattle.catalog_types.specs.declared.catalogue.Table as kept
 use Rattle.col_value.specs.declared.column.Column.{Column}
@@ -138,7 +138,7 @@ deletes_seen last (a ∷ deletes) rest all =
     ∙ ap (λ (xs : List Asked). a ∷ xs) (deletes_seen last deletes rest (All-tail (λ s. nat_le s.ins last ≡ true) (stamped None a) (map (stamped None) deletes ++ rest) all))
 
 -- the committed rows are the session's deletes and some others
-deletes_apart : (last : ℕ) (deletes : List Asked) (table : List Stamped) → All (HasEpochs last) table → Within deletes table
+pub deletes_apart : (last : ℕ) (deletes : List Asked) (table : List Stamped) → All (HasEpochs last) table → Within deletes table
     → (others : List Asked) × SameBag (map asked_of (filter (is_visible last) table)) (deletes ++ others)
 deletes_apart last deletes table epochs (rest, bag) =
     let in_time : All (λ s. nat_le s.ins last ≡ true) table = All-weaker (HasEpochs last) (λ s. nat_le s.ins last ≡ true) (λ s has. let le = has.inserted in grind (arith, le)) table epochs in
@@ -174,12 +174,12 @@ matches_in one m d mark changes keep u p count places rows committed pending le 
     let both : SameBag found.left (less deletes seen) = bag_trans found.left others (less deletes seen) left (bag_sym (less deletes seen) others view) in
     record {
       committed_are = subst (λ (xs : List Asked). SameBag xs (committed_matches keep d.last changes u)) (sym found.committed_are) (bag_filter (λ a. is_kept keep a.row) found.left (less deletes seen) both);
-      pending_are = found.pending_are;
+      pending_are = subst (SameBag pending) found.pending_are (bag_refl pending);
     }
 
 -- ---- at a place
 
-all_at : {X : Type 0} (P : X → Type 0) (ys : List X) (k : ℕ) (y : X) → All P ys → slice_get ys k ≡ Some y → P y
+pub all_at : {X : Type 0} (P : X → Type 0) (ys : List X) (k : ℕ) (y : X) → All P ys → slice_get ys k ≡ Some y → P y
 all_at P [] k y all none = absurd (cc)
 all_at P (z ∷ zs) zero y all is = subst P (same_Some z y is) (All-head P z zs all)
 all_at P (z ∷ zs) (suc k) y all is = all_at P zs k y (All-tail P z zs all) is

@@ -6,3 +6,4 @@ pub mod Bags
 pub mod Unblamed
 pub mod Answered
 pub mod Matches
+pub mod Alike

@@ -2,7 +2,7 @@
 use Rattle.std.proofs.Common.{◌≡◌, ◌+◌, ◌++◌, ℕ, Bool, true, false, cond, List, [], ◌∷◌, length, map, filter, refl, sym, ◌∙◌, ap, subst}
 use Rattle.std.proofs.lemmas.List.{length-append, length-map}
 use Rattle.common_laws.specs.Bags.{SameBag}
-use Rattle.common_laws.proofs.BagLaws.{bag_append, bag_length, bag_map, bag_refl}
+use Rattle.common_laws.proofs.BagLaws.{bag_append, bag_length, bag_map}
 use Rattle.col_value.specs.declared.row.Asked.{Asked}
 use Rattle.col_value.specs.declared.value.Value.{Value}
 use Rattle.sql_bound.specs.declared.expr.Expr.{Expr}
@@ -27,7 +27,7 @@ pub matched_so : (keep : List Expr) (last : ℕ) (changes : List Changes) (t : T
 matched_so keep last changes t committed pending are =
     bag_append (map (λ a. a.row) committed) pending (filter (is_kept keep) (map (λ a. a.row) (committed_view last changes t))) (filter (is_kept keep) (pending_rows t.name changes))
     (subst (SameBag (map (λ a. a.row) committed)) (kept_rows keep (committed_view last changes t)) (bag_map (λ (a : Asked). a.row) committed (committed_matches keep last changes t) are.committed_are))
-    (subst (SameBag pending) are.pending_are (bag_refl pending))
+    are.pending_are
 
 pub matched_many : (keep : List Expr) (last : ℕ) (changes : List Changes) (t : Table) (committed : List Asked) (pending : List (List Value)) → AreMatchesIn keep last changes t committed pending
     → length committed + length pending ≡ length (matched_rows keep changes last t)

@@ -1,6 +1,6 @@
 -- Rows that are shown, one after the other.
-use Rattle.std.proofs.Common.{◌≡◌, ℕ, ◌+◌, ◌<◌, ◌++◌, Bool, true, false, cond, List, [], ◌∷◌, length, map, filter, take, get_or, refl, sym, ◌∙◌, ap}
-use Rattle.std.proofs.lemmas.List.{take_more}
+use Rattle.std.proofs.Common.{◌≡◌, ℕ, ◌+◌, ◌<◌, ◌++◌, Bool, true, false, cond, List, [], ◌∷◌, length, map, filter, take, drop, get_or, append_assoc, refl, sym, ◌∙◌, ap}
+use Rattle.std.proofs.lemmas.List.{take_more, drop_more}
 use Rattle.col_value.specs.declared.row.Asked.{Asked}
 use Rattle.col_value.specs.declared.row.Stamped.{Stamped}
 use Rattle.row_history.specs.History.{is_visible}
@@ -40,3 +40,8 @@ pub kept_next : {X : Type 0} (p : X → Bool) (rows : List X) (k : ℕ) (row : X
 kept_next {X} p rows k row out next lt at more was =
     more ∙ ap (λ (xs : List X). xs ++ cond (p row) (row ∷ []) []) was ∙ sym (kept_behind p (take k rows) row)
     ∙ ap (filter p) (ap (λ (x : X). take k rows ++ x ∷ []) at ∙ sym (take_more rows k row lt))
+
+pub moved_on : {X : Type 0} (rows : List X) (k : ℕ) (row : X) (out next whole : List X) → k < length rows → row ≡ get_or rows k row → next ≡ out ++ row ∷ [] → out ++ drop k rows ≡ whole → next ++ drop (k + 1) rows ≡ whole
+moved_on {X} rows k row out next whole lt at more was =
+    ap (λ (xs : List X). xs ++ drop (k + 1) rows) more ∙ append_assoc out (row ∷ []) (drop (k + 1) rows)
+    ∙ sym (ap (λ (l : List X). out ++ l) (drop_more rows k row lt ∙ ap (λ (x : X). x ∷ drop (k + 1) rows) (sym at))) ∙ was

@@ -1,5 +1,5 @@
 -- The rows of a table on which a condition is true, as a session sees them.
-use Rattle.std.specs.Prelude.{ℕ, ◌≡◌, List, filter, IsSomeAnd}
+use Rattle.std.specs.Prelude.{ℕ, List, filter, IsSomeAnd}
 use Rattle.std.specs.List.{slice_get}
 use Rattle.common_laws.specs.Bags.{SameBag}
 use Rattle.col_disk.specs.declared.disk.Disk.{Ghosts}
@@ -21,10 +21,10 @@ committed_matches keep last changes t = filter (λ a. is_kept keep a.row) (commi
 abbrev pub pending_matches : List Expr → List Changes → Table → List (List Value)
 pending_matches keep changes t = filter (is_kept keep) (pending_rows t.name changes)
 
--- these are the committed rows that match, in any order, and the pending ones
+-- these are the committed rows that match and the pending ones, in any order
 pub record AreMatchesIn (keep : List Expr) (last : ℕ) (changes : List Changes) (t : Table) (committed : List Asked) (pending : List (List Value)) : Type 0 where
   pub committed_are : SameBag committed (committed_matches keep last changes t)
-  pub pending_are : pending ≡ pending_matches keep changes t
+  pub pending_are : SameBag pending (pending_matches keep changes t)
 
 -- of the table at a place
 abbrev pub AreMatches : List Expr → Database → List Changes → ℕ → List Asked → List (List Value) → Type 0

@@ -3,7 +3,7 @@
 //! `match_rows` answers the rows of a table that a session sees and on which a condition is true: the committed ones, each with its insert
 //! epoch, and the session's pending ones. Over a disk for which the store stands for a database they are those of `AreMatches` of
 //! `specs/Matching.antt`, and `matches_are_the_matched_rows` says that these are what db_model's events and refusals of both statements are
-//! stated in.
+//! stated in. `rows_left` answers the pending rows that both leave as they are.
 #![tactic(auto)]
 
 mod keeping;
@@ -13,5 +13,5 @@ mod matching;
 mod seeing;
 mod sources;
 
-pub use laws::matches_are_the_matched_rows;
-pub use matching::{Matched, match_rows};
+pub use laws::{alike_changes_match_alike, matches_are_the_matched_rows};
+pub use matching::{Matched, match_rows, rows_left};

@@ -1,18 +1,19 @@
 //! The rows that match.
 
-ghost use Rattle.std.specs.Prelude.{ℕ, ◌≡◌, [], true, List, Some, IfOk, IfErr};
+ghost use Rattle.std.specs.Prelude.{ℕ, ◌≡◌, ◌+◌, ◌++◌, [], true, not, filter, length, map, List, Some, IfOk, IfErr};
 ghost use Rattle.std.specs.List.{All};
 ghost use Rattle.common_laws.specs.Causes.{HasCause};
 ghost use Rattle.col_disk.specs.Moved.{Moved, NoName};
 ghost use Rattle.col_value.specs.Order.{IsRow};
 ghost use Rattle.sql_bound.specs.Bounds.{is_narrow};
+ghost use Rattle.sql_bound.specs.Outputs.{is_kept};
 ghost use Rattle.db_model.specs.Database.{Database};
 ghost use Rattle.db_model.specs.State.{pending_deletes, pending_rows};
 ghost use Rattle.exec_scan.specs.Scanning.{IsUnblamed};
 ghost use Rattle.row_matching.specs.Matching.{AreMatches, CanMatch};
 ghost use Rattle.row_matching.specs.Seeing.{AreFound};
 
-use crate::keeping::{kept_asked, kept_rows};
+use crate::keeping::{kept_asked, kept_rows, other_rows};
 use crate::lessening::without;
 use crate::seeing::{are_rows, seen_rows};
 use crate::sources::source_of;
@@ -30,6 +31,32 @@ use txn_core::Session;
 pub struct Matched {
     pub committed: Vec<Asked>,
     pub pending: Vec<Row>,
+}
+
+impl Matched {
+    /// How many rows match. It takes no memory.
+    pub fn count(&self) -> usize
+        ensures { result ≡ length self.now.committed.items + length self.now.pending.items }
+    {
+        self.committed.len() + self.pending.len()
+    }
+
+    /// The rows themselves: those of the committed ones, and then the pending ones.
+    pub fn rows(&self, alloc: Global) -> Result<Vec<Row>, AllocError>
+        requires committed { All (λ a. IsRow a.row) self.now.committed.items }
+        requires pending { All IsRow self.now.pending.items }
+        ensures rows { IfOk result (λ v. v.items ≡ map (λ a. a.row) self.now.committed.items ++ self.now.pending.items) }
+        ensures valid { IfOk result (λ v. All IsRow v.items) }
+    {
+        let mut out = Vec::with_capacity(alloc, self.count())?;
+        for asked in self.committed.as_slice() {
+            out.push(asked.row.copy(alloc)?)?;
+        }
+        for row in self.pending.as_slice() {
+            out.push(row.copy(alloc)?)?;
+        }
+        Ok(out)
+    }
 }
 
 /// The pending deletes of the table of a name.
@@ -75,6 +102,20 @@ fn find_matches(
     let committed = kept_asked(alloc, keep, left.as_slice())?;
     let pending = kept_rows(alloc, keep, pending_rows(changes, name))?;
     Ok(Matched { committed, pending })
+}
+
+/// The pending rows of the table of a name on which some condition isn't true: those that a DELETE and an UPDATE leave as they are.
+pub fn rows_left(
+    alloc: Global,
+    changes: &Session,
+    name: &[u8],
+    keep: &[Expr],
+) -> Result<Vec<Row>, AllocError>
+    requires { All (λ e. is_narrow [] e ≡ true) keep.now }
+    ensures left { IfOk result (λ v. v.items ≡ filter (λ row. not (is_kept keep.now row)) (pending_rows name.now changes.now)) }
+    ensures valid { IfOk result (λ v. All IsRow v.items) }
+{
+    other_rows(alloc, keep, pending_rows(changes, name))
 }
 
 /// The rows of the table at a place that a session with these changes sees and on which all conditions are true. No file is blamed where the
