@@ -11,6 +11,7 @@ use Rattle.db_model.specs.Sound.{IsSound}
 use Rattle.store_commit.specs.Seen.{Seen, Stands}
 use Rattle.store_commit.specs.Making.{ReopensToEither, Makes}
 use Rattle.table_store.specs.Drawing.{FewContainers, DrawsOne}
+use Rattle.alike_laws.specs.Reordered.{AreAlikeSessions}
 use Rattle.store_core.specs.Running.{Running, running, IsState}
 use Rattle.store_core.specs.Events.{BeforeOrAfter, Does}
 
@@ -27,7 +28,7 @@ pub record Grown (state : State) (is : Seen) (parts : ℕ) : Type 0 where
 
 -- the sessions and the rest of a state that an event makes
 pub record Beside (made : State) (others : List (List Changes)) (own : ℕ) : Type 0 where
-  pub sessions : made.sessions ≡ others
+  pub sessions : AreAlikeSessions others made.sessions
   pub current : made.current ≡ own
   pub asked : made.asked ≡ []
   pub busy : made.busy ≡ 0

@@ -1,5 +1,5 @@
 -- The changes of all sessions dropped.
-use Rattle.std.proofs.Common.{◌≡◌, ◌≤◌, ◌+◌, ◌-◌, ◌++◌, ℕ, zero, suc, List, [], ◌∷◌, length, map, take, drop, set, refl, sym, ◌∙◌, ap, ap₂, append-nil, arith}
+use Rattle.std.proofs.Common.{◌≡◌, ◌≤◌, ◌+◌, ◌-◌, ◌++◌, ℕ, zero, suc, List, [], ◌∷◌, length, map, take, drop, set, refl, sym, ◌∙◌, ap, ap₂, subst, append-nil, arith}
 use Rattle.std.specs.List.{All, AllPairs}
 use Rattle.std.proofs.lemmas.List.{drop_all, length-map, take_all}
 use Rattle.std.proofs.lemmas.List.Elements.{All-cons, All-nil}
@@ -12,6 +12,8 @@ use Rattle.db_model.specs.State.{Changes, State}
 use Rattle.sound_laws.proofs.Pairs.{pairs_none}
 use Rattle.state_laws.proofs.Events.{no_changes}
 use Rattle.state_laws.proofs.Held.{none_together}
+use Rattle.alike_laws.specs.Reordered.{AreAlikeSessions}
+use Rattle.alike_laws.proofs.Changes.{as_many, none_alike, sessions_themselves}
 use Rattle.store_core.specs.Running.{Running, IsState}
 use Rattle.store_core.specs.Sessions.{eight_dropped, with_none}
 
@@ -79,7 +81,9 @@ all_eight sessions eight =
 pub all_dropped_stands : {D : Type 0} (disk : Ghosts D) (r : Running) (now : D) (state : State) → IsState disk r now state → IsState disk (with_none r) now (all_dropped state)
 all_dropped_stands disk r now state here = record {
   database = here.database;
-  sessions = all_eight state.sessions here.sound.eight ∙ ap eight_dropped here.sessions;
+  sessions =
+      subst (λ (ss : List (List Changes)). AreAlikeSessions ss (no_changes_of state.sessions)) (all_eight r.sessions (as_many r.sessions state.sessions here.sessions ∙ here.sound.eight))
+      (subst (AreAlikeSessions (no_changes_of r.sessions)) (none_alike r.sessions state.sessions here.sessions) (sessions_themselves (no_changes_of r.sessions)));
   current = here.current;
   asked = here.asked;
   next = here.next;

@@ -1,5 +1,5 @@
 -- The events of the tables, over a running store.
-use Rattle.std.proofs.Common.{◌≡◌, ◌+◌, ◌-◌, ℕ, List, [], filter, refl, sym, ◌∙◌, ap, ap₂, subst, arith}
+use Rattle.std.proofs.Common.{◌≡◌, ◌+◌, ◌-◌, ℕ, List, [], filter, refl, sym, ap, subst, arith}
 use Rattle.std.specs.Prelude.{Result, OnOk, not, slice_set, IsSomeAnd}
 use Rattle.std.specs.List.{slice_get, slice_index_or}
 use Rattle.std.proofs.lemmas.Result.{on_ok_weaker}
@@ -15,6 +15,8 @@ use Rattle.store_commit.specs.Seen.{Seen, Stands}
 use Rattle.store_commit.specs.Making.{Makes}
 use Rattle.table_store.specs.Creating.{created, dropped}
 use Rattle.table_store.specs.Drawing.{FewContainers, Draws, DrawsOne}
+use Rattle.alike_laws.specs.Reordered.{AreAlikeSessions}
+use Rattle.alike_laws.proofs.Changes.{changes_at, others_alike, set_alike}
 use Rattle.store_core.specs.Running.{Running, running, IsState}
 use Rattle.store_core.specs.Events.{Does}
 use Rattle.store_core.proofs.Doing.{numbered, Grown, drawn_does, grown_one}
@@ -61,8 +63,11 @@ create_does disk short {old} {new} was is sessions current now name columns resu
 
 -- ---- DROP TABLE
 
+abbrev own_others : List ℕ → List (List Changes) → ℕ → List Changes
+own_others name sessions current = filter (λ c. is_not_named name c.table) (slice_index_or sessions (current - 1) [])
+
 abbrev pub without_own : List ℕ → List (List Changes) → ℕ → List (List Changes)
-without_own name sessions current = slice_set sessions (current - 1) (filter (λ c. is_not_named name c.table) (slice_index_or sessions (current - 1) []))
+without_own name sessions current = slice_set sessions (current - 1) (own_others name sessions current)
 
 pub drop_does : {D F : Type 0} (disk : Ghosts D) (short : F) {old new : D} (was is : Seen) (sessions others : List (List Changes)) (current : ℕ) (now : Running) (table : ℕ) (name : List ℕ) (result : Result (Unit {0}) F) (state : State)
     → running was sessions current ≡ now → others ≡ without_own name sessions current → IsState disk now old state → IsSound (table_dropped name state)
@@ -76,7 +81,11 @@ drop_does disk short {old} {new} was is sessions others current now table name r
     (makes state.database name own.database (subst (λ (r : Running). IsSomeAnd (slice_get r.seen.catalogue.tables table) (λ t. t.name ≡ name)) (sym view) there))
     (grown_by_one result state was is own.next own.parts draws)
     (record {
-      sessions = ap₂ (without_own name) own.sessions own.current ∙ sym left;
+      sessions =
+          subst (λ (ss : List (List Changes)). AreAlikeSessions ss (without_own name state.sessions state.current)) (sym left)
+          (subst (λ (n : ℕ). AreAlikeSessions (without_own name sessions current) (without_own name state.sessions n)) (sym own.current)
+          (set_alike sessions state.sessions (current - 1) (own_others name sessions current) (own_others name state.sessions current) own.sessions
+          (others_alike name (slice_index_or sessions (current - 1) []) (slice_index_or state.sessions (current - 1) []) (changes_at sessions state.sessions (current - 1) own.sessions))));
       current = own.current;
       asked = ap (filter (λ n. not (is_of_table name state.database.tables n))) own.asked;
       busy = refl;

@@ -1,5 +1,7 @@
 pub mod Doing
 pub mod Sessions
+pub mod Reordered
+pub mod Changed
 pub mod Opening
 pub mod Asking
 pub mod Events
@@ -13,3 +15,4 @@ pub mod Ended
 pub mod Shaped
 pub mod Unshaped
 pub mod Planned
+pub mod Loaded

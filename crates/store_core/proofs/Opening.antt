@@ -1,5 +1,5 @@
 -- A store that was opened.
-use Rattle.std.proofs.Common.{◌≡◌, ◌+◌, ◌≤◌, ℕ, List, [], ◌∷◌, length, refl, sym, arith}
+use Rattle.std.proofs.Common.{◌≡◌, ◌+◌, ◌≤◌, ℕ, List, [], ◌∷◌, length, refl, sym, subst, arith}
 use Rattle.std.specs.List.{All}
 use Rattle.std.proofs.lemmas.List.Elements.{All-cons, All-nil, All-weaker}
 use Rattle.col_disk.specs.declared.disk.Disk.{Ghosts}
@@ -9,6 +9,8 @@ use Rattle.db_model.specs.Database.{Database}
 use Rattle.db_model.specs.State.{Changes, idle_sessions, opened_with}
 use Rattle.db_laws.proofs.Sounds.{opened_sound}
 use Rattle.store_commit.specs.Seen.{Seen, Stands}
+use Rattle.alike_laws.specs.Reordered.{AreAlikeSessions}
+use Rattle.alike_laws.proofs.Changes.{sessions_themselves}
 use Rattle.store_core.specs.Running.{running, IsState}
 
 abbrev HasFew : ℕ → Projection → Type 0
@@ -46,7 +48,7 @@ opened_is disk now s sessions d idle stands =
       most.0,
       record {
         database = stands;
-        sessions = sym idle;
+        sessions = subst (λ (ss : List (List Changes)). AreAlikeSessions ss idle_sessions) (sym idle) (sessions_themselves idle_sessions);
         current = refl;
         asked = refl;
         next = refl;

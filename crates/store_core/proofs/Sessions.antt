@@ -1,5 +1,5 @@
 -- What is done to the sessions, over a running store.
-use Rattle.std.proofs.Common.{◌≡◌, ◌-◌, inl, inr, ℕ, Bool, true, false, cond, List, [], refl, sym, ◌∙◌, ap, ap₂, subst}
+use Rattle.std.proofs.Common.{◌≡◌, ◌-◌, inl, inr, ℕ, Bool, true, false, cond, List, [], refl, sym, ◌∙◌, ap, subst}
 use Rattle.std.specs.Prelude.{Result, Ok, Err, OnOk, slice_set}
 use Rattle.std.specs.List.{slice_index_or}
 use Rattle.common_laws.specs.Maps.{Contents}
@@ -23,22 +23,32 @@ use Rattle.store_core.specs.Sessions.{own_of, with_own, with_pending, with_curre
 use Rattle.store_core.specs.Events.{BeforeOrAfter, Does}
 use Rattle.sound_laws.proofs.Committed.{committed_sound}
 use Rattle.state_laws.proofs.Events.{own_is_sound}
+use Rattle.alike_laws.specs.Reordered.{AreAlikeSessions}
+use Rattle.alike_laws.proofs.Changes.{Alike, changes_at, changes_turned, has_alike, rows_alike, set_alike}
+use Rattle.alike_laws.proofs.Committed.{committed_alike}
+use Rattle.alike_laws.proofs.Sound.{session_alike}
 use Rattle.store_core.proofs.Doing.{still}
+use Rattle.store_core.proofs.Reordered.{makes_reordered}
 
 abbrev pub own_at : List (List Changes) → ℕ → List Changes
 own_at sessions current = slice_index_or sessions (current - 1) []
 
 -- the current session's changes, in the store and in the state
-pub own_same : {D : Type 0} (disk : Ghosts D) (r : Running) (now : D) (state : State) → IsState disk r now state → own_changes state ≡ own_of r
-own_same disk r now state here = ap₂ own_at here.sessions here.current
+pub own_alike : {D : Type 0} (disk : Ghosts D) (r : Running) (now : D) (state : State) → IsState disk r now state → Alike (own_of r) (own_changes state)
+own_alike disk r now state here =
+    subst (λ (n : ℕ). Alike (own_of r) (own_at state.sessions n)) (sym here.current) (changes_at r.sessions state.sessions (r.current - 1) here.sessions)
 
 abbrev pub put_at : List Changes → List (List Changes) → ℕ → List (List Changes)
 put_at changes sessions current = slice_set sessions (current - 1) changes
 
-pub changed : {D : Type 0} (disk : Ghosts D) (r : Running) (now : D) (state : State) (mine own : List Changes) → mine ≡ own → IsState disk r now state → IsSound (with_changes mine state) → IsState disk (with_own own r) now (with_changes mine state)
-changed disk r now state mine own same here sound = record {
+put_alike : (sessions others : List (List Changes)) (current now : ℕ) (own mine : List Changes) → AreAlikeSessions sessions others → now ≡ current → Alike own mine → AreAlikeSessions (put_at own sessions current) (put_at mine others now)
+put_alike sessions others current now own mine alike same own_is =
+    subst (λ (n : ℕ). AreAlikeSessions (put_at own sessions current) (put_at mine others n)) (sym same) (set_alike sessions others (current - 1) own mine alike own_is)
+
+pub changed : {D : Type 0} (disk : Ghosts D) (r : Running) (now : D) (state : State) (own mine : List Changes) → Alike own mine → IsState disk r now state → IsSound (with_changes mine state) → IsState disk (with_own own r) now (with_changes mine state)
+changed disk r now state own mine same here sound = record {
   database = here.database;
-  sessions = ap₂ (put_at mine) here.sessions here.current ∙ ap (λ (cs : List Changes). put_at cs r.sessions r.current) same;
+  sessions = put_alike r.sessions state.sessions r.current state.current own mine here.sessions here.current same;
   current = here.current;
   asked = here.asked;
   next = here.next;
@@ -49,10 +59,10 @@ changed disk r now state mine own same here sound = record {
 
 pub pending_stands : {D : Type 0} (disk : Ghosts D) (r : Running) (now : D) (state : State) (name : List ℕ) (rows : List (List Value)) → IsState disk r now state → IsSound (rows_pending name rows state) → IsState disk (with_pending name rows r) now (rows_pending name rows state)
 pending_stands disk r now state name rows here sound =
-    changed disk r now state (with_rows name rows (own_changes state)) (with_rows name rows (own_of r)) (ap (with_rows name rows) (own_same disk r now state here)) here sound
+    changed disk r now state (with_rows name rows (own_of r)) (with_rows name rows (own_changes state)) (rows_alike name rows (own_of r) (own_changes state) (own_alike disk r now state here)) here sound
 
 pub dropped_stands : {D : Type 0} (disk : Ghosts D) (r : Running) (now : D) (state : State) → IsState disk r now state → IsSound (changes_dropped state) → IsState disk (with_own [] r) now (changes_dropped state)
-dropped_stands disk r now state here sound = changed disk r now state [] [] refl here sound
+dropped_stands disk r now state here sound = changed disk r now state [] [] tt here sound
 
 pub current_stands : {D : Type 0} (disk : Ghosts D) (r : Running) (now : D) (state : State) (n : ℕ) → IsState disk r now state → IsSound (record state { current = n }) → IsState disk (with_current n r) now (record state { current = n })
 current_stands disk r now state n here sound = record {
@@ -77,7 +87,7 @@ closed : {D : Type 0} (disk : Ghosts D) (now : D) (was is : Seen) (sessions : Li
     → IsState disk (running is (put_at [] sessions current) current) now (with_changes [] (record state { database = committed (own_changes state) state.database }))
 closed disk now was is sessions current old state n here catalogue stands sound = record {
   database = stands;
-  sessions = ap₂ (put_at []) here.sessions here.current;
+  sessions = put_alike sessions state.sessions current state.current [] [] here.sessions here.current tt;
   current = here.current;
   asked = here.asked;
   next = here.next ∙ sym (ap (λ (c : Catalogue). c.next) catalogue);
@@ -112,10 +122,10 @@ commit_does {D} disk {old} {new} was is sessions current result state n here has
     either x (inl before) = inl before
     either x (inr after) = inr (whole, sym is_whole, after)
 
-abbrev done_so : Result (Unit {0}) StoreFault
+abbrev pub done_so : Result (Unit {0}) StoreFault
 done_so = Ok tt
 
-abbrev short_of : Result (Unit {0}) StoreFault
+abbrev pub short_of : Result (Unit {0}) StoreFault
 short_of = Err fault.Memory
 
 -- one that closes none
@@ -123,7 +133,7 @@ pub idle_does : {D : Type 0} (disk : Ghosts D) (now : D) (was : Seen) (sessions 
     → IsState disk (running was sessions current) now state → has_changes (own_changes state) ≡ false → IsSound (changes_committed state)
     → Does disk fault.Memory (running was sessions current) (running was (put_at [] sessions current) current) now now done_so state (λ after. after ≡ changes_committed state)
 idle_does {D} disk now was sessions current state here none sound = record {
-  done = (with_changes [] state, sym same, changed disk (running was sessions current) now state [] [] refl here (subst IsSound same sound));
+  done = (with_changes [] state, sym same, changed disk (running was sessions current) now state [] [] tt here (subst IsSound same sound));
   undone = λ wants. absurd (cc);
   any_moment = leaves_wider disk (λ x reopens. either x reopens) quiet.any_moment;
 }
@@ -140,7 +150,7 @@ idle_does {D} disk now was sessions current state here none sound = record {
 
 -- ---- over a store as it is seen
 
-own_view : {D : Type 0} (disk : Ghosts D) (old : D) (r now : Running) (state : State) → r ≡ now → IsState disk now old state → IsState disk r old state
+pub own_view : {D : Type 0} (disk : Ghosts D) (old : D) (r now : Running) (state : State) → r ≡ now → IsState disk now old state → IsState disk r old state
 own_view disk old r now state view here = subst (λ (x : Running). IsState disk x old state) (sym view) here
 
 pub commit_at : {D : Type 0} (disk : Ghosts D) {old new : D} (was is : Seen) (sessions others : List (List Changes)) (current : ℕ) (now : Running) (result : Result (Unit {0}) StoreFault) (state : State) (changes : List Changes) (n : ℕ)
@@ -150,28 +160,31 @@ pub commit_at : {D : Type 0} (disk : Ghosts D) {old new : D} (was is : Seen) (se
 commit_at {D} disk {old} {new} was is sessions others current now result state changes n view mine has here sound left makes catalogue =
     subst (λ (r : Running). Does disk fault.Memory r (running is others current) old new result state (λ after. after ≡ changes_committed state)) view
     (subst (λ (ss : List (List Changes)). Does disk fault.Memory (running was sessions current) (running is ss current) old new result state (λ after. after ≡ changes_committed state)) (sym left)
-    (commit_does disk was is sessions current result state n own (ap has_changes (sym same) ∙ has) made catalogue sound))
+    (commit_does disk was is sessions current result state n own (sym (has_alike changes (own_changes state) alike) ∙ has) made catalogue sound))
   where
     own : IsState disk (running was sessions current) old state
     own = own_view disk old (running was sessions current) now state view here
 
-    same : changes ≡ own_changes state
-    same = mine ∙ sym (own_same disk (running was sessions current) old state own)
+    alike : Alike changes (own_changes state)
+    alike = subst (λ (cs : List Changes). Alike cs (own_changes state)) (sym mine) (own_alike disk (running was sessions current) old state own)
 
     session : IsSoundSession state.database (own_changes state)
     session = own_is_sound state own.sound
 
+    its : IsSoundSession state.database changes
+    its = session_alike state.database (own_changes state) changes (changes_turned changes (own_changes state) alike) session
+
     made : Makes disk fault.Memory was is old new result state.database (committed (own_changes state) state.database)
     made =
-        subst (λ (cs : List Changes). Makes disk fault.Memory was is old new result state.database (committed cs state.database)) same
-        (makes state.database own.database (subst (IsSoundSession state.database) (sym same) session) has
-        (subst (λ (cs : List Changes). IsSoundDatabase (committed cs state.database)) (sym same) (committed_sound state.database (own_changes state) own.sound.database session)))
+        makes_reordered disk was is result state.database (committed changes state.database) (committed (own_changes state) state.database) (committed_alike state.database changes (own_changes state) own.sound.database its alike)
+        (committed_sound state.database (own_changes state) own.sound.database session)
+        (makes state.database own.database its has (committed_sound state.database changes own.sound.database its))
 
 pub idle_at : {D : Type 0} (disk : Ghosts D) (old : D) (was : Seen) (sessions others : List (List Changes)) (current : ℕ) (now : Running) (state : State) (changes : List Changes) → running was sessions current ≡ now → changes ≡ own_at sessions current → has_changes changes ≡ false
     → IsState disk now old state → IsSound (changes_committed state) → others ≡ put_at [] sessions current → Does disk fault.Memory now (running was others current) old old done_so state (λ after. after ≡ changes_committed state)
 idle_at disk old was sessions others current now state changes view mine none here sound left =
     let own = own_view disk old (running was sessions current) now state view here in
-    let same : changes ≡ own_changes state = mine ∙ sym (own_same disk (running was sessions current) old state own) in
+    let alike : Alike changes (own_changes state) = subst (λ (cs : List Changes). Alike cs (own_changes state)) (sym mine) (own_alike disk (running was sessions current) old state own) in
     subst (λ (r : Running). Does disk fault.Memory r (running was others current) old old done_so state (λ after. after ≡ changes_committed state)) view
     (subst (λ (ss : List (List Changes)). Does disk fault.Memory (running was sessions current) (running was ss current) old old done_so state (λ after. after ≡ changes_committed state)) (sym left)
-    (idle_does disk old was sessions current state own (ap has_changes (sym same) ∙ none) sound))
+    (idle_does disk old was sessions current state own (sym (has_alike changes (own_changes state) alike) ∙ none) sound))

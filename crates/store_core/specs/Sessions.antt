@@ -2,7 +2,10 @@
 use Rattle.std.specs.Prelude.{ℕ, ◌-◌, ◌++◌, List, [], map, take, drop, slice_set}
 use Rattle.std.specs.List.{slice_index_or}
 use Rattle.col_value.specs.declared.value.Value.{Value}
+use Rattle.col_value.specs.declared.row.Asked.{Asked}
+use Rattle.db_model.specs.Events.{change_of}
 use Rattle.db_model.specs.State.{Changes, with_rows}
+use Rattle.txn_core.specs.Marking.{marked}
 use Rattle.store_core.specs.Running.{Running}
 
 -- the current session's changes
@@ -16,6 +19,10 @@ with_own changes r = record r { sessions = slice_set r.sessions (r.current - 1) 
 -- rows join the current session's pending rows of a table
 abbrev pub with_pending : List ℕ → List (List Value) → Running → Running
 with_pending name rows r = with_own (with_rows name rows (own_of r)) r
+
+-- these are the current session's pending rows of a table, these deletes join its others, and it holds the table in mode X
+abbrev pub with_marked : List ℕ → List (List Value) → List Asked → Running → Running
+with_marked name rows deletes r = with_own (change_of name (marked rows deletes) (own_of r)) r
 
 -- another session is the current one
 abbrev pub with_current : ℕ → Running → Running

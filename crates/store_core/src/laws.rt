@@ -1,13 +1,18 @@
 //! Laws of a running store, over any disk.
 
-ghost use Rattle.std.specs.Prelude.{ℕ, ◌≡◌, ◌≤◌, ◌<◌, [], false, length, List, None, Some, IsSomeAnd};
+ghost use Rattle.std.specs.Prelude.{ℕ, Bool, ◌≡◌, ◌≤◌, ◌<◌, ◌++◌, [], false, not, filter, length, List, None, Some, IsSomeAnd};
 ghost use Rattle.std.specs.List.{All, slice_get};
 ghost use Rattle.col_value.specs.declared.value.Value.{Value};
 ghost use Rattle.db_model.specs.Database.{Table, table_named};
-ghost use Rattle.db_model.specs.State.{State};
-ghost use Rattle.db_model.specs.Events.{changes_dropped, rows_pending};
-ghost use Rattle.db_model.specs.Refusals.{locked};
-ghost use Rattle.db_model.specs.Sound.{IsSoundDatabase, RowFits};
+ghost use Rattle.common_laws.specs.Bags.{SameBag};
+ghost use Rattle.col_value.specs.declared.row.Asked.{Asked};
+ghost use Rattle.sql_bound.specs.declared.expr.Expr.{Expr};
+ghost use Rattle.sql_bound.specs.Outputs.{is_kept};
+ghost use Rattle.row_matching.specs.Matching.{committed_matches};
+ghost use Rattle.db_model.specs.State.{State, own_changes, pending_rows};
+ghost use Rattle.db_model.specs.Events.{changes_dropped, rows_marked, rows_pending};
+ghost use Rattle.db_model.specs.Refusals.{load_refusal, locked};
+ghost use Rattle.db_model.specs.Sound.{IsSound, IsSoundDatabase, RowFits};
 ghost use Rattle.sql_tree.specs.declared.statement.Statement.{Statement};
 ghost use Rattle.sql_tree.specs.declared.statement.NewProjection.{NewProjection};
 ghost use Rattle.change_binder.specs.declared.projections.ProjectionShape.{ProjectionShape};
@@ -16,9 +21,10 @@ ghost use Rattle.statement_plan.specs.Planned.{early_refusal, IsPlanned};
 ghost use Rattle.statement_plan.specs.declared.plans.Plan.{Plan};
 ghost use Rattle.store_core.specs.Running.{Running, IsState, frame_of};
 ghost use Rattle.db_model.specs.Epochs.{last_good};
+ghost use Rattle.db_model.specs.Loading.{Load};
 ghost use Rattle.db_model.specs.Mover.{MovesAll};
 ghost use Rattle.db_model.specs.Run.{all_dropped};
-ghost use Rattle.store_core.specs.Sessions.{with_current, with_none, with_own, with_pending};
+ghost use Rattle.store_core.specs.Sessions.{own_of, with_current, with_marked, with_none, with_own, with_pending};
 
 use col_disk::Disk;
 use state_laws::{changes_may_be_dropped, pending_rows_are_sound, sessions_may_change};
@@ -31,6 +37,14 @@ pub fn pending_rows_stand<D: Disk>()
 {
     pending_rows_are_sound();
 }
+
+/// Where the matched rows of a table are taken from the current session's pending rows and join its pending deletes, and rows that an UPDATE
+/// makes of them become pending, in any order, the store is the state in which they are changed so.
+pub fn changed_rows_stand<D: Disk>()
+    ensures { (disk : D) (r : Running) (state : State) (keep : List Expr) (t : Table) (left made news : List (List Value)) (deletes : List Asked) → IsState ⟦<D as Disk>⟧ r disk state
+        → left ≡ filter (λ row. not (is_kept keep row)) (pending_rows t.name (own_of r)) → SameBag made news → SameBag deletes (committed_matches keep state.database.last (own_changes state) t) → IsSound (rows_marked keep news t state)
+        → IsState ⟦<D as Disk>⟧ (with_marked t.name (left ++ made) deletes r) disk (rows_marked keep news t state) }
+{}
 
 /// Where the current session's changes are dropped, the store is the state without them.
 pub fn rollbacks_stand<D: Disk>()
@@ -57,6 +71,8 @@ pub fn frames_are_of_the_state<D: Disk>()
     ensures bare { (disk : D) (r : Running) (state : State) → IsState ⟦<D as Disk>⟧ r disk state → IsBare (frame_of r) state }
     ensures plan { (disk : D) (r : Running) (state : State) (s : Statement) (plan : Plan) → IsState ⟦<D as Disk>⟧ r disk state → IsPlanned (frame_of r) s plan → IsPlanned state s plan }
     ensures refusal { (disk : D) (r : Running) (state : State) (s : Statement) → IsState ⟦<D as Disk>⟧ r disk state → early_refusal (frame_of r) s ≡ early_refusal state s }
+    ensures lock { (disk : D) (r : Running) (state : State) (name : List ℕ) (want : Bool) → IsState ⟦<D as Disk>⟧ r disk state → locked (frame_of r) name want ≡ locked state name want }
+    ensures load { (disk : D) (r : Running) (state : State) (name : List ℕ) (load : Load) → IsState ⟦<D as Disk>⟧ r disk state → load_refusal (frame_of r) name load ≡ load_refusal state name load }
 {
     catalogues_give_frames();
     rows_decide_nothing_here();

@@ -10,7 +10,8 @@ mod laws;
 mod store;
 
 pub use laws::{
-    all_moved_reach_the_last_epoch, all_rollbacks_stand, frames_are_of_the_state,
-    pending_rows_stand, planned_projections_have_places, rollbacks_stand, sessions_stand,
+    all_moved_reach_the_last_epoch, all_rollbacks_stand, changed_rows_stand,
+    frames_are_of_the_state, pending_rows_stand, planned_projections_have_places, rollbacks_stand,
+    sessions_stand,
 };
 pub use store::Store;
