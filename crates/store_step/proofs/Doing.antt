@@ -1,7 +1,7 @@
 -- The statements that call the disk.
-use Rattle.std.proofs.Common.{◌≡◌, ℕ, suc, ◌+◌, ◌-◌, inl, inr, List, [], ◌∷◌, Bool, true, false, cond, map, refl, sym, subst, ap₂, arith}
+use Rattle.std.proofs.Common.{◌≡◌, ℕ, suc, ◌+◌, inl, inr, List, [], ◌∷◌, Bool, true, false, cond, map, refl, sym, subst, ap₂, arith}
 use Rattle.std.specs.Prelude.{Option, Some, None, Result, Ok, Err, IfOk, IfErr, OnOk, IsErrOf, IsSomeAnd, option_map, find, bytes_eq, codes}
-use Rattle.std.specs.List.{slice_get, slice_index_or, enumerate_from}
+use Rattle.std.specs.List.{slice_get, enumerate_from}
 use Rattle.std.proofs.lemmas.Slice.Eq.{bytes_eq-Decides}
 use Rattle.common_laws.specs.Causes.{HasCause}
 use Rattle.col_disk.specs.Moved.{Leaves}
@@ -25,7 +25,7 @@ use Rattle.sql_bound.specs.Outputs.{IsSumTooGreat}
 use Rattle.sql_binding.specs.Firsts.{first_of}
 use Rattle.db_model.specs.Answers.{commit_line, listing_text}
 use Rattle.db_model.specs.Database.{Table}
-use Rattle.db_model.specs.State.{State, Changes, own_changes, has_changes}
+use Rattle.db_model.specs.State.{State, own_changes, has_changes}
 use Rattle.db_model.specs.Sound.{IsSound, IsSoundDatabase}
 use Rattle.db_model.specs.Epochs.{last_good, cut}
 use Rattle.db_model.specs.Events.{table_created, table_dropped, projection_created, projection_dropped, changes_committed}
@@ -43,6 +43,8 @@ use Rattle.statement_plan.specs.Planned.{select_refusal, IsBoundIn}
 use Rattle.table_store.specs.Faults as table
 use Rattle.store_commit.specs.Seen.{Stands}
 use Rattle.store_core.specs.Asking.{IsAsked}
+use Rattle.alike_laws.proofs.Changes.{has_alike}
+use Rattle.store_core.proofs.Sessions.{own_alike}
 use Rattle.store_core.specs.Running.{Running, IsState}
 use Rattle.store_core.specs.Sessions.{own_of}
 use Rattle.store_core.specs.Cuts.{CutBeforeOrAfter}
@@ -123,12 +125,9 @@ stands_at name ts place is =
 -- what a COMMIT prints over a store
 pub commit_says : {D : Type 0} (disk : Ghosts D) (r : Running) (now : D) (state : State) (a : Answer) → IsState disk r now state → Says (cond (has_changes (own_of r)) (commit_line (r.seen.catalogue.last + 1)) (codes "COMMIT\n")) a → Says (commit_text state) a
 commit_says disk r now state a here says =
-    let own : own_of r ≡ own_changes state = sym (ap₂ own_at here.sessions here.current) in
+    let has : has_changes (own_of r) ≡ has_changes (own_changes state) = has_alike (own_of r) (own_changes state) (own_alike disk r now state here) in
     let last : r.seen.catalogue.last ≡ state.database.last = sym here.database.are.last in
-    subst (λ (t : List ℕ). Says t a) (ap₂ (λ (cs : List Changes) (n : ℕ). cond (has_changes cs) (commit_line (n + 1)) (codes "COMMIT\n")) own last) says
-  where
-    own_at : List (List Changes) → ℕ → List Changes
-    own_at sessions current = slice_index_or sessions (current - 1) []
+    subst (λ (t : List ℕ). Says t a) (ap₂ (λ (b : Bool) (n : ℕ). cond b (commit_line (n + 1)) (codes "COMMIT\n")) has last) says
 
 pub committed_event : (state : State) (files : Files) → commit_refusal state ≡ None → IsSound state → IsSound (changes_committed state) → Event state files Statement.Commit (commit_text state) (λ new. new ≡ changes_committed state)
 committed_event state files accepted sound made = record {

@@ -47,10 +47,10 @@ second_none (Some x) b is = absurd (cc)
 
 -- ---- INSERT
 
-abbrev second : ℕ × Table → Table
+abbrev pub second : ℕ × Table → Table
 second e = e.1
 
-named_from : (name : List ℕ) (i : ℕ) (ts : List Table) → find (λ (t : Table). bytes_eq t.name name) ts ≡ option_map second (find (λ (e : ℕ × Table). bytes_eq e.1.name name) (enumerate_from i ts))
+pub named_from : (name : List ℕ) (i : ℕ) (ts : List Table) → find (λ (t : Table). bytes_eq t.name name) ts ≡ option_map second (find (λ (e : ℕ × Table). bytes_eq e.1.name name) (enumerate_from i ts))
 named_from name i [] = refl
 named_from name i (t ∷ ts) = by (bytes_eq t.name name) (named_from name (i + 1) ts)
   where

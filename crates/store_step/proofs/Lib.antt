@@ -5,3 +5,5 @@ mod Doing
 mod Held
 mod Moved
 mod Served
+mod Rows
+mod Copied

@@ -21,9 +21,9 @@ is_served (Statement.CreateProjection p) = true
 is_served (Statement.DropTable name) = true
 is_served (Statement.DropProjection name) = true
 is_served (Statement.Insert i) = true
-is_served (Statement.Delete d) = false
-is_served (Statement.Update u) = false
-is_served (Statement.Copy table file) = false
+is_served (Statement.Delete d) = true
+is_served (Statement.Update u) = true
+is_served (Statement.Copy table file) = true
 is_served Statement.Commit = true
 is_served Statement.Rollback = true
 is_served (Statement.Select at q) = true
@@ -31,3 +31,8 @@ is_served (Statement.Explain q) = true
 is_served (Statement.Call f) = is_served_call f
 is_served (Statement.Session n) = true
 is_served Statement.Step = true
+
+-- the form that looks at a load file
+abbrev pub is_copy : Statement → Bool
+is_copy (Statement.Copy table file) = true
+is_copy s = false

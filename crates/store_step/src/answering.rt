@@ -4,11 +4,12 @@ ghost use Rattle.std.specs.Prelude.{◌≡◌, IfErr, IfOk};
 ghost use Rattle.db_model.specs.Answers.{listing_text};
 ghost use Rattle.col_disk.specs.Faults.{store_fault};
 ghost use Rattle.store_step.specs.Arms.{of_memory, of_text, stopped_or, told};
-ghost use Rattle.store_step.specs.Texts.{IsMade, IsMissed, Refused, Says};
+ghost use Rattle.store_step.specs.Texts.{IsMade, IsMissed, IsUnplanned, Refused, Says};
 
 use crate::answer::{Answer, StepFault};
 use col_disk::{DiskFault, StoreFault};
 use col_value::WideRow;
+use name_binder::BindFault;
 use sql_tree::Refusal;
 use statement_text::listing;
 use std::alloc::{AllocError, Global};
@@ -24,6 +25,16 @@ pub fn refused(alloc: Global, refusal: Refusal) -> Result<Answer, AllocError>
         text,
         refusal: Some(refusal),
     })
+}
+
+/// The ERROR line of a statement that is refused for what it says.
+pub fn unplanned(alloc: Global, fault: BindFault) -> Result<Answer, AllocError>
+    ensures { IsUnplanned fault result }
+{
+    match fault {
+        BindFault::Refused(refusal) => refused(alloc, refusal),
+        BindFault::Memory => Err(AllocError),
+    }
 }
 
 /// The list of a query's rows.

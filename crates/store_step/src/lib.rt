@@ -8,8 +8,10 @@
 
 mod answer;
 mod answering;
+mod changing;
 mod events;
 mod holding;
+mod loading;
 mod moving;
 mod reading;
 mod shaping;

@@ -1,24 +1,28 @@
 //! A statement text, read, planned, done and printed.
 
-ghost use Rattle.std.specs.Prelude.{◌≡◌, ◌≤◌, Some, true, IfErr, IfOk, IsErrOf};
+ghost use Rattle.std.specs.Prelude.{ℕ, ◌≡◌, ◌≤◌, false, true, List as Items, Some, IfErr, IfOk, IsErrOf};
 ghost use Rattle.common_laws.specs.Causes.{HasCause, Rose};
 ghost use Rattle.db_model.specs.Loading.{Files as LoadFiles};
 ghost use Rattle.db_model.specs.State.{State};
 ghost use Rattle.name_binder.specs.Refusing.{RefusesBy};
+ghost use Rattle.sql_tree.specs.Spells.{Spells};
+ghost use Rattle.sql_words.specs.Symbols.{symbols_of};
 ghost use Rattle.sql_tree.specs.declared.statement.Statement.{Statement as AStatement};
 ghost use Rattle.statement_plan.specs.Planned.{early_refusal, IsPlanned};
 ghost use Rattle.store_core.specs.Running.{frame_of, IsState};
-ghost use Rattle.store_step.specs.Arms.{of_text, Answers};
-ghost use Rattle.store_step.specs.Forms.{is_served, is_served_call};
+ghost use Rattle.store_step.specs.Arms.{Answers};
+ghost use Rattle.store_step.specs.Forms.{is_copy, is_served, is_served_call};
 ghost use Rattle.store_step.specs.Steps.{Steps};
-ghost use Rattle.store_step.specs.Texts.{HasRange, IsUnplanned};
+ghost use Rattle.store_step.specs.Texts.{HasRange};
 
 use crate::answer::{Answer, StepFault};
-use crate::answering::{in_memory, of_text, refused};
+use crate::answering::{in_memory, of_text, refused, unplanned};
+use crate::changing::{delete_rows, update_rows};
 use crate::events::{commit, create_table, drop_table, select};
 use crate::holding::{
     ahm_epoch, current_epoch, explain_query, insert_rows, last_good_epoch, roll_back, use_session,
 };
+use crate::loading::copy;
 use crate::moving::{moveout, step_mover};
 use crate::reading::{Reading, is_served, read_statement};
 use crate::shaping::{create_projection, drop_projection};
@@ -53,7 +57,7 @@ fn call<D: Disk>(
     }
 }
 
-/// Does what a statement does that isn't refused for what it says, and answers what it prints.
+/// Does what a statement does that isn't refused for what it says and looks at no load file, and answers what it prints.
 fn perform<D: Disk>(
     alloc: Global,
     store: &mut Store,
@@ -62,6 +66,7 @@ fn perform<D: Disk>(
     disk: &mut D,
 ) -> Result<Answer, StoreFault>
     requires served { is_served statement ≡ true }
+    requires file { is_copy statement ≡ false }
     requires range { HasRange statement }
     requires planned { IsPlanned (frame_of store.old) statement plan }
     ensures answers { (files : LoadFiles) (state : State) → IsState ⟦<D as Disk>⟧ store.old disk.old state
@@ -85,6 +90,12 @@ fn perform<D: Disk>(
         }
         (Statement::Insert(insert), Plan::Insert(rows)) => {
             in_memory(insert_rows::<D>(alloc, store, &insert, rows))
+        }
+        (Statement::Delete(delete), Plan::Delete(place, bound)) => {
+            delete_rows(alloc, store, &delete, place, &bound, disk)
+        }
+        (Statement::Update(update), Plan::Update(place, bound)) => {
+            update_rows(alloc, store, &update, place, &bound, disk)
         }
         (Statement::Commit, _) => commit(alloc, store, disk),
         (Statement::Rollback, _) => in_memory(roll_back::<D>(alloc, store)),
@@ -110,17 +121,7 @@ fn plan(alloc: Global, store: &Store, statement: &Statement) -> Result<Plan, Bin
     make_plan(alloc, &store.frame(), statement)
 }
 
-/// The ERROR line of a statement that is refused for what it says.
-fn unplanned(alloc: Global, fault: BindFault) -> Result<Answer, AllocError>
-    ensures { IsUnplanned fault result }
-{
-    match fault {
-        BindFault::Refused(refusal) => refused(alloc, refusal),
-        BindFault::Memory => Err(AllocError),
-    }
-}
-
-/// Runs a statement of a form that is served.
+/// Runs a statement of a form that is served and looks at no load file.
 fn answer_served<D: Disk>(
     alloc: Global,
     store: &mut Store,
@@ -128,6 +129,7 @@ fn answer_served<D: Disk>(
     disk: &mut D,
 ) -> Result<Answer, StoreFault>
     requires served { is_served statement ≡ true }
+    requires file { is_copy statement ≡ false }
     requires range { HasRange statement }
     ensures answers { (files : LoadFiles) (state : State) → IsState ⟦<D as Disk>⟧ store.old disk.old state
         → Answers ⟦<D as Disk>⟧ files statement store.new disk.old disk.new result state }
@@ -142,14 +144,15 @@ fn answer_served<D: Disk>(
     }
 }
 
-/// Runs a statement.
+/// Runs a statement that looks at no load file.
 fn answer<D: Disk>(
     alloc: Global,
     store: &mut Store,
     statement: Statement,
     disk: &mut D,
 ) -> Result<Answer, StoreFault>
-    requires { HasRange statement }
+    requires file { is_copy statement ≡ false }
+    requires range { HasRange statement }
     ensures answers { (files : LoadFiles) (state : State) → IsState ⟦<D as Disk>⟧ store.old disk.old state
         → Answers ⟦<D as Disk>⟧ files statement store.new disk.old disk.new result state }
     ensures cause { HasCause StoreFault.Disk (D.faults disk.old) (D.faults disk.new) result }
@@ -162,22 +165,24 @@ fn answer<D: Disk>(
     }
 }
 
-/// Runs a statement text.
-fn run_text<D: Disk>(
+/// Runs a statement.
+fn run<F: Files, D: Disk>(
     alloc: Global,
     store: &mut Store,
-    text: &[u8],
+    statement: Statement,
+    files: &mut F,
     disk: &mut D,
-) -> Result<Answer, StoreFault>
-    ensures steps { (there : LoadFiles) (state : State) → IsState ⟦<D as Disk>⟧ store.old disk.old state
-        → Steps ⟦<D as Disk>⟧ there text.now store.new disk.old disk.new (of_text result) state }
-    ensures cause { HasCause StoreFault.Disk (D.faults disk.old) (D.faults disk.new) result }
+) -> Result<Answer, StepFault>
+    requires { HasRange statement }
+    ensures steps { (text : Items ℕ) (there : LoadFiles) (state : State) → Spells (symbols_of text) statement → F.content files.old ≡ Some there → IsState ⟦<D as Disk>⟧ store.old disk.old state
+        → Steps ⟦<D as Disk>⟧ there text store.new disk.old disk.new result state }
+    ensures content { F.content files.new ≡ F.content files.old }
+    ensures read { HasCause StepFault.Read (F.faults files.old) (F.faults files.new) result }
+    ensures cause { HasCause StepFault.Disk (D.faults disk.old) (D.faults disk.new) result }
 {
-    every_image_reopens::<D>();
-    match read_statement(alloc, text) {
-        Ok(Reading::Says(statement)) => answer(alloc, store, statement, disk),
-        Ok(Reading::Wrong(place)) => in_memory(refused(alloc, Refusal::Syntax(place))),
-        Err(AllocError) => Err(StoreFault::Memory),
+    match statement {
+        Statement::Copy(table, file) => copy(alloc, store, &table, &file, files, disk),
+        statement => of_text(answer(alloc, store, statement, disk)),
     }
 }
 
@@ -196,6 +201,10 @@ pub fn step<F: Files, D: Disk>(
     ensures read { IsErrOf result StepFault.Read → Rose (F.faults files.old) (F.faults files.new) }
     ensures cause { HasCause StepFault.Disk (D.faults disk.old) (D.faults disk.new) result }
 {
-    let _ = &*files;
-    of_text(run_text(alloc, store, text, disk))
+    every_image_reopens::<D>();
+    match read_statement(alloc, text) {
+        Ok(Reading::Says(statement)) => run(alloc, store, statement, files, disk),
+        Ok(Reading::Wrong(place)) => of_text(in_memory(refused(alloc, Refusal::Syntax(place)))),
+        Err(AllocError) => Err(StepFault::Memory),
+    }
 }

@@ -43,6 +43,18 @@ returns-in-Insert-Insert-clause-answers g c = λ files state here.
     let planned : IsPlanned state s (Plan.Insert c.in-Insert-Insert.rows) = rw (c.in-Insert-Insert.is-0, c.in-Insert-Insert.is-1) at all in
     memory_answers g.D.Disk files c.args.statement s c.insert_rows.new.store c.args.disk.now c.insert_rows.result c.in_memory.result state is c.in_memory.ensures here.sound.database (c.every_image_reopens.ensures c.args.store.now.seen.catalogue c.args.store.now.seen.stores c.args.disk.now state.database here.database) (c.insert_rows.ensures files c.args.disk.now state here planned.of.0 planned.accepted)
 
+pub returns-in-Delete-Delete-clause-answers : goal.returns-in-Delete-Delete-clause-answers
+returns-in-Delete-Delete-clause-answers g c = λ files state here.
+    let s = Statement.Delete c.in-Delete-Delete.delete in
+    let is : c.args.statement ≡ s = search rules in
+    same_answers g.D.Disk files c.args.statement s c.delete_rows.new.store c.delete_rows.result state is (c.delete_rows.ensures.answers files state here)
+
+pub returns-in-Update-Update-clause-answers : goal.returns-in-Update-Update-clause-answers
+returns-in-Update-Update-clause-answers g c = λ files state here.
+    let s = Statement.Update c.in-Update-Update.update in
+    let is : c.args.statement ≡ s = search rules in
+    same_answers g.D.Disk files c.args.statement s c.update_rows.new.store c.update_rows.result state is (c.update_rows.ensures.answers files state here)
+
 pub returns-in-Commit-default-clause-answers : goal.returns-in-Commit-default-clause-answers
 returns-in-Commit-default-clause-answers g c = λ files state here.
     let s = Statement.Commit in

@@ -1,0 +1,45 @@
+use Rattle.std.proofs.Common.{◌≡◌, [], true, List, subst, sym}
+use Rattle.std.specs.Prelude.{Result}
+use Rattle.std.specs.List.{All}
+use Rattle.col_disk.specs.declared.disk.StoreFault.{StoreFault}
+use Rattle.col_disk.proofs.Moving.{moved_still}
+use Rattle.sql_bound.specs.declared.expr.Expr.{Expr}
+use Rattle.sql_bound.specs.Bounds.{is_narrow}
+use Rattle.sql_tree.specs.declared.statement.Statement.{Statement}
+use Rattle.db_model.specs.State.{own_changes}
+use Rattle.row_matching.specs.Matching.{AreMatches}
+use Rattle.statement_plan.specs.declared.plans.Plan.{Plan}
+use Rattle.store_step.specs.declared.answer.Answer.{Answer}
+use Rattle.store_step.specs.Arms.{Answers}
+use Rattle.store_step.proofs.Rows.{read_answers, unread_answers, update_matches}
+use Rattle.store_step.proofs.Doing.{stays_state}
+use Rattle.store_step.proofs.changing.update_rows.Goals as goal
+
+pub matches-requires : goal.matches-requires
+matches-requires g c = subst (All (λ e. is_narrow [] e ≡ true)) (sym c.as_slice.ensures) c.requires.of.rows.keep
+
+pub returns-in-Err-clause-answers : goal.returns-in-Err-clause-answers
+returns-in-Err-clause-answers g c = λ files state here.
+    let r = c.args.store.now in
+    let moved = moved_still g.D.Disk c.matches.ensures.moved in
+    let stands = c.other_files_move.ensures c.args.disk.now c.matches.new.disk r.seen.catalogue r.seen.stores state.database here.database moved in
+    let leaves = c.moving_files_reopen.ensures c.args.disk.now c.matches.new.disk r.seen.catalogue r.seen.stores state.database here.database moved in
+    unread_answers g.D.Disk files (Statement.Update c.args.update.now) r c.in-Err.fault state here.sound.database leaves (stays_state g.D.Disk r c.args.disk.now c.matches.new.disk state here stands) (c.in-Err.ensures.unblamed state here)
+
+pub returns-clause-answers : goal.returns-clause-answers
+returns-clause-answers g c = λ files state here.
+    let r = c.args.store.now in
+    let u = c.args.update.now in
+    let b = c.args.bound.now in
+    let planned = c.frames_are_of_the_state.ensures.plan c.args.disk.now r state (Statement.Update u) (Plan.Update c.args.place b) here c.requires in
+    let moved = moved_still g.D.Disk c.matches.ensures.moved in
+    let stands = c.other_files_move.ensures c.args.disk.now c.matches.new.disk r.seen.catalogue r.seen.stores state.database here.database moved in
+    let leaves = c.moving_files_reopen.ensures c.args.disk.now c.matches.new.disk r.seen.catalogue r.seen.stores state.database here.database moved in
+    let there = stays_state g.D.Disk r c.args.disk.now c.matches.new.disk state here stands in
+    let committed = c.in-Ok.matched.committed.items in
+    let pending = c.in-Ok.matched.pending.items in
+    let found : AreMatches b.rows.keep state.database (own_changes state) c.args.place committed pending =
+    subst (λ (k : List Expr). AreMatches k state.database (own_changes state) c.args.place committed pending) c.as_slice.ensures (c.in-Ok.ensures.matched state here) in
+    let matches = update_matches state u c.args.place b committed pending planned.of found in
+    subst (λ (o : Result Answer StoreFault). Answers g.D.Disk files (Statement.Update u) c.update_matched.new.store c.args.disk.now c.matches.new.disk o state) (sym c.in_memory.ensures)
+    (read_answers g.D.Disk files (Statement.Update u) c.update_matched.new.store c.update_matched.result state here.sound.database leaves (c.update_matched.ensures files c.matches.new.disk state there planned.accepted matches))
