@@ -1,0 +1,5 @@
+pub mod Digits
+pub mod WordForms
+pub mod DirRows
+pub mod DirPlaces
+pub mod DirTaken
