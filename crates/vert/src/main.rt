@@ -1,4 +1,5 @@
-//! `vert [--mover K] [--halt] DIR SCRIPT` runs the statements of the file SCRIPT and prints what each answers.
+//! `vert DIR [--mover K] [--halt] [--gen N --seed S] [SCRIPT]` runs the statements of the file SCRIPT, or a generated script over a load of N
+//! lines from the seed S, and prints what each answers.
 //!
 //! All that it does is `vert_cli::run`, whose contract says how it ends. Here are only the words that it is called with,
 //! the files, the output and the folder of the machine, and the code. DIR is the folder of the tables: it is made where it
@@ -10,9 +11,10 @@ mod words;
 
 use col_disk::DirDisk;
 use col_io::{StdFiles, StdSink};
+use run_words::dir_of;
 use std::alloc::{AllocError, AllocGlobal};
 use std::process::ExitCode;
-use vert_cli::{Status, dir_of, run};
+use vert_cli::{Status, run};
 use words::words_of;
 
 /// Runs the program with the words that the machine gives it. An error says that there was no memory to begin.

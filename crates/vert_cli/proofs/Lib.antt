@@ -2,4 +2,5 @@ pub mod Cuts
 pub mod Running
 pub mod Executing
 pub mod Ending
+pub mod FewTexts
 pub mod Serving

@@ -2,6 +2,7 @@
 use Rattle.std.proofs.Common.{ℕ, ◌≡◌, ◌∙◌, ◌≤◌, inl, inr, List, length, refl, sym, ap, subst, arith}
 use Rattle.std.specs.Prelude.{Option, Some, None, IfSome}
 use Rattle.common_laws.specs.Causes.{Rose}
+use Rattle.common_laws.specs.Maps.{Contents}
 use Rattle.col_disk.specs.Moved.{Leaves}
 use Rattle.col_disk.specs.declared.disk.Disk.{Ghosts}
 use Rattle.col_io.specs.Files.{Finds}
@@ -11,10 +12,13 @@ use Rattle.sql_words.specs.Texts.{statement_texts}
 use Rattle.db_model.specs.Database.{Database}
 use Rattle.db_model.specs.Loading.{Files}
 use Rattle.db_model.specs.Run.{Setting}
+use Rattle.folder_model.specs.Reopening.{Reopens}
+use Rattle.generated_load.specs.Load.{generated_script}
 use Rattle.vert_cli.specs.declared.faults.Status.{Status}
-use Rattle.vert_cli.specs.Words.{Wanted}
+use Rattle.run_words.specs.Words.{Source, from_file, generated, Wanted}
 use Rattle.vert_cli.specs.Runs.{setting_of}
-use Rattle.vert_cli.specs.Ends.{OpenedEnd, ServedEnd, HeldEnds, ManyAt, IsRan, IsServed, IsServable, IsWithinLimits, IsOverLimits, CutInRun, CutInScript, Counts, IsAnswered}
+use Rattle.vert_cli.specs.Ends.{OpenedEnd, ServedEnd, HeldEnds, ManyAt, IsRan, IsServed, IsServable, IsServableFrom, script_of, IsWithinLimits, IsOverLimits, CutInRun, CutInScript, FoundAs, RunEnds, RunLeaves, Counts, IsAnswered}
+use Rattle.vert_cli.proofs.FewTexts.{generated_within}
 
 -- ---- the texts are those of the script
 
@@ -75,6 +79,36 @@ pub script_left : {D : Type 0} (disk : Ghosts D) (setting : Setting) (d : Databa
     → held ≡ Some script → Leaves disk (CutInRun setting d (statement_texts script)) old new → Leaves disk (CutInScript setting d held) old new
 script_left disk setting d held script old new is leaves = subst (λ (h : Option (List ℕ)). Leaves disk (CutInScript setting d h) old new) (sym is) leaves
 
+pub found_as : (held : Option (List ℕ)) (script : List ℕ) (status : Status) → held ≡ Some script → length script ≤ 67108864 → ManyAt status script → FoundAs status held
+found_as held script Status.Done is bytes many = (script, within held script is bytes many)
+found_as held script Status.Refused is bytes many = (script, within held script is bytes many)
+found_as held script Status.Usage is bytes many = many
+found_as held script Status.NoScript is bytes many = absurd many
+found_as held script Status.SinkFault is bytes many = (script, within held script is bytes many)
+found_as held script Status.DiskFault is bytes many = (script, within held script is bytes many)
+found_as held script (Status.Damaged q) is bytes many = (script, within held script is bytes many)
+found_as held script Status.Memory is bytes many = tt
+found_as held script Status.ReadFault is bytes many = tt
+found_as held script Status.TooLarge is bytes many = (script, is, inr many)
+
+served_from : (source : Source) (there : Files) → IsServableFrom source there → (text : List ℕ) × IsServed (script_of source there) text
+served_from (from_file name) there served = served
+served_from (generated lines seed) there served = (generated_script, record { there = refl; limits = generated_within })
+
+-- ---- the words couldn't be read for want of memory
+
+pub short_end : {D : Type 0} (disk : Ghosts D) (there : Files) (words : Option Wanted) (d : Database) (now : D) (taken : Option (List ℕ)) → RunEnds Status.Memory disk there words d now taken taken
+short_end disk there None d now taken = inr (refl, refl)
+short_end disk there (Some w) d now taken = inl refl
+
+script_still : (setting : Setting) (d : Database) (held : Option (List ℕ)) (x : Contents) → Reopens x d → CutInScript setting d held x
+script_still setting d None x opens = opens
+script_still setting d (Some script) x opens = inl opens
+
+pub still_left : (there : Files) (words : Option Wanted) (d : Database) (x : Contents) → Reopens x d → RunLeaves there words d x
+still_left there None d x opens = opens
+still_left there (Some w) d x opens = script_still (setting_of there w.steps w.halts) d (script_of w.source there) x opens
+
 -- ---- what is answered where no count of faults rose
 
 same_script : (held : Option (List ℕ)) (script other : List ℕ) → held ≡ Some script → held ≡ Some other → script ≡ other
@@ -110,9 +144,10 @@ answered disk setting d held script now before after old new Status.TooLarge ser
     not_over end.0 (subst IsWithinLimits (same_script held script end.0 served.there end.1) served.limits) end.2
 
 pub complete : {D : Type 0} (disk : Ghosts D) (there : Files) (words : Option Wanted) (w : Wanted) (d : Database) (now : D) (before after : Option (List ℕ)) (old new : Counts) (status : Status)
-    → words ≡ Some w → HeldEnds status disk (setting_of there w.steps w.halts) d (there w.script) now before after
+    → words ≡ Some w → HeldEnds status disk (setting_of there w.steps w.halts) d (script_of w.source there) now before after
     → (status ≡ Status.SinkFault → Rose old.sink new.sink) → (status ≡ Status.ReadFault → Rose old.files new.files) → (status ≡ Status.DiskFault → Rose old.disk new.disk)
     → IsServable words there → IsAnswered status old new
 complete disk there words w d now before after old new status is end sink read fault servable =
     let here : IsServable (Some w) there = subst (λ (x : Option Wanted). IsServable x there) is servable in
-    answered disk (setting_of there w.steps w.halts) d (there w.script) here.0 now before after old new status here.1 end sink read fault
+    let (text, served) = served_from w.source there here in
+    answered disk (setting_of there w.steps w.halts) d (script_of w.source there) text now before after old new status served end sink read fault

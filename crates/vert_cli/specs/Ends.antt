@@ -15,7 +15,8 @@ use Rattle.store_core.specs.Events.{ReopensTo}
 use Rattle.store_step.specs.declared.answer.StepFault.{StepFault}
 use Rattle.vert_cli.specs.declared.faults.RunFault.{RunFault}
 use Rattle.vert_cli.specs.declared.faults.Status.{Status}
-use Rattle.vert_cli.specs.Words.{Wanted}
+use Rattle.run_words.specs.Words.{Source, from_file, generated, Wanted}
+use Rattle.generated_load.specs.Load.{generated_files, generated_script}
 use Rattle.vert_cli.specs.Runs.{setting_of, RanWhole, RanFront, IsOnTheWay}
 
 -- the code of each status
@@ -58,12 +59,15 @@ abbrev pub status_of_run : Bool → Status
 status_of_run true = Status.Refused
 status_of_run false = Status.Done
 
--- The folder, and whatever a crash would leave of it, reopens to this database. An empty one reopens to no tables.
+-- The folder reopens to this database. An empty one reopens to no tables.
 pub record IsOpenable {D : Type 0} (disk : Ghosts D) (now : D) (d : Database) : Type 0 where
   pub files : Contents
   pub told : disk.holds now ≡ Some files
   pub reopens : Reopens files d
-  pub images : (x : Contents) → ImageOf disk now x → Reopens x d
+
+-- and so does whatever a crash would leave of it
+abbrev pub IsSettled : {D : Type 0} → Ghosts D → D → Database → Type 0
+IsSettled disk now d = (x : Contents) → ImageOf disk now x → Reopens x d
 
 -- whatever a crash leaves reopens to the database of a state, cut at its last good epoch
 abbrev pub IsLeft : {D : Type 0} → Ghosts D → D → State → Type 0
@@ -170,10 +174,25 @@ HeldEnds Status.Memory disk setting d held now before after = (after ≡ before)
 HeldEnds Status.ReadFault disk setting d held now before after = (after ≡ before) ⊎ ScriptEnd Status.ReadFault disk setting d held now before after
 HeldEnds Status.TooLarge disk setting d held now before after = (script : List ℕ) × (held ≡ Some script) × IsOverLimits script × (after ≡ before)
 
--- how a run ends, by what its words ask for and by what the files have under each name
+-- the files that a script reads from: those of the caller, where they tell their content, and for the generated script those that have its
+-- load
+abbrev pub AreFilesFor : Source → Option Files → Files → Type 0
+AreFilesFor (from_file name) content files = content ≡ Some files
+AreFilesFor (generated lines seed) content files = files ≡ generated_files lines seed
+
+abbrev pub AreFilesOf : Option Wanted → Option Files → Files → Type 0
+AreFilesOf None content files = ⊤
+AreFilesOf (Some w) content files = AreFilesFor w.source content files
+
+-- the script: what the files have under its name, or the generated one
+abbrev pub script_of : Source → Files → Option (List ℕ)
+script_of (from_file name) files = files name
+script_of (generated lines seed) files = Some generated_script
+
+-- how a run ends, by what its words ask for and by what its files have under each name
 abbrev pub RunEnds : {D : Type 0} → Status → Ghosts D → Files → Option Wanted → Database → D → Option (List ℕ) → Option (List ℕ) → Type 0
-RunEnds status disk files None d now before after = status ≡ Status.Usage
-RunEnds status disk files (Some w) d now before after = HeldEnds status disk (setting_of files w.steps w.halts) d (files w.script) now before after
+RunEnds status disk files None d now before after = (status ≡ Status.Usage) ⊎ ((status ≡ Status.Memory) × (after ≡ before))
+RunEnds status disk files (Some w) d now before after = HeldEnds status disk (setting_of files w.steps w.halts) d (script_of w.source files) now before after
 
 -- what a crash leaves of a run: the folder as it opened, or on the way of the script that is there
 abbrev pub CutInScript : Setting → Database → Option (List ℕ) → Contents → Type 0
@@ -182,7 +201,7 @@ CutInScript setting d (Some script) x = CutInRun setting d (statement_texts scri
 
 abbrev pub RunLeaves : Files → Option Wanted → Database → Contents → Type 0
 RunLeaves files None d x = Reopens x d
-RunLeaves files (Some w) d x = CutInScript (setting_of files w.steps w.halts) d (files w.script) x
+RunLeaves files (Some w) d x = CutInScript (setting_of files w.steps w.halts) d (script_of w.source files) x
 
 -- at these statuses nothing was taken
 abbrev pub UntouchedAt : Status → Option (List ℕ) → Option (List ℕ) → Type 0
@@ -213,17 +232,21 @@ NotCalledAt Status.TooLarge old new = new ≡ old
 -- no file has the name that the words name
 abbrev pub IsAbsent : Option Wanted → Files → Type 0
 IsAbsent None files = ⊥
-IsAbsent (Some w) files = files w.script ≡ None
+IsAbsent (Some w) files = script_of w.source files ≡ None
 
 -- the script that the words name is there, and over a limit
 abbrev pub IsTooLarge : Option Wanted → Files → Type 0
 IsTooLarge None files = ⊥
-IsTooLarge (Some w) files = (script : List ℕ) × (files w.script ≡ Some script) × IsOverLimits script
+IsTooLarge (Some w) files = (text : List ℕ) × (script_of w.source files ≡ Some text) × IsOverLimits text
 
--- the script that the words name is there, and within the limits
+-- the script that is read is there, and within the limits; the generated one always is
+abbrev pub IsServableFrom : Source → Files → Type 0
+IsServableFrom (from_file name) files = (text : List ℕ) × IsServed (files name) text
+IsServableFrom (generated lines seed) files = ⊤
+
 abbrev pub IsServable : Option Wanted → Files → Type 0
 IsServable None files = ⊥
-IsServable (Some w) files = (script : List ℕ) × IsServed (files w.script) script
+IsServable (Some w) files = IsServableFrom w.source files
 
 -- what the files have under the script's name, by the status of the run
 abbrev pub FoundAs : Status → Option (List ℕ) → Type 0

@@ -1,5 +1,3 @@
-pub mod Words
-pub mod Reading
 pub mod Sessions
 pub mod Statements
 pub mod Runs

@@ -16,7 +16,7 @@ pub enum Status {
     Done,
     /// Every statement was answered, and some was refused.
     Refused,
-    /// The words are not the program's name, its options, DIR and SCRIPT.
+    /// The words are not of the program's form.
     Usage,
     /// No file has the script's name.
     NoScript,

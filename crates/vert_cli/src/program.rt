@@ -1,33 +1,36 @@
 //! The program.
 #![tactic(auto)]
 
-ghost use Rattle.std.specs.Prelude.{◌≡◌, ◌≢◌, ◌≤◌, ◌↔◌, map, None, Some, IfSome, string_bytes};
+ghost use Rattle.std.specs.Prelude.{◌≡◌, ◌≢◌, ◌≤◌, ◌⊎◌, map, None, Some, IfSome, string_bytes};
 ghost use Rattle.common_laws.specs.Causes.{Rose};
 ghost use Rattle.col_disk.specs.Moved.{Leaves};
 ghost use Rattle.db_model.specs.Database.{Database as Logical};
 ghost use Rattle.db_model.specs.Loading.{Files as LoadFiles};
-ghost use Rattle.vert_cli.specs.declared.faults.Status.TheVariants.{Usage as usage_refused, NoScript as no_script, SinkFault as sink_fault, ReadFault as read_fault, DiskFault as disk_fault, TooLarge as too_large};
-ghost use Rattle.vert_cli.specs.Words.{wanted};
+ghost use Rattle.run_words.specs.Told.{source_told};
+ghost use Rattle.run_words.specs.Words.{wanted};
+ghost use Rattle.generated_load.specs.Load.{generated_files, generated_script};
+ghost use Rattle.vert_cli.specs.declared.faults.Status.TheVariants.{Usage as usage_refused, NoScript as no_script, SinkFault as sink_fault, ReadFault as read_fault, DiskFault as disk_fault, Memory as no_memory, TooLarge as too_large};
 ghost use Rattle.vert_cli.specs.Runs.{setting_of};
-ghost use Rattle.vert_cli.specs.Ends.{CutInScript, ExactlyWhere, FoundAs, HeldEnds, IsAbsent, IsAnswered, IsOpenable, IsServable, IsTooLarge, NotCalledAt, RunEnds, RunLeaves, UntouchedAt};
+ghost use Rattle.vert_cli.specs.Ends.{AreFilesFor, AreFilesOf, CutInScript, ExactlyWhere, FoundAs, HeldEnds, IsAbsent, IsAnswered, IsOpenable, IsServable, IsSettled, IsTooLarge, NotCalledAt, RunEnds, RunLeaves, UntouchedAt, script_of};
 
 use crate::faults::Status;
 use crate::script::run_script;
-use crate::words::{Wanted, read_words};
 use col_disk::Disk;
 use col_io::{Files, FilesFault, Got, Sink};
-use std::alloc::Global;
+use generated_load::{Generated, script};
+use run_words::{Source, Wanted, read_words};
+use std::alloc::{AllocError, Global};
 
 // The most bytes of a script.
 const MOST_BYTES: usize = 67_108_864;
 
-/// Does all that the program does: `vert [--mover K] [--halt] DIR SCRIPT`, its own name as the first word.
+/// Does all that the program does: `vert DIR [--mover K] [--halt] [--gen N --seed S] [SCRIPT]`, its own name as the first word.
 ///
-/// It reads the file SCRIPT, opens the tables that the disk holds, runs the script's statements in order over them, each with K steps of the
-/// mover behind it, and writes what each prints. At the end, after `Done` and `Refused`, all tables are on the disk, but with `--halt`, which
-/// leaves the end out. Each status comes as `Status` says; `Memory` is free to come at any time but where the words are wrong. What is said
-/// of the script holds where the files tell their content, what is said of the written bytes where the sink tells them, and what is said of
-/// the tables where the disk tells what it holds.
+/// It reads the file SCRIPT, or takes the generated script over the files that have its load, opens the tables that the disk holds, runs the
+/// script's statements in order over them, each with K steps of the mover behind it, and writes what each prints. At the end, after `Done`
+/// and `Refused`, all tables are on the disk, but with `--halt`, which leaves the end out. Each status comes as `Status` says; `Memory` is
+/// free to come at any time. What is said of a script that is read holds where the files tell their content, what is said of the written
+/// bytes where the sink tells them, and what is said of the tables where the disk tells what it holds.
 pub fn run<F: Files, S: Sink, D: Disk>(
     alloc: Global,
     words: &[String],
@@ -35,14 +38,15 @@ pub fn run<F: Files, S: Sink, D: Disk>(
     out: &mut S,
     disk: &mut D,
 ) -> Status
-    ensures usage { (result ≡ usage_refused) ↔ (wanted (map string_bytes words.now) ≡ None) }
-    ensures no_script { IfSome (F.content files.old) (λ there. ExactlyWhere result no_script (IsAbsent (wanted (map string_bytes words.now)) there)) }
-    ensures too_large { IfSome (F.content files.old) (λ there. ExactlyWhere result too_large (IsTooLarge (wanted (map string_bytes words.now)) there)) }
-    ensures output { (there : LoadFiles) (d : Logical) → F.content files.old ≡ Some there → IsOpenable ⟦<D as Disk>⟧ disk.old d
+    ensures usage { result ≡ usage_refused → wanted (map string_bytes words.now) ≡ None }
+    ensures refused { wanted (map string_bytes words.now) ≡ None → (result ≡ usage_refused) ⊎ (result ≡ no_memory) }
+    ensures no_script { (there : LoadFiles) → AreFilesOf (wanted (map string_bytes words.now)) (F.content files.old) there → ExactlyWhere result no_script (IsAbsent (wanted (map string_bytes words.now)) there) }
+    ensures too_large { (there : LoadFiles) → AreFilesOf (wanted (map string_bytes words.now)) (F.content files.old) there → ExactlyWhere result too_large (IsTooLarge (wanted (map string_bytes words.now)) there) }
+    ensures output { (there : LoadFiles) (d : Logical) → AreFilesOf (wanted (map string_bytes words.now)) (F.content files.old) there → IsOpenable ⟦<D as Disk>⟧ disk.old d
         → RunEnds result ⟦<D as Disk>⟧ there (wanted (map string_bytes words.now)) d disk.new (S.taken out.old) (S.taken out.new) }
-    ensures any_moment { (there : LoadFiles) (d : Logical) → F.content files.old ≡ Some there → IsOpenable ⟦<D as Disk>⟧ disk.old d
+    ensures any_moment { (there : LoadFiles) (d : Logical) → AreFilesOf (wanted (map string_bytes words.now)) (F.content files.old) there → IsOpenable ⟦<D as Disk>⟧ disk.old d → IsSettled ⟦<D as Disk>⟧ disk.old d
         → Leaves ⟦<D as Disk>⟧ (RunLeaves there (wanted (map string_bytes words.now)) d) disk.old disk.new }
-    ensures complete { (there : LoadFiles) (d : Logical) → F.content files.old ≡ Some there → IsOpenable ⟦<D as Disk>⟧ disk.old d → IsServable (wanted (map string_bytes words.now)) there
+    ensures complete { (there : LoadFiles) (d : Logical) → AreFilesOf (wanted (map string_bytes words.now)) (F.content files.old) there → IsOpenable ⟦<D as Disk>⟧ disk.old d → IsServable (wanted (map string_bytes words.now)) there
         → IsAnswered result (record { sink = S.faults out.old; files = F.faults files.old; disk = D.faults disk.old }) (record { sink = S.faults out.new; files = F.faults files.new; disk = D.faults disk.new }) }
     ensures untouched { UntouchedAt result (S.taken out.old) (S.taken out.new) }
     ensures not_called { NotCalledAt result disk.old disk.new }
@@ -54,16 +58,81 @@ pub fn run<F: Files, S: Sink, D: Disk>(
     ensures files_later { F.faults files.old ≤ F.faults files.new }
     ensures disk_later { D.faults disk.old ≤ D.faults disk.new }
 {
-    match read_words(words) {
-        Some(
-            Wanted {
-                script,
-                steps,
-                halts,
-            },
-        ) => run_file(alloc, script, steps, halts, files, out, disk),
-        None => Status::Usage,
+    match read_words(alloc, words) {
+        Ok(
+            Some(
+                Wanted {
+                    source,
+                    steps,
+                    halts,
+                },
+            ),
+        ) => run_source(alloc, source, steps, halts, files, out, disk),
+        Ok(None) => Status::Usage,
+        Err(AllocError) => Status::Memory,
     }
+}
+
+// Runs the script that the words name, or the generated one.
+fn run_source<F: Files, S: Sink, D: Disk>(
+    alloc: Global,
+    source: Source,
+    steps: u32,
+    halts: bool,
+    files: &mut F,
+    out: &mut S,
+    disk: &mut D,
+) -> Status
+    ensures ends { (there : LoadFiles) (d : Logical) → AreFilesFor (source_told source) (F.content files.old) there → IsOpenable ⟦<D as Disk>⟧ disk.old d
+        → HeldEnds result ⟦<D as Disk>⟧ (setting_of there steps halts) d (script_of (source_told source) there) disk.new (S.taken out.old) (S.taken out.new) }
+    ensures any_moment { (there : LoadFiles) (d : Logical) → AreFilesFor (source_told source) (F.content files.old) there → IsOpenable ⟦<D as Disk>⟧ disk.old d → IsSettled ⟦<D as Disk>⟧ disk.old d
+        → Leaves ⟦<D as Disk>⟧ (CutInScript (setting_of there steps halts) d (script_of (source_told source) there)) disk.old disk.new }
+    ensures found { (there : LoadFiles) → AreFilesFor (source_told source) (F.content files.old) there → FoundAs result (script_of (source_told source) there) }
+    ensures named { result ≢ usage_refused }
+    ensures untouched { UntouchedAt result (S.taken out.old) (S.taken out.new) }
+    ensures not_called { NotCalledAt result disk.old disk.new }
+    ensures content { F.content files.new ≡ F.content files.old }
+    ensures sink { result ≡ sink_fault → Rose (S.faults out.old) (S.faults out.new) }
+    ensures read { result ≡ read_fault → Rose (F.faults files.old) (F.faults files.new) }
+    ensures fault { result ≡ disk_fault → Rose (D.faults disk.old) (D.faults disk.new) }
+    ensures later { S.faults out.old ≤ S.faults out.new }
+    ensures files_later { F.faults files.old ≤ F.faults files.new }
+    ensures disk_later { D.faults disk.old ≤ D.faults disk.new }
+{
+    match source {
+        Source::Script(name) => run_file(alloc, name.as_str(), steps, halts, files, out, disk),
+        Source::Generated { lines, seed } => {
+            run_generated(alloc, lines, seed, steps, halts, out, disk)
+        }
+    }
+}
+
+// Runs the generated script over the files that have its load.
+fn run_generated<S: Sink, D: Disk>(
+    alloc: Global,
+    lines: u32,
+    seed: u64,
+    steps: u32,
+    halts: bool,
+    out: &mut S,
+    disk: &mut D,
+) -> Status
+    ensures ends { (d : Logical) → IsOpenable ⟦<D as Disk>⟧ disk.old d
+        → HeldEnds result ⟦<D as Disk>⟧ (setting_of (generated_files lines seed) steps halts) d (Some generated_script) disk.new (S.taken out.old) (S.taken out.new) }
+    ensures any_moment { (d : Logical) → IsOpenable ⟦<D as Disk>⟧ disk.old d → IsSettled ⟦<D as Disk>⟧ disk.old d
+        → Leaves ⟦<D as Disk>⟧ (CutInScript (setting_of (generated_files lines seed) steps halts) d (Some generated_script)) disk.old disk.new }
+    ensures found { FoundAs result (Some generated_script) }
+    ensures named { result ≢ usage_refused }
+    ensures untouched { UntouchedAt result (S.taken out.old) (S.taken out.new) }
+    ensures not_called { NotCalledAt result disk.old disk.new }
+    ensures sink { result ≡ sink_fault → Rose (S.faults out.old) (S.faults out.new) }
+    ensures read { result ≢ read_fault }
+    ensures fault { result ≡ disk_fault → Rose (D.faults disk.old) (D.faults disk.new) }
+    ensures later { S.faults out.old ≤ S.faults out.new }
+    ensures disk_later { D.faults disk.old ≤ D.faults disk.new }
+{
+    let mut files = Generated::new(lines, seed);
+    run_script(alloc, script(), steps, halts, &mut files, out, disk)
 }
 
 // Runs the script that the words name.
@@ -78,7 +147,7 @@ fn run_file<F: Files, S: Sink, D: Disk>(
 ) -> Status
     ensures ends { (there : LoadFiles) (d : Logical) → F.content files.old ≡ Some there → IsOpenable ⟦<D as Disk>⟧ disk.old d
         → HeldEnds result ⟦<D as Disk>⟧ (setting_of there steps halts) d (there name.now) disk.new (S.taken out.old) (S.taken out.new) }
-    ensures any_moment { (there : LoadFiles) (d : Logical) → F.content files.old ≡ Some there → IsOpenable ⟦<D as Disk>⟧ disk.old d
+    ensures any_moment { (there : LoadFiles) (d : Logical) → F.content files.old ≡ Some there → IsOpenable ⟦<D as Disk>⟧ disk.old d → IsSettled ⟦<D as Disk>⟧ disk.old d
         → Leaves ⟦<D as Disk>⟧ (CutInScript (setting_of there steps halts) d (there name.now)) disk.old disk.new }
     ensures found { IfSome (F.content files.old) (λ there. FoundAs result (there name.now)) }
     ensures named { result ≢ usage_refused }

@@ -12,7 +12,7 @@ ghost use Rattle.store_core.specs.Running.{IsState};
 ghost use Rattle.vert_cli.specs.declared.faults.RunFault.TheVariants.{Sink as sink_failed, Disk as disk_failed, Read as read_failed, Halted as halted};
 ghost use Rattle.vert_cli.specs.declared.faults.Status.TheVariants.{SinkFault as sink_fault, DiskFault as disk_fault, ReadFault as read_fault};
 ghost use Rattle.vert_cli.specs.Runs.{RanText, RanTexts, setting_of};
-ghost use Rattle.vert_cli.specs.Ends.{CutInRun, IsOpenable, IsRan, ManyAt, NotCalledAt, OpenedEnd, ServedEnd, UntouchedAt};
+ghost use Rattle.vert_cli.specs.Ends.{CutInRun, IsOpenable, IsRan, IsSettled, ManyAt, NotCalledAt, OpenedEnd, ServedEnd, UntouchedAt};
 
 use crate::faults::{RunFault, Status, fault_of, status_of_run};
 use crate::session::Session;
@@ -37,7 +37,7 @@ pub(crate) fn run_script<F: Files, S: Sink, D: Disk>(
 ) -> Status
     ensures ends { (there : LoadFiles) (d : Logical) → F.content files.old ≡ Some there → IsOpenable ⟦<D as Disk>⟧ disk.old d
         → ServedEnd result ⟦<D as Disk>⟧ (setting_of there steps halts) d script.now disk.new (S.taken out.old) (S.taken out.new) }
-    ensures any_moment { (there : LoadFiles) (d : Logical) → F.content files.old ≡ Some there → IsOpenable ⟦<D as Disk>⟧ disk.old d
+    ensures any_moment { (there : LoadFiles) (d : Logical) → F.content files.old ≡ Some there → IsOpenable ⟦<D as Disk>⟧ disk.old d → IsSettled ⟦<D as Disk>⟧ disk.old d
         → Leaves ⟦<D as Disk>⟧ (CutInRun (setting_of there steps halts) d (statement_texts script.now)) disk.old disk.new }
     ensures too_many { ManyAt result script.now }
     ensures untouched { UntouchedAt result (S.taken out.old) (S.taken out.new) }
@@ -83,7 +83,7 @@ fn run_opened<F: Files, S: Sink, D: Disk>(
     requires within { All (LiesWithin (length script.now)) spans.now }
     ensures ends { (there : LoadFiles) (d : Logical) → F.content files.old ≡ Some there → IsOpenable ⟦<D as Disk>⟧ disk.old d
         → OpenedEnd result ⟦<D as Disk>⟧ (setting_of there steps halts) d (map (cut script.now) spans.now) disk.new (S.taken out.old) (S.taken out.new) }
-    ensures any_moment { (there : LoadFiles) (d : Logical) → F.content files.old ≡ Some there → IsOpenable ⟦<D as Disk>⟧ disk.old d
+    ensures any_moment { (there : LoadFiles) (d : Logical) → F.content files.old ≡ Some there → IsOpenable ⟦<D as Disk>⟧ disk.old d → IsSettled ⟦<D as Disk>⟧ disk.old d
         → Leaves ⟦<D as Disk>⟧ (CutInRun (setting_of there steps halts) d (map (cut script.now) spans.now)) disk.old disk.new }
     ensures ran { IsRan result }
     ensures content { F.content files.new ≡ F.content files.old }

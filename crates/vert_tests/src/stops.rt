@@ -2,8 +2,9 @@
 
 use col_disk::{Disk, MemDisk};
 use col_io::{MemFiles, MemSink};
+use run_words::dir_of;
 use std::test::Fail;
-use vert_cli::{Outcome, Session, Status, dir_of, run};
+use vert_cli::{Outcome, Session, Status, run};
 use vert_harness::{NONE, Trouble, ran, words};
 
 const SCRIPT: &[u8] =

@@ -16,9 +16,9 @@ returns-in-Err-clause-ends g c = λ there d content openable.
     (not_opened g.D.Disk setting d texts c.args.disk.now c.open.new.disk c.in-Err.fault told openable c.in-Err.ensures.blamed)
 
 pub returns-in-Err-clause-any_moment : goal.returns-in-Err-clause-any_moment
-returns-in-Err-clause-any_moment g c = λ there d content openable.
+returns-in-Err-clause-any_moment g c = λ there d content openable images.
     opening_leaves g.D.Disk (setting_of there c.args.steps c.args.halts) d (map (cut c.args.script.now) c.args.spans.now) c.args.disk.now c.open.new.disk
-    (c.in-Err.ensures.any_moment openable.files d openable.told openable.images)
+    (c.in-Err.ensures.any_moment openable.files d openable.told images)
 
 pub returns-in-Err-run_spans-clause-ends : goal.returns-in-Err-run_spans-clause-ends
 returns-in-Err-run_spans-clause-ends g c = λ there d content openable.
@@ -32,12 +32,12 @@ returns-in-Err-run_spans-clause-ends g c = λ there d content openable.
     (c.in-Err-run_spans.ensures.ran there (opened_with start.0 start.1 d) c.args.halts content start.2))
 
 pub returns-in-Err-run_spans-clause-any_moment : goal.returns-in-Err-run_spans-clause-any_moment
-returns-in-Err-run_spans-clause-any_moment g c = λ there d content openable.
+returns-in-Err-run_spans-clause-any_moment g c = λ there d content openable images.
     let setting = setting_of there c.args.steps c.args.halts in
     let texts = map (cut c.args.script.now) c.args.spans.now in
     let start = c.in-Ok.ensures.opened openable.files d openable.told openable.reopens in
     let ran = c.in-Err-run_spans.ensures.ran there (opened_with start.0 start.1 d) c.args.halts content start.2 in
-    texts_leave g.D.Disk setting d texts start.0 start.1 c.args.disk.now c.open.new.disk c.run_spans.new.disk (c.in-Ok.ensures.any_moment openable.files d openable.told openable.images) ran.any_moment
+    texts_leave g.D.Disk setting d texts start.0 start.1 c.args.disk.now c.open.new.disk c.run_spans.new.disk (c.in-Ok.ensures.any_moment openable.files d openable.told images) ran.any_moment
 
 pub returns-then-halts-clause-ends : goal.returns-then-halts-clause-ends
 returns-then-halts-clause-ends g c = λ there d content openable.
@@ -51,12 +51,12 @@ returns-then-halts-clause-ends g c = λ there d content openable.
     (c.in-Ok-run_spans.ensures.ran there (opened_with start.0 start.1 d) c.args.halts content start.2))
 
 pub returns-then-halts-clause-any_moment : goal.returns-then-halts-clause-any_moment
-returns-then-halts-clause-any_moment g c = λ there d content openable.
+returns-then-halts-clause-any_moment g c = λ there d content openable images.
     let setting = setting_of there c.args.steps c.args.halts in
     let texts = map (cut c.args.script.now) c.args.spans.now in
     let start = c.in-Ok.ensures.opened openable.files d openable.told openable.reopens in
     let ran = c.in-Ok-run_spans.ensures.ran there (opened_with start.0 start.1 d) c.args.halts content start.2 in
-    texts_leave g.D.Disk setting d texts start.0 start.1 c.args.disk.now c.open.new.disk c.run_spans.new.disk (c.in-Ok.ensures.any_moment openable.files d openable.told openable.images) ran.any_moment
+    texts_leave g.D.Disk setting d texts start.0 start.1 c.args.disk.now c.open.new.disk c.run_spans.new.disk (c.in-Ok.ensures.any_moment openable.files d openable.told images) ran.any_moment
 
 pub returns-in-Ok-close-clause-ends : goal.returns-in-Ok-close-clause-ends
 returns-in-Ok-close-clause-ends g c = λ there d content openable.
@@ -70,11 +70,11 @@ returns-in-Ok-close-clause-ends g c = λ there d content openable.
     (c.in-Ok-run_spans.ensures.ran there (opened_with start.0 start.1 d) c.args.halts content start.2) (λ state here. c.in-Ok-close.ensures.ends state here))
 
 pub returns-in-Ok-close-clause-any_moment : goal.returns-in-Ok-close-clause-any_moment
-returns-in-Ok-close-clause-any_moment g c = λ there d content openable.
+returns-in-Ok-close-clause-any_moment g c = λ there d content openable images.
     let texts = map (cut c.args.script.now) c.args.spans.now in
     let start = c.in-Ok.ensures.opened openable.files d openable.told openable.reopens in
     end_leaves g.D.Disk there c.args.steps c.args.halts d texts start.0 start.1 c.run_spans.new.session.running c.args.disk.now c.open.new.disk c.run_spans.new.disk c.close.new.disk c.in-Ok-run_spans.refused _ (g.S.Sink.taken c.args.out.now)
-    (g.S.Sink.taken c.run_spans.new.out) c.if-halts.false (c.in-Ok.ensures.any_moment openable.files d openable.told openable.images)
+    (g.S.Sink.taken c.run_spans.new.out) c.if-halts.false (c.in-Ok.ensures.any_moment openable.files d openable.told images)
     (c.in-Ok-run_spans.ensures.ran there (opened_with start.0 start.1 d) c.args.halts content start.2) (λ state here. c.in-Ok-close.ensures.ends state here)
 
 pub returns-in-Err-close-clause-ends : goal.returns-in-Err-close-clause-ends
@@ -89,9 +89,9 @@ returns-in-Err-close-clause-ends g c = λ there d content openable.
     (c.in-Ok-run_spans.ensures.ran there (opened_with start.0 start.1 d) c.args.halts content start.2) (λ state here. c.in-Err-close.ensures.ends state here))
 
 pub returns-in-Err-close-clause-any_moment : goal.returns-in-Err-close-clause-any_moment
-returns-in-Err-close-clause-any_moment g c = λ there d content openable.
+returns-in-Err-close-clause-any_moment g c = λ there d content openable images.
     let texts = map (cut c.args.script.now) c.args.spans.now in
     let start = c.in-Ok.ensures.opened openable.files d openable.told openable.reopens in
     end_leaves g.D.Disk there c.args.steps c.args.halts d texts start.0 start.1 c.run_spans.new.session.running c.args.disk.now c.open.new.disk c.run_spans.new.disk c.close.new.disk c.in-Ok-run_spans.refused _ (g.S.Sink.taken c.args.out.now)
-    (g.S.Sink.taken c.run_spans.new.out) c.if-halts.false (c.in-Ok.ensures.any_moment openable.files d openable.told openable.images)
+    (g.S.Sink.taken c.run_spans.new.out) c.if-halts.false (c.in-Ok.ensures.any_moment openable.files d openable.told images)
     (c.in-Ok-run_spans.ensures.ran there (opened_with start.0 start.1 d) c.args.halts content start.2) (λ state here. c.in-Err-close.ensures.ends state here)

@@ -16,6 +16,6 @@ returns-clause-ends g c = λ there d content openable.
     c.run_opened.result (ap (map (cut c.args.script.now)) (c.as_slice.ensures.value ∙ c.in-Ok.ensures.spans)) few c.run_opened.ensures.ran (c.run_opened.ensures.ends there d content openable)
 
 pub returns-clause-any_moment : goal.returns-clause-any_moment
-returns-clause-any_moment g c = λ there d content openable.
+returns-clause-any_moment g c = λ there d content openable images.
     texts_left g.D.Disk (setting_of there c.args.steps c.args.halts) d c.args.script.now (map (cut c.args.script.now) c.as_slice.result.now) c.args.disk.now c.run_opened.new.disk
-    (ap (map (cut c.args.script.now)) (c.as_slice.ensures.value ∙ c.in-Ok.ensures.spans)) (c.run_opened.ensures.any_moment there d content openable)
+    (ap (map (cut c.args.script.now)) (c.as_slice.ensures.value ∙ c.in-Ok.ensures.spans)) (c.run_opened.ensures.any_moment there d content openable images)

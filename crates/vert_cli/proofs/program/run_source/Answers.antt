@@ -1,0 +1,24 @@
+use Rattle.std.proofs.Common.{◌≡◌, ℕ, List, sym, ap, subst}
+use Rattle.std.specs.Prelude.{Some, string_bytes}
+use Rattle.col_disk.specs.Moved.{Leaves}
+use Rattle.db_model.specs.Loading.{Files}
+use Rattle.run_words.specs.Told.{source_told}
+use Rattle.run_words.specs.Words.{Source, from_file, generated}
+use Rattle.generated_load.specs.Load.{generated_script}
+use Rattle.vert_cli.specs.Runs.{setting_of}
+use Rattle.vert_cli.specs.Ends.{AreFilesFor, CutInScript, script_of}
+use Rattle.vert_cli.proofs.program.run_source.Goals as goal
+
+pub returns-in-Script-clause-any_moment : goal.returns-in-Script-clause-any_moment
+returns-in-Script-clause-any_moment g c = λ there d from openable images.
+    let is : source_told c.args.source ≡ from_file (string_bytes c.in-Script.name) = ap source_told c.in-Script.is in
+    let content : AreFilesFor (from_file (string_bytes c.in-Script.name)) (g.F.Files.content c.args.files.now) there = subst (λ (s : Source). AreFilesFor s (g.F.Files.content c.args.files.now) there) is from in
+    let named = subst (λ (n : List ℕ). Leaves g.D.Disk (CutInScript (setting_of there c.args.steps c.args.halts) d (there n)) c.args.disk.now c.run_file.new.disk) c.as_str.ensures.value (c.run_file.ensures.any_moment there d content openable images) in
+    subst (λ (s : Source). Leaves g.D.Disk (CutInScript (setting_of there c.args.steps c.args.halts) d (script_of s there)) c.args.disk.now c.run_file.new.disk) (sym is) named
+
+pub returns-in-Generated-clause-any_moment : goal.returns-in-Generated-clause-any_moment
+returns-in-Generated-clause-any_moment g c = λ there d from openable images.
+    let is : source_told c.args.source ≡ generated c.in-Generated.lines c.in-Generated.seed = ap source_told c.in-Generated.is in
+    let loaded : AreFilesFor (generated c.in-Generated.lines c.in-Generated.seed) (g.F.Files.content c.args.files.now) there = subst (λ (s : Source). AreFilesFor s (g.F.Files.content c.args.files.now) there) is from in
+    let left = subst (λ (f : Files). Leaves g.D.Disk (CutInScript (setting_of f c.args.steps c.args.halts) d (Some generated_script)) c.args.disk.now c.run_generated.new.disk) (sym loaded) (c.run_generated.ensures.any_moment d openable images) in
+    subst (λ (s : Source). Leaves g.D.Disk (CutInScript (setting_of there c.args.steps c.args.halts) d (script_of s there)) c.args.disk.now c.run_generated.new.disk) (sym is) left
