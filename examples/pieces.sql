@@ -21,7 +21,7 @@ SELECT GET_AHM_EPOCH();
 INSERT INTO pieces VALUES ('nut', 3, FALSE);
 \session 1;
 SELECT part FROM pieces WHERE;
-DELETE FROM pieces;
+SELECT MAKE_AHM_NOW();
 SELECT part FROM parts;
 DROP PROJECTION p;
 SELECT size FROM pieces;

@@ -8,7 +8,7 @@ def run(program, folder, script):
 
 
 class Folder:
-    """A folder, and which rows each transaction of it inserted."""
+    """A folder, and the rows that each transaction of it left."""
 
     def __init__(self, program, place):
         self.program, self.place, self.commits, self.tables = program, place, {}, 0
@@ -33,7 +33,8 @@ class Folder:
         return epoch, sorted(pairs)
 
     def rows_to(self, epoch):
-        return sorted(row for e, rows in self.commits.items() if e <= epoch for row in rows)
+        last = max((e for e in self.commits if e <= epoch), default=None)
+        return sorted(self.commits[last]) if last is not None else []
 
     def begin(self):
         self.say(['CREATE TABLE t (a INTEGER, b VARCHAR(8));', 'CREATE PROJECTION by_b (b) AS SELECT b FROM t ORDER BY b;'])
@@ -41,12 +42,22 @@ class Folder:
         assert status == 0, 'it begins with status %d: %s' % (status, text)
 
     def transactions(self, dice, first, count):
-        """So many transactions from an epoch on, with moveouts and new tables between them: the script and the rows of each epoch."""
+        """So many transactions from an epoch on, with moveouts and new tables between them: the script and the rows after each epoch."""
         lines, planned, made = [], {}, self.tables
+        there = self.rows_to(first - 1)
         for epoch in range(first, first + count):
             rows = [(str(dice.randrange(1000)), 'b%d' % dice.randrange(50)) for _ in range(dice.randrange(1, 40))]
-            lines += ['INSERT INTO t VALUES %s;' % ', '.join("(%s, '%s')" % row for row in rows), 'COMMIT;']
-            planned[epoch] = rows
+            lines.append('INSERT INTO t VALUES %s;' % ', '.join("(%s, '%s')" % row for row in rows))
+            there = there + rows
+            key, change = 'b%d' % dice.randrange(50), dice.randrange(4)
+            if change == 0:
+                lines.append("DELETE FROM t WHERE b = '%s';" % key)
+                there = [row for row in there if row[1] != key]
+            elif change == 1:
+                lines.append("UPDATE t SET a = a + 1 WHERE b = '%s';" % key)
+                there = [(str(int(a) + 1), b) if b == key else (a, b) for a, b in there]
+            lines.append('COMMIT;')
+            planned[epoch] = there
             what = dice.randrange(4)
             if what == 0:
                 lines.append("SELECT DO_TM_TASK('moveout');")
