@@ -2,6 +2,7 @@
 """Two tables as a reporting user has them, filled and asked by vert and by sqlite3 in one run.
 
     bench/reporting.py [ROWS ..]      default: 100000 1000000
+    VERT=PROGRAM bench/reporting.py   with a program that is built already
 
 The orders are the generated ones (a number sequence that any program can make again); the sales are wider, with texts, NULL and truth
 values. For each it prints what filling the table costs (the script's INSERTs, COMMIT and the end of the run), what opening the folder
@@ -19,7 +20,7 @@ import tempfile
 import time
 
 TOP = os.path.dirname(os.path.dirname(os.path.abspath(__file__)))
-VERT = os.path.join(TOP, "crates/vert/out/vert")
+VERT = os.environ.get("VERT") or os.path.join(TOP, "crates/vert/out/vert")
 
 
 def numbers(rows):
@@ -163,13 +164,44 @@ def measure(rows, work, peer, times):
             print(line)
 
 
+def changes(rows, work, peer):
+    """A load file into a table with a second order, a tenth deleted and another changed, and a filter before and after, now and in the past."""
+    lines = list(orders(rows))
+    path = lambda end: os.path.join(work, "changes" + end)
+    columns = SETS[0][1]
+    with open(path(".tbl"), "w") as out:
+        out.writelines("%d|%s|%d|%d\n" % line for line in lines)
+    question = "SELECT id, price FROM orders WHERE region = 'west' AND qty > 7 AND price < 100"
+    steps = [
+        ("loaded", f"CREATE TABLE orders ({columns}); CREATE PROJECTION by_region (region ENCODING RLE, qty, price) AS SELECT region, qty, price FROM orders ORDER BY region, qty; COPY orders FROM '{path('.tbl')}';",
+         f"CREATE TABLE orders ({columns}); CREATE INDEX by_region ON orders (region, qty, price);\n.separator |\n.import {path('.tbl')} orders"),
+        ("a filter", question + ";", question + ";"),
+        ("a tenth deleted", "DELETE FROM orders WHERE qty = 0; COMMIT;", "DELETE FROM orders WHERE qty = 0;"),
+        ("a filter then", question + ";", question + ";"),
+        ("in the past", "AT EPOCH 1 " + question + ";", None),
+        ("a tenth changed", "UPDATE orders SET price = price + 1 WHERE qty = 1; COMMIT;", "UPDATE orders SET price = price + 1 WHERE qty = 1;"),
+    ]
+    print(f"{rows} orders from a load file, each step a run of its own with its moveout:")
+    for title, ours, theirs in steps:
+        open(path(".sql"), "w").write(ours + "\n")
+        seconds, peak = run([VERT, path(""), path(".sql")], os.devnull)
+        line = f"  {title:<20} vert {seconds:.3f} s, {peak:.0f} MB"
+        if peer and theirs:
+            open(path(".lite"), "w").write(theirs + "\n")
+            other, most = run([peer, path(".db")], path(".lite"))
+            line += f"; sqlite3 {other:.3f} s, {most:.0f} MB; ratio {seconds / other if other > 0 else 0:.2f}"
+        print(line)
+
+
 def main():
-    subprocess.run([os.path.join(TOP, "bin/vert")], stdout=subprocess.DEVNULL, stderr=subprocess.DEVNULL)  # builds it
+    if not os.environ.get("VERT"):
+        subprocess.run([os.path.join(TOP, "bin/vert")], stdout=subprocess.DEVNULL, stderr=subprocess.DEVNULL)  # builds it
     peer, times = peer_program(), {}
     sizes = list(map(int, sys.argv[1:] or ["100000", "1000000"]))
     for rows in sizes:
         with tempfile.TemporaryDirectory() as work:
             measure(rows, work, peer, times)
+            changes(rows, work, peer)
     if len(sizes) > 1:
         print(f"from {sizes[0]} to {sizes[-1]} rows, {sizes[-1] / sizes[0]:.0f} times as many, vert takes so many times as long:")
         for (name, title), spent in times.items():
