@@ -18,6 +18,3 @@ pub use cleaning::clean;
 pub use committing::commit;
 pub use found::Found;
 pub use opening::open;
-
-#[cfg(test)]
-mod tests;

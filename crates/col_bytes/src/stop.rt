@@ -4,11 +4,14 @@ ghost use Rattle.std.specs.Prelude.{◌≡◌};
 ghost use Rattle.col_bytes.specs.declared.stop.Stop.TheVariants.{Memory};
 
 use std::alloc::{AllocError, AllocFailed};
+use thiserror::Error;
 
 /// Why a reader of bytes stopped: memory ran out, or the bytes don't begin with what it reads.
-#[derive(Debug, Drop, PartialEq, Eq)]
+#[derive(Debug, Drop, PartialEq, Eq, Error)]
 pub enum Stop {
+    #[error("memory is short")]
     Memory,
+    #[error("the bytes are not of the form that is read")]
     Malformed,
 }
 

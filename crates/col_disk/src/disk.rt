@@ -8,11 +8,14 @@ ghost use Rattle.col_disk.specs.Faults.{store_fault};
 ghost use Rattle.col_disk.specs.Calls.{AnswersSize, AnswersPart, AnswersNames, Keeps, Writes, Removes};
 
 use std::alloc::{AllocError, AllocFailed, Global};
+use thiserror::Error;
 
 /// Why a call of a disk gives no answer: the disk failed, or memory is short.
-#[derive(Clone, Copy, Debug, PartialEq, Eq)]
+#[derive(Clone, Copy, Debug, PartialEq, Eq, Error)]
 pub enum DiskFault {
+    #[error("the disk failed")]
     Failed,
+    #[error("memory is short")]
     Memory,
 }
 
@@ -34,10 +37,13 @@ impl<T: Drop> From<AllocFailed<T>> for DiskFault {
 
 /// Why a store's call over a disk gives no answer: the disk failed; the file of this name isn't what it has to be;
 /// memory is short.
-#[derive(Clone, Copy, Debug, PartialEq, Eq)]
+#[derive(Clone, Copy, Debug, PartialEq, Eq, Error)]
 pub enum StoreFault {
+    #[error("the disk failed")]
     Disk,
+    #[error("file {0} isn't what it has to be")]
     Damaged(u64),
+    #[error("memory is short")]
     Memory,
 }
 

@@ -13,8 +13,6 @@ mod disk;
 mod folder;
 mod held;
 mod memory;
-#[cfg(test)]
-mod tests;
 mod whole;
 
 pub use common_laws::Blob;

@@ -19,6 +19,3 @@ pub use reading::{Files, FilesFault, Got};
 pub use std_files::StdFiles;
 pub use std_sink::StdSink;
 pub use writing::{Sink, SinkFault, write_all};
-
-#[cfg(test)]
-mod tests;

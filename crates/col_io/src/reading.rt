@@ -3,6 +3,7 @@ ghost use Rattle.common_laws.specs.Causes.{HasCause};
 ghost use Rattle.col_io.specs.Files.{Finds, IsWithin};
 
 use std::alloc::Global;
+use thiserror::Error;
 
 /// What a read found under a name.
 #[derive(Debug, Drop)]
@@ -16,11 +17,13 @@ pub enum Got {
 }
 
 /// Why a read gave nothing.
-#[derive(Debug, Clone, Copy, PartialEq, Eq)]
+#[derive(Debug, Clone, Copy, PartialEq, Eq, Error)]
 pub enum FilesFault {
     /// The name may be there and could not be read; the count of faults rose.
+    #[error("the file could not be read")]
     Failed,
     /// There was no memory for the bytes.
+    #[error("memory is short")]
     Memory,
 }
 

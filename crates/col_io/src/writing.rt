@@ -4,13 +4,16 @@ ghost use Rattle.common_laws.specs.Told.{Appends, AppendsFront};
 ghost use Rattle.col_io.specs.Sinks.{TakesFront};
 
 use common_laws::rest_of;
+use thiserror::Error;
 
 /// Why a write was not done.
-#[derive(Debug, Clone, Copy, PartialEq, Eq)]
+#[derive(Debug, Clone, Copy, PartialEq, Eq, Error)]
 pub enum SinkFault {
     /// The sink took no more; the count of faults rose.
+    #[error("the output could not be written")]
     Failed,
     /// The sink had no memory for the bytes.
+    #[error("memory is short")]
     Memory,
 }
 

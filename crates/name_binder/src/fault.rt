@@ -5,6 +5,7 @@ use col_value::Column;
 use sql_tree::Refusal;
 use std::alloc::AllocError;
 use std::marker::Model;
+use thiserror::Error;
 
 /// A table that a statement names: its place among all tables, and its columns.
 #[derive(Drop)]
@@ -56,9 +57,11 @@ impl<'a> Found<'a> {
 }
 
 /// Why a statement was not bound.
-#[derive(Debug, Drop)]
+#[derive(Debug, Drop, Error)]
 pub enum BindFault {
+    #[error(transparent)]
     Refused(Refusal),
+    #[error("memory is short")]
     Memory,
 }
 

@@ -2,12 +2,15 @@ ghost use Rattle.std.specs.Prelude.{◌≡◌};
 ghost use Rattle.sql_phrases.specs.declared.stop.Stop.TheVariants.{Memory};
 
 use std::alloc::{AllocError, AllocFailed};
+use thiserror::Error;
 
 /// Why a reader took nothing.
-#[derive(Clone, Copy, Debug)]
+#[derive(Clone, Copy, Debug, Error)]
 pub enum Stop {
     /// The first of the tokens that are left is wrong, or there is none where one is wanted.
+    #[error("another token is wanted here")]
     Here,
+    #[error("memory is short")]
     Memory,
 }
 

@@ -10,13 +10,16 @@ use sql_phrases::{Stop, Tokens};
 use sql_tree::Statement;
 use sql_words::Token;
 use std::alloc::Global;
+use thiserror::Error;
 
 /// Why no statement was read.
-#[derive(Clone, Copy, Debug)]
+#[derive(Clone, Copy, Debug, Error)]
 pub enum ReadFault {
     /// The tokens spell no statement. `place` is one more than the length of the longest front of the tokens
     /// that some statement begins with.
+    #[error("no statement goes on at token {place}")]
     Syntax { place: u64 },
+    #[error("memory is short")]
     Memory,
 }
 

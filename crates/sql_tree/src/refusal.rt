@@ -4,6 +4,7 @@ ghost use Rattle.sql_tree.specs.Lines.{which_name, refusal_number, refusal_name,
 
 use col_value::Name;
 use std::alloc::AllocError;
+use thiserror::Error;
 
 /// What a limit is a limit of.
 #[derive(Clone, Copy, Debug)]
@@ -25,44 +26,76 @@ pub enum Which {
 }
 
 /// Why a statement was refused. Each variant has its values in the order in which they are printed.
-#[derive(Debug, Drop)]
+#[derive(Debug, Drop, Error)]
 pub enum Refusal {
     /// The place, from 1, of the first token with which no statement goes on.
+    #[error("no statement goes on at token {0}")]
     Syntax(u64),
+    #[error("there is no table {}", shown(.0))]
     UnknownTable(Name),
+    #[error("there is no projection {}", shown(.0))]
     UnknownProjection(Name),
+    #[error("there is no column {}", shown(.0))]
     UnknownColumn(Name),
+    #[error("{} is a column of more than one table", shown(.0))]
     Ambiguous(Name),
+    #[error("{} exists", shown(.0))]
     Exists(Name),
     /// How many values were given, and how many were wanted.
+    #[error("{0} values are given where {1} are wanted")]
     Arity(u64, u64),
+    #[error("a value is of another type than is wanted")]
     TypeMismatch,
+    #[error("a number is too wide")]
     TooWide,
+    #[error("{} can't be such a projection", shown(.0))]
     BadProjection(Name),
+    #[error("column {} can't have this encoding", shown(.0))]
     BadEncoding(Name),
     /// The limit that was passed.
+    #[error("there are more than {} {}", .1, .0.name())]
     Limit(Which, u64),
     /// The epoch asked for, and the ancient history mark.
+    #[error("epoch {0} is before the ancient history mark {1}")]
     EpochTooOld(u128, u64),
     /// The epoch asked for, and the last one.
+    #[error("epoch {0} is after the last one, {1}")]
     EpochInFuture(u128, u64),
     /// The mark asked for, the one that stands, and the last good epoch.
+    #[error("mark {0} is not from {1} to {2}")]
     BadMark(u128, u64, u64),
     /// The session that holds the table.
+    #[error("session {0} holds the table")]
     Locked(u8),
+    #[error("{} is the last projection with all columns", shown(.0))]
     LastSuper(Name),
+    #[error("the load file is absent")]
     NoFile,
+    #[error("the load file is too large")]
     FileTooLarge,
     /// The record and the field, each from 1.
+    #[error("field {1} of record {0} is wrong")]
     BadLoadLine(u64, u64),
+    #[error("a number is out of range for column {}", shown(.0))]
     IntegerOutOfRange(Name),
+    #[error("a text is too long for column {}", shown(.0))]
     TextTooLong(Name),
+    #[error("column {} takes no NULL", shown(.0))]
     NullRefused(Name),
+    #[error("a sum is out of range")]
     SumOutOfRange,
+    #[error("no epoch is left")]
     EpochsSpent,
+    #[error("no file number is left")]
     NumbersSpent,
     /// A statement whose form is not served yet.
+    #[error("the statement is not served")]
     NotBuilt,
+}
+
+// A name as a text; every name of a statement is one.
+fn shown(name: &Name) -> &str {
+    std::str::from_utf8(name.as_slice()).unwrap_or("?")
 }
 
 impl Which {

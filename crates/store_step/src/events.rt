@@ -6,7 +6,7 @@ ghost use Rattle.db_model.specs.Loading.{Files as LoadFiles};
 ghost use Rattle.db_model.specs.Refusals.{table_created_refusal, table_dropped_refusal};
 ghost use Rattle.db_model.specs.Refusing.{commit_refusal};
 ghost use Rattle.db_model.specs.State.{State};
-ghost use Rattle.plain_query.specs.Bounded.{IsBoundedQuery};
+ghost use Rattle.query_laws.specs.Bounded.{IsBoundedQuery};
 ghost use Rattle.sql_tree.specs.declared.statement.Statement.{Statement};
 ghost use Rattle.statement_plan.specs.Places.{table_place};
 ghost use Rattle.statement_plan.specs.Planned.{select_refusal, IsBoundIn};

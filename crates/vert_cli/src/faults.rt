@@ -8,6 +8,7 @@ ghost use Rattle.vert_cli.specs.Ends.{code_of, fault_of, fault_of_step, status_o
 use col_disk::StoreFault;
 use sql_tree::Refusal;
 use store_step::StepFault;
+use thiserror::Error;
 
 /// How the program ends.
 #[derive(Debug, Clone, Copy, PartialEq, Eq)]
@@ -86,19 +87,25 @@ impl Outcome {
 }
 
 /// Why a run stopped at a statement.
-#[derive(Debug, Clone, Copy, PartialEq, Eq)]
+#[derive(Debug, Clone, Copy, PartialEq, Eq, Error)]
 pub enum RunFault {
     /// The sink took no more; the statement has taken effect.
+    #[error("the output could not be written")]
     Sink,
     /// The disk failed.
+    #[error("the disk failed")]
     Disk,
     /// The file of this number is not what it has to be.
+    #[error("file {0} isn't what it has to be")]
     Damaged(u64),
     /// There was no memory to go on.
+    #[error("memory is short")]
     Memory,
     /// A file could not be read.
+    #[error("a file could not be read")]
     Read,
     /// The disk failed at an earlier statement.
+    #[error("the disk failed at an earlier statement")]
     Halted,
 }
 
