@@ -67,10 +67,12 @@ fn ordinal_free(k: &ProjColumn, later: &[ProjColumn]) -> bool
 fn ordinals_differ(columns: &[ProjColumn]) -> bool
     ensures { IsTrue result ↔ Pairwise (λ k l. k.ordinal ≢ l.ordinal) columns.now }
 {
-    for (i, k) in columns.iter().enumerate() {
-        if !ordinal_free(k, columns.split_at(i + 1).1) {
+    let mut rest = columns;
+    while let [k, later @ ..] = rest {
+        if !ordinal_free(k, later) {
             return false;
         }
+        rest = later;
     }
     true
 }
@@ -99,10 +101,12 @@ fn place_free(place: usize, later: &[usize]) -> bool
 fn places_differ(sort: &[usize]) -> bool
     ensures { IsTrue result ↔ Pairwise ◌≢◌ sort.now }
 {
-    for (i, place) in sort.iter().enumerate() {
-        if !place_free(*place, sort.split_at(i + 1).1) {
+    let mut rest = sort;
+    while let [place, later @ ..] = rest {
+        if !place_free(*place, later) {
             return false;
         }
+        rest = later;
     }
     true
 }
