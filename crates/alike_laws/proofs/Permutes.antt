@@ -7,7 +7,7 @@ use Rattle.common_laws.specs.Bags.{SameBag}
 use Rattle.common_laws.proofs.BagLaws.{count_append, count_cons}
 use Rattle.col_value.specs.declared.value.Value.{Value}
 use Rattle.sql_bound.specs.Outputs.{same_keys}
-use Rattle.plain_query.proofs.Once.{same_equal, same_itself}
+use Rattle.query_laws.proofs.Once.{same_equal, same_itself}
 use Rattle.db_model.specs.State.{without, without_one}
 
 abbrev one_if : Bool → ℕ

@@ -25,7 +25,7 @@ use Rattle.sql_binding.specs.Firsts.{first_of}
 use Rattle.sql_binding.specs.Queries.{bound_query, columns_of, over_groups, over_rows, query_refusal}
 use Rattle.sql_binding.specs.Sight.{sight}
 use Rattle.sql_binding.specs.Uses.{is_grouped}
-use Rattle.plain_query.specs.Laws.{ArePermuted, FailsTheSame, PrintsTheSame}
+use Rattle.query_laws.specs.Laws.{ArePermuted, FailsTheSame, PrintsTheSame}
 use Rattle.db_model.specs.Alike.{AreAlikeChanges, AreAlikeStates, IsAlikeTable}
 use Rattle.db_model.specs.Answers.{listing_text}
 use Rattle.db_model.specs.Database.{Table}

@@ -1,7 +1,7 @@
 ghost use Rattle.one_text.specs.OneText.{StatementsHaveOneText, MoveoutsOfOneFate, QueriesHaveOneCause, QueriesHaveOneText, SelectsHaveOneText};
 ghost use Rattle.one_text.specs.Scripts.{ScriptsHaveOneText};
 
-use plain_query::order_of_rows_is_free;
+use query_laws::order_of_rows_is_free;
 use query_order::one_printed_list;
 use sql_reader::one_reading;
 

@@ -13,10 +13,10 @@ use Rattle.sql_bound.specs.declared.query.FromItem.{FromItem}
 use Rattle.sql_bound.specs.declared.query.BoundQuery.{BoundQuery}
 use Rattle.sql_bound.specs.Outputs.{is_kept, kept, output, same_keys, tuples, IsSumTooGreat}
 use Rattle.sql_bound.specs.Printed.{IsPrinted}
-use Rattle.plain_query.specs.Laws.{ArePermuted}
-use Rattle.plain_query.proofs.AnyOrder.{output_permuted}
-use Rattle.plain_query.proofs.Great.{fails_the_same}
-use Rattle.plain_query.proofs.Once.{same_equal, same_itself}
+use Rattle.query_laws.specs.Laws.{ArePermuted}
+use Rattle.query_laws.proofs.AnyOrder.{output_permuted}
+use Rattle.query_laws.proofs.Great.{fails_the_same}
+use Rattle.query_laws.proofs.Once.{same_equal, same_itself}
 use Rattle.query_cover.specs.Seen.{AreSeenFrom, blanked, is_used}
 use Rattle.query_cover.proofs.Blanked.{blanked_from, HaveWidths, tuples_blanked}
 use Rattle.query_cover.proofs.Same.{great_from, great_to, HasGreat, outputs, query_kept_same, query_same}

@@ -8,8 +8,8 @@ use Rattle.col_value.specs.declared.value.Value.{Value}
 use Rattle.col_value.specs.declared.wide.Wide.{Wide}
 use Rattle.exec_group.specs.Groups.{AreGroups, HasGreatSum}
 use Rattle.exec_group.specs.declared.groups.Grouped.{Grouped}
-use Rattle.plain_query.proofs.AtMost.{group_fits, group_is_row, members_are_rows}
-use Rattle.plain_query.specs.Scopes.{IsGroupOf, is_shown}
+use Rattle.query_laws.proofs.AtMost.{group_fits, group_is_row, members_are_rows}
+use Rattle.query_laws.specs.Scopes.{IsGroupOf, is_shown}
 use Rattle.sql_bound.specs.declared.query.BoundQuery.{BoundQuery}
 use Rattle.sql_bound.specs.Bounds.{column_bound}
 use Rattle.sql_bound.specs.Outputs.{aggregate_over, group_keys, group_scope, group_scopes, keys_of, kept, members, output, same_keys}

@@ -6,7 +6,7 @@ use Rattle.col_value.specs.Order.{IsRow}
 use Rattle.col_value.specs.declared.value.Value.{Value}
 use Rattle.col_value.specs.declared.wide.Wide.{Wide}
 use Rattle.exec_group.specs.Groups.{HoldsGroups}
-use Rattle.plain_query.specs.Scopes.{is_shown}
+use Rattle.query_laws.specs.Scopes.{is_shown}
 use Rattle.query_order.specs.Enough.{count_up_to, IsEnough, AreFew}
 use Rattle.sql_bound.specs.declared.query.BoundQuery.{BoundQuery}
 use Rattle.sql_bound.specs.Bounds.{column_bound}

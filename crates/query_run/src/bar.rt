@@ -8,7 +8,7 @@ ghost use Rattle.col_value.specs.Order.{IsRow, wide_cmp, wide_kind};
 ghost use Rattle.col_value.specs.declared.wide.Wide.{Wide as Result};
 ghost use Rattle.col_value.specs.declared.wide.Wide.TheVariants.{Null};
 ghost use Rattle.expr_value.specs.Worths.{wide_of};
-ghost use Rattle.plain_query.specs.Bounded.{IsBoundedQuery};
+ghost use Rattle.query_laws.specs.Bounded.{IsBoundedQuery};
 ghost use Rattle.sql_bound.specs.Printed.{key_cmp, printed_cmp, IsPrinted};
 ghost use Rattle.sql_bound.specs.Values.{of_row};
 ghost use Rattle.query_run.specs.Outputs.{items_in, IsBar};

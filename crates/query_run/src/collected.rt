@@ -3,7 +3,7 @@
 ghost use Rattle.std.specs.Prelude.{◌≡◌, ◌++◌, ◌∷◌, false, List, [], OnOk, IfOk};
 ghost use Rattle.col_value.specs.Order.{IsRow};
 ghost use Rattle.col_value.specs.declared.value.Value.{Value};
-ghost use Rattle.plain_query.specs.Bounded.{IsBoundedQuery};
+ghost use Rattle.query_laws.specs.Bounded.{IsBoundedQuery};
 ghost use Rattle.query_order.specs.Enough.{AreFew};
 ghost use Rattle.query_run.specs.Outputs.{HoldsOutput, IsAdded};
 

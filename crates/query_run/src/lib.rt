@@ -3,7 +3,7 @@
 //! `printed` gives what `sql_bound` defines a query to print. The rows of each FROM item behind the first stand in a table under the
 //! columns that a condition equates with columns of the items before it, so that only rows that can join are put together; each
 //! tuple that is kept goes at once to its group, or becomes an output row, of which few more are held than a LIMIT asks for; one that stands
-//! behind as many by the keys of ORDER BY isn't even made. The promise is that of `plain_query`, with its words.
+//! behind as many by the keys of ORDER BY isn't even made.
 //! A `Run` is the same where the rows of the first FROM item come one by one, and are not held: `HasTaken` in `specs/Runs.antt` says
 //! what came.
 #![tactic(auto)]
@@ -11,11 +11,13 @@
 mod bar;
 mod collected;
 mod equated;
+mod fault;
 mod output;
 mod printing;
 mod run;
 mod side;
 mod walk;
 
+pub use fault::QueryFault;
 pub use printing::printed;
 pub use run::Run;

@@ -6,17 +6,17 @@ ghost use Rattle.std.specs.Option.{option_map_or};
 ghost use Rattle.col_value.specs.declared.value.Value.{Value};
 ghost use Rattle.sql_bound.specs.Bounds.{bound_of_aggregate, is_narrow};
 ghost use Rattle.sql_bound.specs.Outputs.{output, IsSumTooGreat};
-ghost use Rattle.plain_query.specs.Bounded.{IsBoundedQuery};
-ghost use Rattle.plain_query.specs.Scopes.{is_shown, IsGroupOf};
-ghost use Rattle.plain_query.specs.declared.fault.QueryFault.{QueryFault};
+ghost use Rattle.query_laws.specs.Bounded.{IsBoundedQuery};
+ghost use Rattle.query_laws.specs.Scopes.{is_shown, IsGroupOf};
+ghost use Rattle.query_run.specs.declared.fault.QueryFault.{QueryFault};
 ghost use Rattle.query_order.specs.Enough.{IsEnough};
 ghost use Rattle.query_run.specs.Outputs.{HasCollected, items_in, scope_of, scopes_of, shown};
 
 use crate::collected::Collected;
+use crate::fault::QueryFault;
 use col_value::{Value, Wide, WideRow};
 use exec_group::{GroupFault, Grouped};
 use expr_value::{Sight, is_true, items_at};
-use plain_query::QueryFault;
 use sql_bound::BoundQuery;
 use std::alloc::{AllocError, Global};
 

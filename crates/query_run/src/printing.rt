@@ -6,15 +6,15 @@ ghost use Rattle.col_value.specs.Order.{IsRow};
 ghost use Rattle.col_value.specs.declared.value.Value.{Value};
 ghost use Rattle.sql_bound.specs.Outputs.{output, IsSumTooGreat};
 ghost use Rattle.sql_bound.specs.Printed.{IsPrinted};
-ghost use Rattle.plain_query.specs.Bounded.{IsBoundedQuery};
-ghost use Rattle.plain_query.specs.declared.fault.QueryFault.{QueryFault};
+ghost use Rattle.query_laws.specs.Bounded.{IsBoundedQuery};
+ghost use Rattle.query_run.specs.declared.fault.QueryFault.{QueryFault};
 ghost use Rattle.query_run.specs.Outputs.{HasCollected};
 
 use crate::collected::Collected;
+use crate::fault::QueryFault;
 use crate::output::output;
 use crate::walk::collected;
 use col_value::{List, Row, WideRow};
-use plain_query::QueryFault;
 use query_order::{enough_is_printed, order_rows};
 use sql_bound::BoundQuery;
 use std::alloc::Global;

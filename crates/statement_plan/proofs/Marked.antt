@@ -25,7 +25,7 @@ use Rattle.name_binder.specs.declared.fault.BindFault.{BindFault}
 use Rattle.name_binder.specs.Refusing.{RefusesBy}
 use Rattle.change_binder.specs.Answers.{IsBoundDelete, IsBoundUpdate, columns_in, parts_of_update}
 use Rattle.change_binder.specs.declared.updates.BoundUpdate.{BoundUpdate}
-use Rattle.plain_query.specs.Bounded.{IsBoundedQuery}
+use Rattle.query_laws.specs.Bounded.{IsBoundedQuery}
 use Rattle.db_model.specs.Database.{Table}
 use Rattle.db_model.specs.State.{State}
 use Rattle.db_model.specs.Refusals.{locked, rows_deleted_refusal}

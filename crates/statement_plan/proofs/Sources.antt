@@ -24,7 +24,7 @@ use Rattle.name_binder.specs.Refusing.{RefusesBy}
 use Rattle.name_binder.specs.Tables as there
 use Rattle.statement_binder.specs.Answers.{IsBoundQuery}
 use Rattle.statement_binder.proofs.Refused.{same_trees}
-use Rattle.plain_query.specs.Bounded.{IsBoundedQuery, seen_bounds}
+use Rattle.query_laws.specs.Bounded.{IsBoundedQuery, seen_bounds}
 use Rattle.db_model.specs.Database.{Table}
 use Rattle.db_model.specs.State.{State}
 use Rattle.db_model.specs.Views.{table_found, columns_found, source_tables, bound_in}

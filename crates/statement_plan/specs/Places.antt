@@ -14,7 +14,7 @@ use Rattle.sql_binding.specs.Projections.{bound_projection}
 use Rattle.change_binder.specs.Answers.{parts_of_update}
 use Rattle.change_binder.specs.declared.projections.ProjectionShape.{ProjectionShape}
 use Rattle.change_binder.specs.declared.updates.BoundUpdate.{BoundUpdate}
-use Rattle.plain_query.specs.Bounded.{IsBoundedQuery}
+use Rattle.query_laws.specs.Bounded.{IsBoundedQuery}
 use Rattle.db_model.specs.Database.{Shape, Table, is_super}
 use Rattle.db_model.specs.State.{State}
 use Rattle.db_model.specs.Views.{table_found}

@@ -15,7 +15,7 @@ use Rattle.db_model.specs.State.{State}
 use Rattle.db_model.specs.Views.{bound_in, columns_found}
 use Rattle.db_model.specs.Refusing.{commit_refusal, epoch_refusal}
 use Rattle.db_model.specs.Refusals.{projection_created_refusal, projection_dropped_refusal, query_refusal_in, rows_deleted_refusal, rows_inserted_refusal, table_created_refusal, table_dropped_refusal, unknown_table_refusal}
-use Rattle.plain_query.specs.Bounded.{IsBoundedQuery}
+use Rattle.query_laws.specs.Bounded.{IsBoundedQuery}
 use Rattle.statement_plan.specs.Places.{IsDeleteOf, IsProjectionOf, IsUpdateOf, projection_places, table_place}
 use Rattle.statement_plan.specs.declared.plans.Plan.{Plan}
 

@@ -7,9 +7,9 @@ use Rattle.std.proofs.lemmas.List.Sorted.{IsPermutation-refl, IsPermutation-sym,
 use Rattle.common_laws.proofs.BagLaws.{bag_map, bag_refl}
 use Rattle.col_value.specs.declared.row.Asked.{Asked}
 use Rattle.row_history.specs.History.{visible}
-use Rattle.plain_query.specs.Laws.{ArePermuted}
-use Rattle.plain_query.proofs.AnyOrder.{output_permuted}
-use Rattle.plain_query.proofs.Great.{fails_the_same}
+use Rattle.query_laws.specs.Laws.{ArePermuted}
+use Rattle.query_laws.proofs.AnyOrder.{output_permuted}
+use Rattle.query_laws.proofs.Great.{fails_the_same}
 use Rattle.sql_bound.specs.declared.query.FromItem.{FromItem}
 use Rattle.std.proofs.lemmas.Bool.Decides.{nat_tests}
 use Rattle.col_disk.specs.declared.disk.Disk.{Ghosts}

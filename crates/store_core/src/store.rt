@@ -15,7 +15,7 @@ ghost use Rattle.db_model.specs.Events.{changes_committed, changes_dropped, rows
 ghost use Rattle.db_model.specs.Numbers.{IsDrawn};
 ghost use Rattle.db_model.specs.Printing.{IsListed};
 ghost use Rattle.db_model.specs.Views.{bound_in, inputs};
-ghost use Rattle.plain_query.specs.Bounded.{IsBoundedQuery};
+ghost use Rattle.query_laws.specs.Bounded.{IsBoundedQuery};
 ghost use Rattle.sql_bound.specs.Outputs.{IsSumTooGreat};
 ghost use Rattle.sql_tree.specs.declared.query.Query.{Query};
 ghost use Rattle.db_model.specs.Refusals.{locked, table_created_refusal, table_dropped_refusal};

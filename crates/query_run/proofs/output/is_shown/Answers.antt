@@ -3,7 +3,7 @@ use Rattle.std.specs.Option.{option_map_or}
 use Rattle.sql_bound.specs.declared.expr.Expr.{Expr}
 use Rattle.sql_bound.specs.Bounds.{bound_of_aggregate, bound_of_value, is_narrow}
 use Rattle.sql_bound.specs.Values.{Scope, is_true, value_of}
-use Rattle.plain_query.proofs.Shown.{narrow_here}
+use Rattle.query_laws.proofs.Shown.{narrow_here}
 use Rattle.query_run.specs.Outputs.{scope_of}
 use Rattle.query_run.proofs.output.is_shown.Goals as goal
 

@@ -1,6 +1,6 @@
 use Rattle.std.proofs.Common.{◌≡◌, ◌++◌, drop}
 use Rattle.std.specs.List.{All}
-use Rattle.plain_query.specs.Scopes.{IsGroupOf}
+use Rattle.query_laws.specs.Scopes.{IsGroupOf}
 use Rattle.query_run.specs.Outputs.{scopes_of, shown}
 use Rattle.query_run.proofs.output.of_groups.Given as goal
 

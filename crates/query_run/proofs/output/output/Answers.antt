@@ -1,5 +1,5 @@
 use Rattle.std.proofs.Common.{◌∙◌, refl, subst, sym}
-use Rattle.plain_query.proofs.TupleRows.{kept_are_rows}
+use Rattle.query_laws.proofs.TupleRows.{kept_are_rows}
 use Rattle.sql_bound.specs.Outputs.{kept, output}
 use Rattle.query_order.specs.Enough.{IsEnough}
 use Rattle.query_order.proofs.Enough.{enough_itself}

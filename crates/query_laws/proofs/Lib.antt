@@ -1,0 +1,11 @@
+pub mod Alike
+pub mod AnyOrder
+pub mod AtMost
+pub mod Bare
+pub mod Best
+pub mod Great
+pub mod NarrowLess
+pub mod Once
+pub mod Sequences
+pub mod Shown
+pub mod TupleRows
