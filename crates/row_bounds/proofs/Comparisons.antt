@@ -1,0 +1,188 @@
+-- A true comparison of two values, with its sides exchanged, and as a bound.
+use Rattle.std.proofs.Common.{◌≡◌, ◌⊎◌, ℕ, Bool, true, false, cond, List, Option, Some, None, inl, inr, refl, sym, ap, ap₂, ◌∙◌}
+use Rattle.std.specs.Prelude.{◌&&◌}
+use Rattle.std.specs.List.{slice_index_or}
+use Rattle.std.specs.Option.{IfSome}
+use Rattle.std.specs.Ordering.{is_eq, is_le, is_lt, is_gt, is_ge, ordering_reverse}
+use Rattle.std.specs.declared.cmp.Ordering.{Ordering}
+use Rattle.std.specs.declared.cmp.Ordering.TheVariants.{Less, Equal, Greater}
+use Rattle.col_value.specs.Laws.{value_total, wide_total}
+use Rattle.col_value.specs.Order.{value_cmp, wide_cmp, widened}
+use Rattle.col_value.specs.declared.value.Value.{Value}
+use Rattle.col_value.specs.declared.value.Value.TheVariants as value
+use Rattle.col_value.specs.declared.wide.Wide.{Wide}
+use Rattle.col_value.specs.declared.wide.Wide.TheVariants as wide
+use Rattle.sql_tree.specs.declared.tree.Cmp.{Cmp}
+use Rattle.sql_bound.specs.declared.expr.Expr.{Expr}
+use Rattle.sql_bound.specs.Values.{are_kin, compared, holds, is_true, of_row, value_of}
+use Rattle.row_bounds.specs.declared.bound.Bound.{Bound}
+use Rattle.row_bounds.specs.Bounds.{lies_in}
+
+kin_turned : (a b : Wide) → are_kin a b ≡ true → are_kin b a ≡ true
+kin_turned wide.Null b e = absurd (null b e)
+  where
+    null : (b : Wide) → are_kin wide.Null b ≡ true → ⊥
+    null wide.Null e = cc
+    null (wide.Bool y) e = cc
+    null (wide.Int y) e = cc
+    null (wide.Text y) e = cc
+kin_turned (wide.Bool x) wide.Null e = absurd cc
+kin_turned (wide.Bool x) (wide.Bool y) e = refl
+kin_turned (wide.Bool x) (wide.Int y) e = absurd cc
+kin_turned (wide.Bool x) (wide.Text y) e = absurd cc
+kin_turned (wide.Int x) wide.Null e = absurd cc
+kin_turned (wide.Int x) (wide.Bool y) e = absurd cc
+kin_turned (wide.Int x) (wide.Int y) e = refl
+kin_turned (wide.Int x) (wide.Text y) e = absurd cc
+kin_turned (wide.Text x) wide.Null e = absurd cc
+kin_turned (wide.Text x) (wide.Bool y) e = absurd cc
+kin_turned (wide.Text x) (wide.Int y) e = absurd cc
+kin_turned (wide.Text x) (wide.Text y) e = refl
+
+told : (kin holds : Bool) → is_true (cond kin (wide.Bool holds) wide.Null) ≡ true → (kin ≡ true) × (holds ≡ true)
+told true h e = (refl, e)
+told false h e = absurd cc
+
+-- one comparison says the same as another one with its sides exchanged
+abbrev Turns : Cmp → Cmp → Type 0
+Turns c d = (o : Ordering) → holds c o ≡ holds d (ordering_reverse o)
+
+turned_by : (c d : Cmp) → Turns c d → (a b : Wide) → is_true (compared c a b) ≡ true → is_true (compared d b a) ≡ true
+turned_by c d turns a b e =
+    let both = told (are_kin a b) (holds c (wide_cmp a b)) e in
+    let kin : are_kin b a ≡ true = kin_turned a b both.0 in
+    let held : holds d (wide_cmp b a) ≡ true = ap (holds d) (wide_total.antisymm b a) ∙ sym (turns (wide_cmp a b)) ∙ both.1 in
+    ap₂ (λ (k h : Bool). is_true (cond k (wide.Bool h) wide.Null)) kin held
+
+pub eq_turned : (a b : Wide) → is_true (compared Cmp.Eq a b) ≡ true → is_true (compared Cmp.Eq b a) ≡ true
+eq_turned = turned_by Cmp.Eq Cmp.Eq by
+  where
+    by : Turns Cmp.Eq Cmp.Eq
+    by Less = refl
+    by Equal = refl
+    by Greater = refl
+
+pub ne_turned : (a b : Wide) → is_true (compared Cmp.Ne a b) ≡ true → is_true (compared Cmp.Ne b a) ≡ true
+ne_turned = turned_by Cmp.Ne Cmp.Ne by
+  where
+    by : Turns Cmp.Ne Cmp.Ne
+    by Less = refl
+    by Equal = refl
+    by Greater = refl
+
+pub lt_turned : (a b : Wide) → is_true (compared Cmp.Lt a b) ≡ true → is_true (compared Cmp.Gt b a) ≡ true
+lt_turned = turned_by Cmp.Lt Cmp.Gt by
+  where
+    by : Turns Cmp.Lt Cmp.Gt
+    by Less = refl
+    by Equal = refl
+    by Greater = refl
+
+pub le_turned : (a b : Wide) → is_true (compared Cmp.Le a b) ≡ true → is_true (compared Cmp.Ge b a) ≡ true
+le_turned = turned_by Cmp.Le Cmp.Ge by
+  where
+    by : Turns Cmp.Le Cmp.Ge
+    by Less = refl
+    by Equal = refl
+    by Greater = refl
+
+pub gt_turned : (a b : Wide) → is_true (compared Cmp.Gt a b) ≡ true → is_true (compared Cmp.Lt b a) ≡ true
+gt_turned = turned_by Cmp.Gt Cmp.Lt by
+  where
+    by : Turns Cmp.Gt Cmp.Lt
+    by Less = refl
+    by Equal = refl
+    by Greater = refl
+
+pub ge_turned : (a b : Wide) → is_true (compared Cmp.Ge a b) ≡ true → is_true (compared Cmp.Le b a) ≡ true
+ge_turned = turned_by Cmp.Ge Cmp.Le by
+  where
+    by : Turns Cmp.Ge Cmp.Le
+    by Less = refl
+    by Equal = refl
+    by Greater = refl
+
+-- a comparison says that the one is up to the other
+abbrev IsUpTo : Cmp → Type 0
+IsUpTo c = (o : Ordering) → holds c o ≡ true → is_le o ≡ true
+
+-- and this one, that it is from the other on
+abbrev IsFromOn : Cmp → Type 0
+IsFromOn c = (o : Ordering) → holds c o ≡ true → is_le (ordering_reverse o) ≡ true
+
+up_by : (c : Cmp) → IsUpTo c → (v w : Value) → is_true (compared c (widened v) (widened w)) ≡ true → is_le (value_cmp v w) ≡ true
+up_by c up v w e = up (value_cmp v w) (told (are_kin (widened v) (widened w)) (holds c (value_cmp v w)) e).1
+
+on_by : (c : Cmp) → IsFromOn c → (v w : Value) → is_true (compared c (widened v) (widened w)) ≡ true → is_le (value_cmp w v) ≡ true
+on_by c from v w e = ap is_le (value_total.antisymm w v) ∙ from (value_cmp v w) (told (are_kin (widened v) (widened w)) (holds c (value_cmp v w)) e).1
+
+pub lt_up : (v w : Value) → is_true (compared Cmp.Lt (widened v) (widened w)) ≡ true → is_le (value_cmp v w) ≡ true
+lt_up = up_by Cmp.Lt by
+  where
+    by : IsUpTo Cmp.Lt
+    by Less e = refl
+    by Equal e = absurd cc
+    by Greater e = absurd cc
+
+pub le_up : (v w : Value) → is_true (compared Cmp.Le (widened v) (widened w)) ≡ true → is_le (value_cmp v w) ≡ true
+le_up = up_by Cmp.Le (λ o e. e)
+
+pub eq_up : (v w : Value) → is_true (compared Cmp.Eq (widened v) (widened w)) ≡ true → is_le (value_cmp v w) ≡ true
+eq_up = up_by Cmp.Eq by
+  where
+    by : IsUpTo Cmp.Eq
+    by Less e = absurd cc
+    by Equal e = refl
+    by Greater e = absurd cc
+
+pub gt_on : (v w : Value) → is_true (compared Cmp.Gt (widened v) (widened w)) ≡ true → is_le (value_cmp w v) ≡ true
+gt_on = on_by Cmp.Gt by
+  where
+    by : IsFromOn Cmp.Gt
+    by Less e = absurd cc
+    by Equal e = absurd cc
+    by Greater e = refl
+
+pub ge_on : (v w : Value) → is_true (compared Cmp.Ge (widened v) (widened w)) ≡ true → is_le (value_cmp w v) ≡ true
+ge_on = on_by Cmp.Ge by
+  where
+    by : IsFromOn Cmp.Ge
+    by Less e = absurd cc
+    by Equal e = refl
+    by Greater e = refl
+
+pub eq_on : (v w : Value) → is_true (compared Cmp.Eq (widened v) (widened w)) ≡ true → is_le (value_cmp w v) ≡ true
+eq_on = on_by Cmp.Eq by
+  where
+    by : IsFromOn Cmp.Eq
+    by Less e = absurd cc
+    by Equal e = refl
+    by Greater e = absurd cc
+
+-- ---- as a bound
+
+pub eq_lies : (c : Cmp) (least v w : Value) → c ≡ Cmp.Eq → least ≡ w → is_true (compared c (widened v) (widened w)) ≡ true → (is_le (value_cmp least v) && is_le (value_cmp v w)) ≡ true
+eq_lies c least v w is same e =
+    let equal : is_true (compared Cmp.Eq (widened v) (widened w)) ≡ true = ap (λ (d : Cmp). is_true (compared d (widened v) (widened w))) (sym is) ∙ e in
+    ap₂ (λ (a b : Bool). a && b) (ap (λ (x : Value). is_le (value_cmp x v)) same ∙ eq_on v w equal) (eq_up v w equal)
+
+pub on_lies : (c : Cmp) (v w : Value) → (c ≡ Cmp.Gt) ⊎ (c ≡ Cmp.Ge) → is_true (compared c (widened v) (widened w)) ≡ true → (is_le (value_cmp w v) && true) ≡ true
+on_lies c v w (inl is) e = ap (λ (b : Bool). b && true) (gt_on v w (ap (λ (d : Cmp). is_true (compared d (widened v) (widened w))) (sym is) ∙ e))
+on_lies c v w (inr is) e = ap (λ (b : Bool). b && true) (ge_on v w (ap (λ (d : Cmp). is_true (compared d (widened v) (widened w))) (sym is) ∙ e))
+
+-- what is true of a column and a literal, is so of each row where the comparison is
+pub set_bound : (c : Cmp) (a b : Expr) (column : ℕ) (w : Wide) (o : Option Bound) → ((row : List Value) → value_of (of_row row) a ≡ widened (slice_index_or row column value.Null)) → ((row : List Value) → value_of (of_row row) b ≡ w)
+    → IfSome o (λ bound. (bound.column ≡ column) × ((v : Value) → is_true (compared c (widened v) w) ≡ true → lies_in bound v ≡ true))
+    → IfSome o (λ bound. (row : List Value) → is_true (compared c (value_of (of_row row) a) (value_of (of_row row) b)) ≡ true → lies_in bound (slice_index_or row bound.column value.Null) ≡ true)
+set_bound c a b column w None a_is b_is set = tt
+set_bound c a b column w (Some bound) a_is b_is (at, lies) = λ row e.
+    ap (λ (n : ℕ). lies_in bound (slice_index_or row n value.Null)) at
+    ∙ lies (slice_index_or row column value.Null) (ap₂ (λ (x y : Wide). is_true (compared c x y)) (sym (a_is row)) (sym (b_is row)) ∙ e)
+
+pub set_turned : (c d : Cmp) (a b : Expr) (column : ℕ) (w : Wide) (o : Option Bound) → ((x y : Wide) → is_true (compared c x y) ≡ true → is_true (compared d y x) ≡ true)
+    → ((row : List Value) → value_of (of_row row) b ≡ widened (slice_index_or row column value.Null)) → ((row : List Value) → value_of (of_row row) a ≡ w)
+    → IfSome o (λ bound. (bound.column ≡ column) × ((v : Value) → is_true (compared d (widened v) w) ≡ true → lies_in bound v ≡ true))
+    → IfSome o (λ bound. (row : List Value) → is_true (compared c (value_of (of_row row) a) (value_of (of_row row) b)) ≡ true → lies_in bound (slice_index_or row bound.column value.Null) ≡ true)
+set_turned c d a b column w None turns b_is a_is set = tt
+set_turned c d a b column w (Some bound) turns b_is a_is set = λ row e.
+    set_bound d b a column w (Some bound) b_is a_is set row (turns (value_of (of_row row) a) (value_of (of_row row) b) e)

@@ -1,0 +1,4 @@
+pub mod Ends
+pub mod Comparisons
+pub mod Parts
+pub mod Fronts

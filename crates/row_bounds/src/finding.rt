@@ -1,0 +1,231 @@
+//! The bounds that conditions set.
+
+ghost use Rattle.std.specs.Prelude.{◌≡◌, ◌<◌, true, List, IfOk, OnOk};
+ghost use Rattle.std.specs.List.{All, slice_index_or};
+ghost use Rattle.std.specs.Option.{IfSome};
+ghost use Rattle.col_value.specs.declared.value.Value.{Value as Item};
+ghost use Rattle.col_value.specs.declared.value.Value.TheVariants.{Null};
+ghost use Rattle.col_value.specs.declared.wide.Wide.{Wide as Worth};
+ghost use Rattle.col_value.specs.Order.{widened};
+ghost use Rattle.sql_bound.specs.Outputs.{is_kept};
+ghost use Rattle.sql_bound.specs.Values.{compared, is_true, of_row, value_of};
+ghost use Rattle.row_bounds.specs.Bounds.{lies_in, within};
+
+use crate::bound::Bound;
+use col_value::{Value, Wide};
+use sql_bound::Expr;
+use sql_tree::Cmp;
+use std::alloc::{AllocError, Global};
+
+/// The bounds that conditions set to the values of a row's first columns, of which there are so many. A condition that compares a column
+/// with a literal sets one, and so does each part of an AND.
+pub fn bounds_of(alloc: Global, keep: &[Expr], columns: usize) -> Result<Vec<Bound>, AllocError>
+    ensures own { IfOk result (λ v. All (λ b. b.column < columns) v.items) }
+    ensures kept { IfOk result (λ v. (row : List Item) → is_kept keep.now row ≡ true → within v.items row ≡ true) }
+{
+    let mut out = Vec::new(alloc);
+    add_all(alloc, keep, columns, &mut out)?;
+    Ok(out)
+}
+
+/// Adds the bounds that a condition sets.
+#[cycle(adding)]
+fn add_bounds(
+    alloc: Global,
+    e: &Expr,
+    columns: usize,
+    out: &mut Vec<Bound>,
+) -> Result<(), AllocError>
+    requires own { All (λ b. b.column < columns) out.old.items }
+    ensures own { OnOk result (All (λ b. b.column < columns) out.new.items) }
+    ensures kept { OnOk result ((row : List Item) → is_true (value_of (of_row row) e.now) ≡ true → within out.old.items row ≡ true → within out.new.items row ≡ true) }
+{
+    match e {
+        Expr::Compare(a, cmp, b) => add_compared(alloc, a.get(), *cmp, b.get(), columns, out),
+        Expr::And(parts) => add_all(alloc, parts.as_slice(), columns, out),
+        Expr::Lit(_)
+        | Expr::Col(_)
+        | Expr::Key(_)
+        | Expr::Agg(_)
+        | Expr::Neg(_)
+        | Expr::Sum(_)
+        | Expr::Product(_)
+        | Expr::IsNull(_)
+        | Expr::Not(_)
+        | Expr::Or(_) => Ok(()),
+    }
+}
+
+/// Adds the bounds that each of some conditions sets.
+#[cycle(adding)]
+fn add_all(
+    alloc: Global,
+    parts: &[Expr],
+    columns: usize,
+    out: &mut Vec<Bound>,
+) -> Result<(), AllocError>
+    requires own { All (λ b. b.column < columns) out.old.items }
+    ensures own { OnOk result (All (λ b. b.column < columns) out.new.items) }
+    ensures kept { OnOk result ((row : List Item) → is_kept parts.now row ≡ true → within out.old.items row ≡ true → within out.new.items row ≡ true) }
+{
+    for part in parts {
+        add_bounds(alloc, part, columns, out)?;
+    }
+    Ok(())
+}
+
+/// Adds the bound that a comparison sets to one of the first columns, if it sets one.
+fn add_compared(
+    alloc: Global,
+    a: &Expr,
+    cmp: Cmp,
+    b: &Expr,
+    columns: usize,
+    out: &mut Vec<Bound>,
+) -> Result<(), AllocError>
+    requires own { All (λ b. b.column < columns) out.old.items }
+    ensures own { OnOk result (All (λ b. b.column < columns) out.new.items) }
+    ensures kept { OnOk result ((row : List Item) → is_true (compared cmp (value_of (of_row row) a.now) (value_of (of_row row) b.now)) ≡ true → within out.old.items row ≡ true → within out.new.items row ≡ true) }
+{
+    if let Some(bound) = bound_of(alloc, a, cmp, b)? {
+        if bound.column < columns {
+            out.push(bound)?;
+        }
+    }
+    Ok(())
+}
+
+/// The bound that a comparison of a column with a literal sets.
+fn bound_of(alloc: Global, a: &Expr, cmp: Cmp, b: &Expr) -> Result<Option<Bound>, AllocError>
+    ensures { IfOk result (λ o. IfSome o (λ bound. (row : List Item) → is_true (compared cmp (value_of (of_row row) a.now) (value_of (of_row row) b.now)) ≡ true → lies_in bound (slice_index_or row bound.column Null) ≡ true)) }
+{
+    if let (Some(column), Some(value)) = (column_of(a), literal_of(b)) {
+        return bound_on(alloc, column, cmp, value);
+    }
+    if let (Some(column), Some(value)) = (column_of(b), literal_of(a)) {
+        return bound_on(alloc, column, turned(cmp), value);
+    }
+    Ok(None)
+}
+
+/// The column that an expression is.
+fn column_of(e: &Expr) -> Option<usize>
+    ensures { IfSome result (λ c. (row : List Item) → value_of (of_row row) e.now ≡ widened (slice_index_or row c Null)) }
+{
+    match e {
+        Expr::Col(c) => Some(*c),
+        Expr::Lit(_)
+        | Expr::Key(_)
+        | Expr::Agg(_)
+        | Expr::Neg(_)
+        | Expr::Sum(_)
+        | Expr::Product(_)
+        | Expr::Compare(_, _, _)
+        | Expr::IsNull(_)
+        | Expr::Not(_)
+        | Expr::And(_)
+        | Expr::Or(_) => None,
+    }
+}
+
+/// The literal that an expression is.
+fn literal_of(e: &Expr) -> Option<&Wide>
+    ensures { IfSome result (λ w. (row : List Item) → value_of (of_row row) e.now ≡ w.now) }
+{
+    match e {
+        Expr::Lit(value) => Some(value),
+        Expr::Col(_)
+        | Expr::Key(_)
+        | Expr::Agg(_)
+        | Expr::Neg(_)
+        | Expr::Sum(_)
+        | Expr::Product(_)
+        | Expr::Compare(_, _, _)
+        | Expr::IsNull(_)
+        | Expr::Not(_)
+        | Expr::And(_)
+        | Expr::Or(_) => None,
+    }
+}
+
+/// The comparison that says the same with its sides exchanged.
+fn turned(cmp: Cmp) -> Cmp
+    ensures { (a b : Worth) → is_true (compared cmp a b) ≡ true → is_true (compared result b a) ≡ true }
+{
+    match cmp {
+        Cmp::Eq => Cmp::Eq,
+        Cmp::Ne => Cmp::Ne,
+        Cmp::Lt => Cmp::Gt,
+        Cmp::Le => Cmp::Ge,
+        Cmp::Gt => Cmp::Lt,
+        Cmp::Ge => Cmp::Le,
+    }
+}
+
+/// The bound of a column that stands so to a literal, where the literal is a value of a table.
+fn bound_on(
+    alloc: Global,
+    column: usize,
+    cmp: Cmp,
+    literal: &Wide,
+) -> Result<Option<Bound>, AllocError>
+    ensures { IfOk result (λ o. IfSome o (λ bound. (bound.column ≡ column) × ((v : Item) → is_true (compared cmp (widened v) literal.now) ≡ true → lies_in bound v ≡ true))) }
+{
+    match narrowed(alloc, literal)? {
+        Some(value) => bound_at(alloc, column, cmp, value),
+        None => Ok(None),
+    }
+}
+
+/// The value of a table that widens to a literal; none for NULL, to which nothing compares.
+fn narrowed(alloc: Global, literal: &Wide) -> Result<Option<Value>, AllocError>
+    ensures { IfOk result (λ o. IfSome o (λ v. widened v ≡ literal.now)) }
+{
+    match literal {
+        Wide::Null => Ok(None),
+        Wide::Bool(b) => Ok(Some(Value::Bool(*b))),
+        Wide::Int(n) => Ok(number(*n)),
+        Wide::Text(t) => Ok(Some(Value::Text(t.copy(alloc)?))),
+    }
+}
+
+fn number(n: i128) -> Option<Value>
+    ensures { IfSome result (λ v. widened v ≡ Worth.Int n) }
+{
+    match i64::try_from(n) {
+        Ok(n) => Some(Value::Int(n)),
+        Err(_) => None,
+    }
+}
+
+/// The bound of a column that stands so to a value.
+fn bound_at(
+    alloc: Global,
+    column: usize,
+    cmp: Cmp,
+    value: Value,
+) -> Result<Option<Bound>, AllocError>
+    ensures { IfOk result (λ o. IfSome o (λ bound. (bound.column ≡ column) × ((v : Item) → is_true (compared cmp (widened v) (widened value)) ≡ true → lies_in bound v ≡ true))) }
+{
+    match cmp {
+        Cmp::Eq => {
+            let least = Some(value.copy(alloc)?);
+            Ok(Some(Bound {
+                column,
+                least,
+                greatest: Some(value),
+            }))
+        },
+        Cmp::Ne => Ok(None),
+        Cmp::Lt | Cmp::Le => Ok(Some(Bound {
+            column,
+            least: None,
+            greatest: Some(value),
+        })),
+        Cmp::Gt | Cmp::Ge => Ok(Some(Bound {
+            column,
+            least: Some(value),
+            greatest: None,
+        })),
+    }
+}
