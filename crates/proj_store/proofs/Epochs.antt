@@ -16,7 +16,7 @@ or_by : {X Y : Type 0} (f : X → Y) (a b : Option X) → option_map f (option_o
 or_by f None b = refl
 or_by f (Some x) b = refl
 
-or_twice : (a b c : Option ℕ) → option_or (option_or a b) c ≡ option_or a (option_or b c)
+pub or_twice : (a b c : Option ℕ) → option_or (option_or a b) c ≡ option_or a (option_or b c)
 or_twice None b c = refl
 or_twice (Some x) b c = refl
 

@@ -9,3 +9,5 @@ pub mod Inside
 pub mod Above
 pub mod Passed
 pub mod Prepared
+pub mod Deleted
+pub mod BlockRows

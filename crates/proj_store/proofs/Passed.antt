@@ -48,6 +48,3 @@ passed_picks m es k b wanted places need is none most rows holds =
 
 pub passed_inside : (k : Container) (places : List ℕ) → places ≡ [] → ArePlaces k places
 passed_inside k places is = subst (ArePlaces k) (sym is) (λ i d lt. absurd (omega (arith, lt)))
-
-pub picks_fewer : (mark : ℕ → Option ℕ) (rows : List Asked) (places : List ℕ) (need left : Asked → ℕ) → Picks mark rows places need left → (q : Asked) → left q ≤ need q
-picks_fewer mark rows places need left picks q = omega (arith, picks.taken q)

@@ -9,13 +9,10 @@ use Rattle.col_value.specs.declared.kinds.Encoding.{Encoding}
 use Rattle.col_value.specs.declared.row.Asked.{Asked}
 use Rattle.catalog_types.specs.declared.catalogue.Container.{Container}
 use Rattle.stored_rows.specs.Stored.{Beside, mark_in}
-use Rattle.stored_rows.proofs.OneList.{OneContainer}
-use Rattle.write_store.specs.declared.held.Held.{Held}
-use Rattle.wanted_rows.specs.Picked.{Picks, asked_of, del_at}
+use Rattle.wanted_rows.specs.Picked.{Picks}
 use Rattle.proj_store.specs.declared.kept.Kept.{Kept}
 use Rattle.proj_store.specs.Loaded.{beside_of}
 use Rattle.proj_store.specs.Sound.{IsKept}
-use Rattle.proj_store.specs.Reading.{ReadsContainer}
 use Rattle.proj_store.specs.Marking.{PicksIn, PicksEach, ArePlaces}
 use Rattle.proj_store.proofs.SavedRows.{beside_next}
 
@@ -27,21 +24,6 @@ picks_agree f mark rows places need left same picks = record {
   taken = picks.taken;
   none = λ j lt in_rows live out. picks.none j lt in_rows (same j ∙ live) out;
 }
-
-picks_held : OneContainer → (m : Contents) (es : List Encoding) (k : Container) (b : Beside) (rows : List Held) (places : List ℕ) (need left : Asked → ℕ) → ReadsContainer m es k (mark_in b) rows
-    → Picks (del_at rows) (asked_of rows) places need left → PicksIn m es k b places need left
-picks_held one m es k b rows places need left read picks others holds =
-    subst (λ (xs : List Asked). Picks (mark_in b) xs places need left) (one m es k (asked_of rows) others read.held holds)
-    (picks_agree (del_at rows) (mark_in b) (asked_of rows) places need left read.deleted picks)
-
-pub picks_read : OneContainer → (m : Contents) (es : List Encoding) (k : Container) (b : Beside) (rows read : List Held) (places got : List ℕ) (need left : Asked → ℕ) → read ≡ rows → got ≡ places → ReadsContainer m es k (mark_in b) rows
-    → Picks (del_at read) (asked_of read) places need left → PicksIn m es k b got need left
-picks_read one m es k b rows read places got need left same is found picks =
-    subst (λ (ps : List ℕ). PicksIn m es k b ps need left) (sym is)
-    (picks_held one m es k b rows places need left found (subst (λ (hs : List Held). Picks (del_at hs) (asked_of hs) places need left) same picks))
-
-pub picks_inside : (k : Container) (rows : List Held) (mark : ℕ → Option ℕ) (places : List ℕ) (need left : Asked → ℕ) → length (asked_of rows) ≡ k.rows → Picks mark (asked_of rows) places need left → ArePlaces k places
-picks_inside k rows mark places need left long picks i d lt = omega (arith, long, picks.before i d lt)
 
 picks_from : (mark : ℕ → Option ℕ) (rows : List Asked) (places : List ℕ) (need mid left : Asked → ℕ) → ((q : Asked) → mid q ≡ need q) → Picks mark rows places mid left → Picks mark rows places need left
 picks_from mark rows places need mid left same picks = record {

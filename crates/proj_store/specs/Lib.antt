@@ -2,3 +2,4 @@ pub mod Loaded
 pub mod Sound
 pub mod Reading
 pub mod Marking
+pub mod Blocks

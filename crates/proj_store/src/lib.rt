@@ -5,10 +5,13 @@
 //! says. `load` reads the delete vectors and nothing else; `stamped` and `visible` read the containers. For the rows of a commit
 //! `prepare_rows` makes room, and may fail; `apply_rows` takes no memory. For its deletes `prepare_marks` finds the places
 //! (`IsPrepared` of `specs/Marking.antt`) and makes room, and `apply_marks` takes no memory; `wanted_rows_are_deleted` says that
-//! marks at these places delete exactly what was wanted. A container that has no row of a wanted epoch is not read for it.
+//! marks at these places delete exactly what was wanted. A container that has no row of a wanted epoch is not read for it; the others
+//! are read block by block, until nothing is wanted any more.
 #![tactic(auto)]
 
+mod blocks;
 mod copies;
+mod deletes;
 mod kept;
 mod laws;
 mod loading;

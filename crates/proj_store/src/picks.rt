@@ -1,28 +1,33 @@
 //! Places of wanted rows in a projection's containers.
 
-ghost use Rattle.std.specs.Prelude.{◌≡◌, ◌≤◌, ◌↔◌, Some, length, map, IfOk, IfErr, IsTrue};
-ghost use Rattle.std.specs.List.{Any, AllZip};
+ghost use Rattle.std.specs.Prelude.{◌≡◌, ◌≤◌, ◌<◌, ◌+◌, ◌↔◌, Some, List, length, map, IfOk, IfErr, IsTrue, OnOk};
+ghost use Rattle.std.specs.List.{All, Any, AllZip};
 ghost use Rattle.common_laws.specs.Causes.{HasCause};
 ghost use Rattle.common_laws.specs.Maps.{Contents};
 ghost use Rattle.col_disk.specs.Moved.{Moved, NoName};
 ghost use Rattle.col_value.specs.declared.row.Asked.{Asked as ARow};
 ghost use Rattle.ros_container.specs.Encodings.{encodings_of};
-ghost use Rattle.ros_container.specs.Held.{BlamesContainer};
+ghost use Rattle.pos_index.specs.Index.{blocks};
+ghost use Rattle.ros_container.specs.Held.{HoldsContainer, BlamesContainer};
 ghost use Rattle.ros_container.specs.Rows.{IsWithin};
+ghost use Rattle.container_blocks.specs.Blocks.{IsIndexOf};
 ghost use Rattle.wanted_rows.specs.Wanted.{need_in, tally};
+ghost use Rattle.wanted_rows.specs.Picked.{Picks};
+ghost use Rattle.proj_store.specs.Blocks.{HasIndexes, PicksOn, in_list};
 ghost use Rattle.proj_store.specs.Loaded.{beside_of};
 ghost use Rattle.proj_store.specs.Sound.{IsKept, IsSound, HasFileNumbers};
 ghost use Rattle.proj_store.specs.Reading.{BlamesRows};
 ghost use Rattle.proj_store.specs.Marking.{PicksIn, PicksEach, ArePlaces};
 
+use crate::blocks::{indexes_of, read_block};
+use crate::deletes::deletes_of;
 use crate::kept::Kept;
-use crate::saved::read_rows;
 use catalog_types::{Container, Projection};
 use col_disk::{Disk, StoreFault};
 use col_value::{Asked, List};
-use ros_container::one_container;
+use pos_index::{PosIndex, blocks_of};
 use std::alloc::{AllocError, Global};
-use wanted_rows::{Wants, pick};
+use wanted_rows::{Wants, pick_from};
 
 /// Whether a row of these may be in the container, by their insert epochs.
 fn may_hold(container: &Container, wanted: &[Asked]) -> bool
@@ -34,7 +39,85 @@ fn may_hold(container: &Container, wanted: &[Asked]) -> bool
         .any(|asked| least <= asked.ins && asked.ins <= greatest)
 }
 
-/// Places of one container, whose rows are read.
+/// Places of block k come to those of the blocks before it. It isn't read where nothing is wanted any more.
+fn pick_block<D: Disk>(
+    alloc: Global,
+    disk: &mut D,
+    entry: &Projection,
+    container: &Container,
+    indexes: &[PosIndex],
+    deletes: &[Option<u64>],
+    k: usize,
+    wants: &mut Wants,
+    places: &mut Vec<usize>,
+) -> Result<(), StoreFault>
+    requires numbers { HasFileNumbers (length entry.now.columns) container.now }
+    requires many { length indexes.now ≡ length entry.now.columns + 1 }
+    requires fit { All (IsIndexOf container.now.rows) indexes.now }
+    requires block { k < blocks container.now.rows }
+    ensures found { OnOk result (HasIndexes container.now (D.holds disk.old) indexes.now → PicksOn (D.holds disk.old) (encodings_of entry.now) container.now (in_list deletes.now) k places.old.items places.new.items (need_in wants.old.counts) (need_in wants.new.counts)) }
+    ensures inside { OnOk result (ArePlaces container.now places.old.items → ArePlaces container.now places.new.items) }
+    ensures fewer { OnOk result ((q : ARow) → need_in wants.new.counts q ≤ need_in wants.old.counts q) }
+    ensures blamed { IfErr result (λ fault. HasIndexes container.now (D.holds disk.old) indexes.now → BlamesContainer (encodings_of entry.now) container.now (D.holds disk.old) fault) }
+    ensures kept { D.holds disk.new ≡ D.holds disk.old }
+    ensures moved { Moved ⟦<D as Disk>⟧ NoName NoName disk.old disk.new }
+    ensures cause { HasCause StoreFault.Disk (D.faults disk.old) (D.faults disk.new) result }
+{
+    if wants.is_done() {
+        return Ok(());
+    }
+    let rows = match read_block(alloc, disk, entry, container, indexes, deletes, k) {
+        Ok(rows) => rows,
+        Err(fault) => return Err(fault),
+    };
+    match pick_from(alloc, rows.as_slice(), 1024 * k, wants, places) {
+        Ok(()) => Ok(()),
+        Err(AllocError) => Err(StoreFault::Memory),
+    }
+}
+
+/// Places of all blocks of a container, by its indexes and the delete epochs of its rows.
+fn pick_blocks<D: Disk>(
+    alloc: Global,
+    disk: &mut D,
+    entry: &Projection,
+    container: &Container,
+    indexes: &[PosIndex],
+    deletes: &[Option<u64>],
+    wants: &mut Wants,
+) -> Result<Vec<usize>, StoreFault>
+    requires numbers { HasFileNumbers (length entry.now.columns) container.now }
+    requires many { length indexes.now ≡ length entry.now.columns + 1 }
+    requires fit { All (IsIndexOf container.now.rows) indexes.now }
+    ensures found { IfOk result (λ places. HasIndexes container.now (D.holds disk.old) indexes.now → (m : Contents) → D.holds disk.old ≡ Some m → (rows : List ARow) → HoldsContainer m (encodings_of entry.now) container.now rows → Picks (in_list deletes.now) rows places.items (need_in wants.old.counts) (need_in wants.new.counts)) }
+    ensures inside { IfOk result (λ places. ArePlaces container.now places.items) }
+    ensures fewer { IfOk result (λ places. (q : ARow) → need_in wants.new.counts q ≤ need_in wants.old.counts q) }
+    ensures blamed { IfErr result (λ fault. HasIndexes container.now (D.holds disk.old) indexes.now → BlamesContainer (encodings_of entry.now) container.now (D.holds disk.old) fault) }
+    ensures kept { D.holds disk.new ≡ D.holds disk.old }
+    ensures moved { Moved ⟦<D as Disk>⟧ NoName NoName disk.old disk.new }
+    ensures cause { HasCause StoreFault.Disk (D.faults disk.old) (D.faults disk.new) result }
+{
+    let mut places = Vec::new(alloc);
+    for k in 0..blocks_of(container.rows) as usize {
+        match pick_block(
+            alloc,
+            disk,
+            entry,
+            container,
+            indexes,
+            deletes,
+            k,
+            wants,
+            &mut places,
+        ) {
+            Ok(()) => {}
+            Err(fault) => return Err(fault),
+        }
+    }
+    Ok(places)
+}
+
+/// Places of one container, whose rows are read block by block.
 fn pick_read<D: Disk>(
     alloc: Global,
     disk: &mut D,
@@ -53,14 +136,25 @@ fn pick_read<D: Disk>(
     ensures moved { Moved ⟦<D as Disk>⟧ NoName NoName disk.old disk.new }
     ensures cause { HasCause StoreFault.Disk (D.faults disk.old) (D.faults disk.new) result }
 {
-    one_container();
-    let rows = match read_rows(alloc, disk, entry, container, kept) {
-        Ok(rows) => rows,
+    let indexes = match indexes_of(alloc, disk, entry, container) {
+        Ok(indexes) => indexes,
         Err(fault) => return Err(fault),
     };
-    match pick(alloc, rows.as_slice(), wants) {
+    let deletes = match deletes_of(alloc, container, kept) {
+        Ok(deletes) => deletes,
+        Err(AllocError) => return Err(StoreFault::Memory),
+    };
+    match pick_blocks(
+        alloc,
+        disk,
+        entry,
+        container,
+        indexes.as_slice(),
+        deletes.as_slice(),
+        wants,
+    ) {
         Ok(places) => Ok(List::new(places)),
-        Err(AllocError) => Err(StoreFault::Memory),
+        Err(fault) => Err(fault),
     }
 }
 

@@ -1,10 +1,11 @@
 -- One row more, or less, of those that are wanted.
-use Rattle.std.proofs.Common.{◌≡◌, ◌+◌, ℕ, Bool, true, false, cond, List, refl, ap, ap₂, ◌∙◌, subst, arith}
-use Rattle.std.specs.Prelude.{unwrap_or, Option, Some}
+use Rattle.std.proofs.Common.{◌≡◌, ◌+◌, ℕ, Bool, true, false, cond, List, [], ◌∷◌, length, refl, ap, ap₂, ◌∙◌, subst, arith}
+use Rattle.std.specs.Prelude.{unwrap_or, Option, Some, None}
 use Rattle.std.specs.Ordering.{nat_cmp, ordering_then, is_eq}
 use Rattle.std.specs.declared.cmp.Ordering.{Ordering}
 use Rattle.std.specs.declared.cmp.Ordering.TheVariants.{Less, Equal, Greater}
-use Rattle.std.specs.BTreeMap.{BTreeMap, get}
+use Rattle.std.specs.BTreeMap.{BTreeMap, btree_map_len, get}
+use Rattle.std.specs.Map.{lookup}
 use Rattle.std.specs.FinMap.{nat_cmp-IsAntisymmetric}
 use Rattle.std.specs.Cmp.{nat_cmp_total}
 use Rattle.std.proofs.lemmas.Cmp.{tied_itself}
@@ -69,3 +70,25 @@ pub one_less : (m n : BTreeMap Inserted ℕ) (k key : Inserted) (v : ℕ) → k 
 one_less m n k key v same h is =
     subst (λ (x : Inserted). Adds (asked_in x) (need_in n) (need_in m)) same
     (less_at (asked_in k) (need_in m) (need_in n) v (ap (λ (x : Inserted). need_in m (asked_in x)) same ∙ is) (updated m n k v h))
+
+-- ---- a row that was wanted once goes from the map
+
+abbrev pub IsRemoved : BTreeMap Inserted ℕ → BTreeMap Inserted ℕ → Inserted → Type 0
+IsRemoved m n k = (q : Inserted) → get inserted_cmp n q ≡ cond (is_eq (inserted_cmp k q)) None (get inserted_cmp m q)
+
+gone_cond : (b : Bool) (o : Option ℕ) → unwrap_or (cond b None o) 0 ≡ cond b 0 (unwrap_or o 0)
+gone_cond true o = refl
+gone_cond false o = refl
+
+pub last_one : (m n : BTreeMap Inserted ℕ) (k : Inserted) → IsRemoved m n k → need_in m (asked_in k) ≡ 1 → Adds (asked_in k) (need_in n) (need_in m)
+last_one m n k h is =
+    less_at (asked_in k) (need_in m) (need_in n) 0 (omega (arith, is))
+    (λ q. ap (λ (o : Option ℕ). unwrap_or o 0) (h (inserted q)) ∙ gone_cond (is_same (asked_in k) q) (get inserted_cmp m (inserted q)))
+
+-- an empty map wants nothing
+pub none_wanted : (m : BTreeMap Inserted ℕ) → btree_map_len m ≡ 0 → (q : Asked) → need_in m q ≡ 0
+none_wanted m empty q = by m.entries empty
+  where
+    by : (es : List (Inserted × ℕ)) → length es ≡ 0 → unwrap_or (lookup (λ k. is_eq (inserted_cmp (inserted q) k)) es) 0 ≡ 0
+    by [] e = refl
+    by (x ∷ es) e = absurd (omega (arith, e))

@@ -1,5 +1,5 @@
 -- One place more of those that are looked at.
-use Rattle.std.proofs.Common.{◌≡◌, ◌+◌, ◌<◌, ◌≤◌, ◌∷◌, ◌++◌, [], ℕ, Bool, true, false, cond, List, length, get_or, refl, sym, ap, ◌∙◌, subst, arith}
+use Rattle.std.proofs.Common.{◌≡◌, ◌+◌, ◌<◌, ◌≤◌, ◌∷◌, ◌++◌, [], ℕ, Bool, true, false, cond, List, length, get_or, nat_lt, refl, sym, ap, ◌∙◌, subst, arith}
 use Rattle.std.specs.Prelude.{Option, None, ◌==◌, ◌||◌}
 use Rattle.std.specs.List.{All}
 use Rattle.std.proofs.lemmas.Bool.Decides.{nat_tests}
@@ -80,6 +80,21 @@ picks_take i mark rows places old new newer was here live adds = record {
     by j lt in_rows live_j (out, other) =
         let less : j < i = grind (arith, nat_tests) in
         omega (arith, was.none j less in_rows live_j out, adds (get_or rows j blank))
+
+-- rows that aren't wanted are passed over
+pub picks_past : (i j : ℕ) (mark : ℕ → Option ℕ) (rows : List Asked) (places : List ℕ) (old new : Asked → ℕ) → PicksBefore i mark rows places old new → i ≤ j
+    → ((p : ℕ) → i ≤ p → p < j → p < length rows → new (get_or rows p blank) ≡ 0) → PicksBefore j mark rows places old new
+picks_past i j mark rows places old new was le nought = record {
+  rise = was.rise;
+  before = all_to (λ p. p < i) (λ p. p < j) places (λ p lt. omega (arith, lt, le)) was.before;
+  live = was.live;
+  taken = was.taken;
+  none = λ p lt in_rows live out. by p lt in_rows live out (nat_lt p i) refl;
+}
+  where
+    by : (p : ℕ) → p < j → p < length rows → mark p ≡ None → is_in p places ≡ false → (b : Bool) → nat_lt p i ≡ b → new (get_or rows p blank) ≡ 0
+    by p lt in_rows live out true e = let less : p < i = grind (arith, nat_tests) in was.none p less in_rows live out
+    by p lt in_rows live out false e = let from : i ≤ p = grind (arith, nat_tests) in nought p from lt in_rows
 
 pub picks_all : (i : ℕ) (mark : ℕ → Option ℕ) (rows : List Asked) (places : List ℕ) (old new : Asked → ℕ) → PicksBefore i mark rows places old new
     → length rows ≤ i → Picks mark rows places old new

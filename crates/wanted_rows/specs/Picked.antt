@@ -1,5 +1,5 @@
 -- Places of rows that are picked for what is wanted.
-use Rattle.std.specs.Prelude.{ℕ, ◌≡◌, ◌+◌, ◌<◌, Bool, false, List, [], ◌∷◌, length, map, get_or, Option, None}
+use Rattle.std.specs.Prelude.{ℕ, ◌≡◌, ◌+◌, ◌<◌, ◌≤◌, Bool, false, List, [], ◌∷◌, length, map, get_or, Option, None}
 use Rattle.std.specs.Bool.{OnTrue, OnFalse}
 use Rattle.std.specs.List.{All}
 use Rattle.col_value.specs.declared.row.Asked.{Asked}
@@ -49,3 +49,14 @@ pub record PicksBefore (i : ℕ) (mark : ℕ → Option ℕ) (rows : List Asked)
 
 abbrev pub Picks : (ℕ → Option ℕ) → List Asked → List ℕ → (Asked → ℕ) → (Asked → ℕ) → Type 0
 Picks mark rows places old new = PicksBefore (length rows) mark rows places old new
+
+-- rows of a list that stand there from a place on, each with the delete epoch of its place
+pub record StandFrom (first : ℕ) (mark : ℕ → Option ℕ) (all : List Asked) (held : List Held) : Type 0 where
+  pub within : first + length held ≤ length all
+  pub rows : (i : ℕ) → i < length held → get_or all (first + i) blank ≡ get_or (asked_of held) i blank
+  pub marks : (i : ℕ) → i < length held → mark (first + i) ≡ del_at held i
+
+-- where places of the rows before them are picked, these rows come to them
+abbrev pub PicksFrom : ℕ → List Held → List ℕ → List ℕ → (Asked → ℕ) → (Asked → ℕ) → Type 0
+PicksFrom first held old new need left =
+    (mark : ℕ → Option ℕ) (all : List Asked) → StandFrom first mark all held → (start : Asked → ℕ) → PicksBefore first mark all old start need → PicksBefore (first + length held) mark all new start left

@@ -2,8 +2,9 @@
 //!
 //! What is wanted is a bag of rows with their insert epochs, counted in a `Wants`. `pick` goes once over rows that lie in any order
 //! and picks distinct places of rows that aren't deleted, each for one that is wanted, until none of the others is wanted still
-//! (`Picks`, `specs/Picked.antt`). So n rows cost n look-ups in a map of what is wanted. The laws go on from there: rows that are
-//! deleted at the places that were picked are those that were wanted.
+//! (`Picks`, `specs/Picked.antt`); `pick_from` does so for rows that stand from a place on, so that they may come block by block. So n
+//! rows cost n look-ups in a map of what is wanted; where nothing is wanted any more (`is_done`), the rest needn't be looked at. The laws
+//! go on from there: rows that are deleted at the places that were picked are those that were wanted.
 #![tactic(auto)]
 
 mod laws;
@@ -11,5 +12,5 @@ mod picking;
 mod wants;
 
 pub use laws::{picked_rows_go, wanted_rows_go};
-pub use picking::pick;
+pub use picking::{pick, pick_from};
 pub use wants::Wants;

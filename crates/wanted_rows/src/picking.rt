@@ -1,6 +1,8 @@
-ghost use Rattle.std.specs.Prelude.{◌≡◌, IfOk};
+ghost use Rattle.std.specs.Prelude.{◌≤◌, ◌<◌, ◌+◌, ◌^◌, ℕ, length, IfOk, OnOk};
+ghost use Rattle.std.specs.List.{All};
+ghost use Rattle.col_value.specs.declared.row.Asked.{Asked};
 ghost use Rattle.wanted_rows.specs.Wanted.{need_in, asked_in};
-ghost use Rattle.wanted_rows.specs.Picked.{asked_of, del_at, Picks, TriesPlace};
+ghost use Rattle.wanted_rows.specs.Picked.{asked_of, del_at, Picks, PicksFrom, TriesPlace};
 
 use crate::wants::Wants;
 use std::alloc::{AllocError, Global};
@@ -21,16 +23,34 @@ fn try_row(
     }
 }
 
+/// Picks places of rows that stand from a place on, and are wanted and not deleted: each once for each time that it is wanted, until no
+/// other of them that isn't deleted is wanted. The places come behind those that are there.
+pub fn pick_from(
+    alloc: Global,
+    rows: &[Held],
+    first: usize,
+    wants: &mut Wants,
+    places: &mut Vec<usize>,
+) -> Result<(), AllocError>
+    requires { first + length rows.now < 2 ^ 64 }
+    ensures picked { OnOk result (PicksFrom first rows.now places.old.items places.new.items (need_in wants.old.counts) (need_in wants.new.counts)) }
+    ensures inside { OnOk result ((n : ℕ) → first + length rows.now ≤ n → All (λ p. p < n) places.old.items → All (λ p. p < n) places.new.items) }
+    ensures fewer { OnOk result ((q : Asked) → need_in wants.new.counts q ≤ need_in wants.old.counts q) }
+{
+    for (i, row) in rows.iter().enumerate() {
+        if try_row(alloc, row.del, &row.inserted, wants)? {
+            places.push(first + i)?;
+        }
+    }
+    Ok(())
+}
+
 /// Picks places of rows that aren't deleted and are wanted, each once for each time that it is wanted, until no other row that isn't
 /// deleted is wanted.
 pub fn pick(alloc: Global, rows: &[Held], wants: &mut Wants) -> Result<Vec<usize>, AllocError>
     ensures { IfOk result (λ places. Picks (del_at rows.now) (asked_of rows.now) places.items (need_in wants.old.counts) (need_in wants.new.counts)) }
 {
     let mut places = Vec::new(alloc);
-    for (i, row) in rows.iter().enumerate() {
-        if try_row(alloc, row.del, &row.inserted, wants)? {
-            places.push(i)?;
-        }
-    }
+    pick_from(alloc, rows, 0, wants, &mut places)?;
     Ok(places)
 }

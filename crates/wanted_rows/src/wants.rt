@@ -1,4 +1,4 @@
-ghost use Rattle.std.specs.Prelude.{◌≡◌, ◌+◌, ◌<◌, ◌^◌, ℕ, IfOk, OnOk};
+ghost use Rattle.std.specs.Prelude.{◌≡◌, ◌+◌, ◌<◌, ◌^◌, ℕ, IfOk, IsTrue, OnOk};
 ghost use Rattle.col_value.specs.declared.row.Asked.{Asked as ARow};
 ghost use Rattle.wanted_rows.specs.Wanted.{need_in, asked_in, tally, Adds, Tries};
 
@@ -60,9 +60,20 @@ impl Wants {
         if count == 0 {
             return Ok(false);
         }
+        if count == 1 {
+            self.counts.remove(row);
+            return Ok(true);
+        }
         let same = row.copy(alloc)?;
         self.counts.insert(same, count - 1)?;
         Ok(true)
+    }
+
+    /// Whether no row is wanted any more.
+    pub fn is_done(&self) -> bool
+        ensures { IsTrue result → (q : ARow) → need_in self.now.counts q ≡ 0 }
+    {
+        self.counts.is_empty()
     }
 }
 

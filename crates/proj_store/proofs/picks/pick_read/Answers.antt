@@ -1,10 +1,37 @@
+use Rattle.std.proofs.Common.{◌∙◌, ℕ, List, ap, sym, subst}
+use Rattle.std.specs.Prelude.{Option}
+use Rattle.common_laws.specs.Maps.{Contents}
+use Rattle.col_disk.proofs.Moving.{moved_join}
 use Rattle.ros_container.specs.Encodings.{encodings_of}
+use Rattle.ros_container.specs.Held.{BlamesContainer}
+use Rattle.stored_rows.specs.Stored.{mark_in}
 use Rattle.wanted_rows.specs.Wanted.{need_in}
+use Rattle.wanted_rows.specs.Picked.{Picks}
 use Rattle.proj_store.specs.Loaded.{beside_of}
-use Rattle.proj_store.proofs.Picking.{picks_read}
+use Rattle.proj_store.specs.Blocks.{in_list}
+use Rattle.proj_store.proofs.BlockRows.{indexes_seen}
+use Rattle.proj_store.proofs.Picking.{picks_agree}
 use Rattle.proj_store.proofs.picks.pick_read.Goals as goal
 
-pub returns-in-Ok-pick-clause-found : goal.returns-in-Ok-pick-clause-found
-returns-in-Ok-pick-clause-found g c = λ m told.
-    picks_read c.one_container.ensures m (encodings_of c.args.entry.now) c.args.container.now (beside_of c.args.kept.now) c.in-Ok.rows.items c.as_slice.result.now c.in-Ok-pick.places.items c.new.result (need_in c.args.wants.now.counts)
-    (need_in c.pick.new.wants.counts) c.as_slice.ensures.value c.new.ensures (c.in-Ok.ensures.found m told) c.in-Ok-pick.ensures
+pub returns-in-Ok-pick_blocks-clause-found : goal.returns-in-Ok-pick_blocks-clause-found
+returns-in-Ok-pick_blocks-clause-found g c = λ m told rows holding.
+    let same = c.indexes_of.ensures.kept in
+    let held = indexes_seen c.args.container.now (g.D.Disk.holds c.indexes_of.new.disk) (g.D.Disk.holds c.args.disk.now) c.in-Ok.indexes.items c.as_slice.result.now same c.as_slice.ensures.value c.in-Ok.ensures.held in
+    let mark = mark_in (beside_of c.args.kept.now) in
+    let need = need_in c.args.wants.now.counts in
+    let left = need_in c.pick_blocks.new.wants.counts in
+    subst (λ (ps : List ℕ). Picks mark rows ps need left) (sym c.new.ensures)
+    (picks_agree (in_list c.as_slice-2.result.now) mark rows c.in-Ok-pick_blocks.places.items need left
+    (λ i. ap (λ (ds : List (Option ℕ)). in_list ds i) c.as_slice-2.ensures.value ∙ c.in-Ok-deletes_of.ensures i) (c.in-Ok-pick_blocks.ensures.found held m (same ∙ told) rows holding))
+
+pub returns-in-Ok-pick_blocks-clause-moved : goal.returns-in-Ok-pick_blocks-clause-moved
+returns-in-Ok-pick_blocks-clause-moved g c = moved_join g.D.Disk c.indexes_of.ensures.moved c.pick_blocks.ensures.moved
+
+pub returns-clause-blamed : goal.returns-clause-blamed
+returns-clause-blamed g c =
+    let same = c.indexes_of.ensures.kept in
+    let held = indexes_seen c.args.container.now (g.D.Disk.holds c.indexes_of.new.disk) (g.D.Disk.holds c.args.disk.now) c.in-Ok.indexes.items c.as_slice.result.now same c.as_slice.ensures.value c.in-Ok.ensures.held in
+    subst (λ (h : Option Contents). BlamesContainer (encodings_of c.args.entry.now) c.args.container.now h c.in-Err-pick_blocks.fault) same (c.in-Err-pick_blocks.ensures.blamed held)
+
+pub returns-clause-moved : goal.returns-clause-moved
+returns-clause-moved g c = moved_join g.D.Disk c.indexes_of.ensures.moved c.pick_blocks.ensures.moved

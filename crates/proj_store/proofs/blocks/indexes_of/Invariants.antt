@@ -1,0 +1,15 @@
+use Rattle.std.proofs.Common.{◌≡◌, length}
+use Rattle.std.specs.List.{All}
+use Rattle.col_disk.specs.Moved.{Moved, NoName}
+use Rattle.container_blocks.specs.Blocks.{IsIndexOf}
+use Rattle.proj_store.specs.Blocks.{HasIndexes}
+use Rattle.proj_store.proofs.blocks.indexes_of.Given as goal
+
+abbrev pub invariant-loop-i : goal.invariant-loop-i
+invariant-loop-i g l = record {
+  long : length l.out.items ≡ l.i;
+  fit : All (IsIndexOf l.container.rows) l.out.items;
+  held : HasIndexes l.container (g.D.Disk.holds l.fn.disk) l.out.items;
+  kept : g.D.Disk.holds l.disk ≡ g.D.Disk.holds l.fn.disk;
+  moved : Moved g.D.Disk NoName NoName l.fn.disk l.disk;
+}

@@ -1,0 +1,17 @@
+use Rattle.std.proofs.Common.{◌≤◌, ◌<◌, ◌+◌, ℕ, List, length}
+use Rattle.std.specs.Prelude.{Option}
+use Rattle.std.specs.List.{All}
+use Rattle.col_value.specs.declared.row.Asked.{Asked}
+use Rattle.wanted_rows.specs.Wanted.{need_in}
+use Rattle.wanted_rows.specs.Picked.{PicksBefore, StandFrom}
+use Rattle.wanted_rows.proofs.picking.pick_from.Given as goal
+
+abbrev pub invariant-loop-i : goal.invariant-loop-i
+invariant-loop-i l = record {
+  picked :
+      (mark : ℕ → Option ℕ) (all : List Asked) → StandFrom l.first mark all l.rows → (start : Asked → ℕ) → PicksBefore l.first mark all l.fn.places.items start (need_in l.fn.wants.counts)
+      → PicksBefore (l.first + l.i) mark all l.places.items start (need_in l.wants.counts);
+  inside : (n : ℕ) → l.first + l.i ≤ n → All (λ p. p < n) l.fn.places.items → All (λ p. p < n) l.places.items;
+  fewer : (q : Asked) → need_in l.wants.counts q ≤ need_in l.fn.wants.counts q;
+  within : l.i ≤ length l.rows;
+}
