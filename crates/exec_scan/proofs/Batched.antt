@@ -56,14 +56,35 @@ length_placed (p ∷ places) row = ap suc (length_placed places row)
 
 -- ---- rows in memory
 
+one_stamp : (epoch : ℕ) (xs : List Held) (i : ℕ) (h : Held) → i < length xs → h ≡ get_or xs i h
+    → filter (is_visible epoch) (map stamp (take (i + 1) xs)) ≡ filter (is_visible epoch) (map stamp (take i xs)) ++ filter (is_visible epoch) (stamp h ∷ [])
+one_stamp epoch xs i h lt is =
+    let next : take (i + 1) xs ≡ take i xs ++ h ∷ [] = take_more xs i h lt ∙ ap (λ (x : Held). take i xs ++ x ∷ []) (sym is) in
+    ap (λ (hs : List Held). filter (is_visible epoch) (map stamp hs)) next
+    ∙ ap (filter (is_visible epoch)) (map-append stamp (take i xs) (h ∷ []))
+    ∙ filter-append (is_visible epoch) (map stamp (take i xs)) (stamp h ∷ [])
+
 one_more : (epoch : ℕ) (xs : List Held) (i : ℕ) (h : Held) → i < length xs → h ≡ get_or xs i h
     → visible epoch (map stamp (take (i + 1) xs)) ≡ visible epoch (map stamp (take i xs)) ++ visible epoch (stamp h ∷ [])
 one_more epoch xs i h lt is =
-    let next : take (i + 1) xs ≡ take i xs ++ h ∷ [] = take_more xs i h lt ∙ ap (λ (x : Held). take i xs ++ x ∷ []) (sym is) in
-    ap (λ (hs : List Held). visible epoch (map stamp hs)) next
-    ∙ ap (visible epoch) (map-append stamp (take i xs) (h ∷ []))
-    ∙ ap (map (λ (s : Stamped). s.row)) (filter-append (is_visible epoch) (map stamp (take i xs)) (stamp h ∷ []))
+    ap (map (λ (s : Stamped). s.row)) (one_stamp epoch xs i h lt is)
     ∙ map-append (λ (s : Stamped). s.row) (filter (is_visible epoch) (map stamp (take i xs))) (filter (is_visible epoch) (stamp h ∷ []))
+
+-- one epoch more, if its row is visible
+pub epochs_next : (epoch : ℕ) (xs : List Held) (i : ℕ) (h : Held) (shown : Bool) (now next : List ℕ) → i < length xs → h ≡ get_or xs i h → shown ≡ is_visible epoch (stamp h)
+    → next ≡ now ++ cond shown (h.inserted.ins ∷ []) [] → now ≡ map (λ a. a.ins) (filter (is_visible epoch) (map stamp (take i xs))) → next ≡ map (λ a. a.ins) (filter (is_visible epoch) (map stamp (take (i + 1) xs)))
+epochs_next epoch xs i h shown now next lt is told more was =
+    more ∙ ap (λ (es : List ℕ). es ++ cond shown (h.inserted.ins ∷ []) []) was
+    ∙ ap (λ (es : List ℕ). front ++ es) (by shown told)
+    ∙ sym (map-append (λ (s : Stamped). s.ins) (filter (is_visible epoch) (map stamp (take i xs))) (filter (is_visible epoch) (stamp h ∷ [])))
+    ∙ sym (ap (map (λ (s : Stamped). s.ins)) (one_stamp epoch xs i h lt is))
+  where
+    front : List ℕ
+    front = map (λ (s : Stamped). s.ins) (filter (is_visible epoch) (map stamp (take i xs)))
+
+    by : (b : Bool) → b ≡ is_visible epoch (stamp h) → cond b (h.inserted.ins ∷ []) [] ≡ map (λ (s : Stamped). s.ins) (filter (is_visible epoch) (stamp h ∷ []))
+    by true same = ap (λ (x : Bool). map (λ (s : Stamped). s.ins) (cond x (stamp h ∷ []) [])) same
+    by false same = ap (λ (x : Bool). map (λ (s : Stamped). s.ins) (cond x (stamp h ∷ []) [])) same
 
 -- one row more, if it is visible
 pub seen_next : (epoch : ℕ) (places : List (Option ℕ)) (xs : List Held) (i : ℕ) (h : Held) (shown : Bool) (now next : List (List Value)) → i < length xs → h ≡ get_or xs i h → shown ≡ is_visible epoch (stamp h)

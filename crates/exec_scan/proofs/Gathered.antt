@@ -1,5 +1,5 @@
 -- What was gathered of a scan, and what is left.
-use Rattle.std.proofs.Common.{◌≡◌, ℕ, ◌++◌, List, [], length, map, filter, refl, sym, ap, ◌∙◌, subst, drop, take, get_or, ◌∷◌, ◌<◌, ◌+◌}
+use Rattle.std.proofs.Common.{◌≡◌, ℕ, Bool, ◌++◌, List, [], length, map, filter, refl, sym, ap, ◌∙◌, subst, drop, take, get_or, ◌∷◌, ◌<◌, ◌+◌}
 use Rattle.std.specs.Prelude.{IsSomeAnd, Option, Some, None}
 use Rattle.std.specs.List.{slice_get}
 use Rattle.std.proofs.lemmas.List.{append_assoc, append-nil, map-append, take_more}
@@ -11,7 +11,9 @@ use Rattle.col_value.specs.declared.row.Stamped.{Stamped}
 use Rattle.col_value.specs.declared.value.Value.{Value}
 use Rattle.row_history.specs.History.{is_visible, visible}
 use Rattle.stored_rows.specs.Stored.{Projected, Stores}
+use Rattle.row_bounds.specs.declared.bound.Bound.{Bound}
 use Rattle.query_cover.specs.Seen.{placed}
+use Rattle.exec_scan.specs.Batches.{Shown}
 use Rattle.exec_scan.specs.Opened.{Opening}
 use Rattle.exec_scan.specs.Scanning.{AreLeft, Gives, Place, start}
 use Rattle.exec_scan.proofs.Stepping.{at_place, got, passed_none}
@@ -33,14 +35,15 @@ seen_both epoch places xs ys =
     ∙ ap (map (placed places)) (map-append (λ (s : Stamped). s.row) (filter (is_visible epoch) xs) (filter (is_visible epoch) ys))
     ∙ map-append (placed places) (visible epoch xs) (visible epoch ys)
 
-pub gathered_none : (m : Contents) (p : Projected) (epoch : ℕ) (places : List (Option ℕ)) (s : Place) (out : List (List Value)) (rows : List Stamped) → s ≡ start epoch places → out ≡ [] → Stores m p rows → Gathered m p epoch places s out rows
-gathered_none m p epoch places s out rows is none stores =
-    let first : AreLeft m p (at_place epoch places 0 0 no_opening 0) rows =
+pub gathered_none : (m : Contents) (p : Projected) (epoch : ℕ) (places : List (Option ℕ)) (bounds : List Bound) (stamps : Bool) (s : Place) (out : List (List Value)) (rows : List Stamped)
+    → s ≡ start epoch places bounds stamps → out ≡ [] → Stores m p rows → Gathered m p epoch places s out rows
+gathered_none m p epoch places bounds stamps s out rows is none stores =
+    let first : AreLeft m p (at_place epoch places bounds stamps 0 0 no_opening 0) rows =
     record {
       saved = stores.0;
       stored = stores.1;
       at_hand = tt;
-      left = stores.2 ∙ ap (λ (n : ℕ). drop n stores.0 ++ p.unsaved) (sym (passed_none p.entry epoch places 0 no_opening 0));
+      left = stores.2 ∙ ap (λ (n : ℕ). drop n stores.0 ++ p.unsaved) (sym (passed_none p.entry epoch places bounds stamps 0 no_opening 0));
     } in
     record {
       done = [];
@@ -50,20 +53,24 @@ gathered_none m p epoch places s out rows is none stores =
       left = subst (λ (x : Place). AreLeft m p x rows) (sym is) first;
     }
 
-pub gathered_more : (m : Contents) (p : Projected) (epoch : ℕ) (places : List (Option ℕ)) (s new : Place) (out next : List (List Value)) (batch : List (List Value)) (rows : List Stamped)
-    → s.epoch ≡ epoch → s.places ≡ places → next ≡ out ++ batch → ((left : List Stamped) → AreLeft m p s left → Gives m p s new left (Some batch)) → Gathered m p epoch places s out rows → Gathered m p epoch places new next rows
-gathered_more m p epoch places s new out next batch rows at are is gives g =
+-- where the scan has no bounds
+pub gathered_more : (m : Contents) (p : Projected) (epoch : ℕ) (places : List (Option ℕ)) (s new : Place) (out next : List (List Value)) (batch : Shown) (rows : List Stamped)
+    → s.epoch ≡ epoch → s.places ≡ places → s.bounds ≡ [] → next ≡ out ++ batch.rows → ((left : List Stamped) → AreLeft m p s left → Gives m p s new left (Some batch)) → Gathered m p epoch places s out rows
+    → Gathered m p epoch places new next rows
+gathered_more m p epoch places s new out next batch rows at are free is gives g =
     let given = gives g.rest g.left in
     let some = given.0 in
     let others = given.1 in
+    let shows = given.3 in
     record {
       done = g.done ++ some;
       rest = others;
       all = g.all ∙ ap (λ (xs : List Stamped). g.done ++ xs) given.2 ∙ sym (append_assoc g.done some others);
       made =
-          is ∙ ap (λ (xs : List (List Value)). xs ++ batch) g.made
+          is ∙ ap (λ (xs : List (List Value)). xs ++ batch.rows) g.made
           ∙ ap (λ (xs : List (List Value)). map (placed places) (visible epoch g.done) ++ xs)
-          (given.3 ∙ ap (λ (e : ℕ). map (placed s.places) (visible e some)) at ∙ ap (λ (ps : List (Option ℕ)). map (placed ps) (visible epoch some)) are)
+          (shows.rows ∙ ap (λ (xs : List Stamped). map (placed s.places) (visible s.epoch xs)) (shows.whole free) ∙ ap (λ (e : ℕ). map (placed s.places) (visible e some)) at
+          ∙ ap (λ (ps : List (Option ℕ)). map (placed ps) (visible epoch some)) are)
           ∙ sym (seen_both epoch places g.done some);
       left = given.4;
     }

@@ -8,5 +8,6 @@ pub mod Indexed
 pub mod Laid
 pub mod Long
 pub mod Keeping
+pub mod Passed
 pub mod Shows
 pub mod Stepping

@@ -15,7 +15,7 @@ use Rattle.col_value.specs.Order.{IsValue}
 use Rattle.row_history.specs.History.{is_visible, stamped, visible}
 use Rattle.stored_rows.specs.Held.{stamped_from}
 use Rattle.query_cover.specs.Seen.{placed, value_at}
-use Rattle.exec_scan.specs.Batches.{IsBatch, is_shown, rows_at}
+use Rattle.exec_scan.specs.Batches.{epochs_at, IsBatch, is_shown, rows_at, shown_places}
 use Rattle.exec_scan.specs.Reading.{AreInserted, column_at, HaveColumns}
 
 -- ---- the places
@@ -27,25 +27,25 @@ range_more a (suc n) =
     let one : suc n + 1 ≡ suc (n + 1) = omega arith in
     ap (range_with_len a) one ∙ ap (λ (xs : List ℕ). a ∷ xs) (range_more (a + 1) n ∙ ap (λ (x : ℕ). range_with_len (a + 1) n ++ x ∷ []) far)
 
-one_more : (test : ℕ → Bool) (width i : ℕ) → map (λ j. j * width) (filter test (range_with_len 0 (i + 1))) ≡ map (λ j. j * width) (filter test (range_with_len 0 i)) ++ map (λ j. j * width) (cond (test i) (i ∷ []) [])
-one_more test width i =
+one_more : (test : ℕ → Bool) (f : ℕ → ℕ) (i : ℕ) → map f (filter test (range_with_len 0 (i + 1))) ≡ map f (filter test (range_with_len 0 i)) ++ map f (cond (test i) (i ∷ []) [])
+one_more test f i =
     let same : 0 + i ≡ i = omega arith in
-    ap (λ (xs : List ℕ). map (λ j. j * width) (filter test xs)) (range_more 0 i ∙ ap (λ (x : ℕ). range_with_len 0 i ++ x ∷ []) same)
-    ∙ ap (map (λ j. j * width)) (filter-append test (range_with_len 0 i) (i ∷ []))
-    ∙ map-append (λ j. j * width) (filter test (range_with_len 0 i)) (cond (test i) (i ∷ []) [])
+    ap (λ (xs : List ℕ). map f (filter test xs)) (range_more 0 i ∙ ap (λ (x : ℕ). range_with_len 0 i ++ x ∷ []) same)
+    ∙ ap (map f) (filter-append test (range_with_len 0 i) (i ∷ []))
+    ∙ map-append f (filter test (range_with_len 0 i)) (cond (test i) (i ∷ []) [])
 
--- the place of one more is appended where it is tested so
-pub starts_next : (test : ℕ → Bool) (width i : ℕ) (starts next : List ℕ) (shown : Bool) → shown ≡ test i → next ≡ starts ++ cond shown (i * width ∷ []) [] → starts ≡ map (λ j. j * width) (filter test (range_with_len 0 i))
-    → next ≡ map (λ j. j * width) (filter test (range_with_len 0 (i + 1)))
-starts_next test width i starts next shown told is was =
-    is ∙ ap (λ (xs : List ℕ). xs ++ cond shown (i * width ∷ []) []) was ∙ by shown told ∙ sym (one_more test width i)
+-- what is made of the place of one more is appended where it is tested so
+pub shown_next : (test : ℕ → Bool) (f : ℕ → ℕ) (i x : ℕ) (made next : List ℕ) (shown : Bool) → shown ≡ test i → x ≡ f i → next ≡ made ++ cond shown (x ∷ []) [] → made ≡ map f (filter test (range_with_len 0 i))
+    → next ≡ map f (filter test (range_with_len 0 (i + 1)))
+shown_next test f i x made next shown told is_x is was =
+    is ∙ ap (λ (n : ℕ). made ++ cond shown (n ∷ []) []) is_x ∙ ap (λ (xs : List ℕ). xs ++ cond shown (f i ∷ []) []) was ∙ by shown told ∙ sym (one_more test f i)
   where
     front : List ℕ
-    front = map (λ j. j * width) (filter test (range_with_len 0 i))
+    front = map f (filter test (range_with_len 0 i))
 
-    by : (b : Bool) → b ≡ test i → front ++ cond b (i * width ∷ []) [] ≡ front ++ map (λ j. j * width) (cond (test i) (i ∷ []) [])
-    by true same = ap (λ (b : Bool). front ++ map (λ j. j * width) (cond b (i ∷ []) [])) same
-    by false same = ap (λ (b : Bool). front ++ map (λ j. j * width) (cond b (i ∷ []) [])) same
+    by : (b : Bool) → b ≡ test i → front ++ cond b (f i ∷ []) [] ≡ front ++ map f (cond (test i) (i ∷ []) [])
+    by true same = ap (λ (b : Bool). front ++ map f (cond b (i ∷ []) [])) same
+    by false same = ap (λ (b : Bool). front ++ map f (cond b (i ∷ []) [])) same
 
 -- ---- the rows
 
@@ -132,6 +132,50 @@ block_shown epoch count places values inserted deletes mark first rows many long
     ∙ ap (λ (b : Bool). cond b (get_or (column_at (get_or places c None) rows) i value.Null) value.Null) in_it)
     (λ i. ap (λ (n : ℕ). nat_le (get_or inserted n 0) epoch) (same i) ∙ early i)
     (λ i lt. subst (λ (n : ℕ). get_or deletes (first + n) None ≡ mark (first + n)) (sym (same i)) (gone i lt))
+
+-- ---- the epochs
+
+epochs_from : (epoch : ℕ) (inserted : List ℕ) (deletes : List (Option ℕ)) (mark : ℕ → Option ℕ) (first j at : ℕ) (rows : List Asked)
+    → at ≡ first + j → drop j inserted ≡ map (λ a. a.ins) rows → DeletesFrom deletes mark first j rows
+    → epochs_at inserted (filter (is_shown epoch inserted deletes first) (range_with_len j (length rows))) ≡ map (λ a. a.ins) (filter (is_visible epoch) (stamped_from at mark rows))
+epochs_from epoch inserted deletes mark first j at [] is told gone = refl
+epochs_from epoch inserted deletes mark first j at (a ∷ rows) is told gone =
+    let here : j + 0 ≡ j = omega arith in
+    let ins : get_or inserted j 0 ≡ a.ins = ap (λ (n : ℕ). get_or inserted n 0) (sym here) ∙ sym (get_or-drop j inserted 0 0) ∙ ap (λ (xs : List ℕ). get_or xs 0 0) told in
+    let same_ins : nat_le (get_or inserted j 0) epoch ≡ nat_le a.ins epoch = ap (λ (n : ℕ). nat_le n epoch) ins in
+    let at_j : first + (j + 0) ≡ first + j = omega arith in
+    let same_del : get_or deletes (first + j) None ≡ mark at =
+    ap (λ (n : ℕ). get_or deletes n None) (sym at_j) ∙ gone 0 (omega arith) ∙ ap mark (at_j ∙ sym is) in
+    let test : is_shown epoch inserted deletes first j ≡ is_visible epoch (stamped (mark at) a) =
+    ap₂ (λ (x : Bool) (o : Option ℕ). x && not (option_map_or (λ e. nat_le e epoch) o false)) same_ins same_del in
+    let next : (i : ℕ) → (j + 1) + i ≡ j + suc i = λ i. omega arith in
+    let behind : drop (j + 1) inserted ≡ map (λ a. a.ins) rows = drop_next j inserted a.ins (map (λ x. x.ins) rows) told in
+    let rest = epochs_from epoch inserted deletes mark first (j + 1) (at + 1) rows (omega (arith, is)) behind
+    (λ i lt. subst (λ (n : ℕ). get_or deletes (first + n) None ≡ mark (first + n)) (sym (next i)) (gone (suc i) (omega (arith, lt)))) in
+    elim (is_shown epoch inserted deletes first j) as (λ b. is_shown epoch inserted deletes first j ≡ b
+    → epochs_at inserted (cond b (j ∷ filter (is_shown epoch inserted deletes first) (range_with_len (j + 1) (length rows))) (filter (is_shown epoch inserted deletes first) (range_with_len (j + 1) (length rows))))
+    ≡ map (λ (s : Stamped). s.ins) (cond (is_visible epoch (stamped (mark at) a)) (stamped (mark at) a ∷ filter (is_visible epoch) (stamped_from (at + 1) mark rows)) (filter (is_visible epoch) (stamped_from (at + 1) mark rows)))) [
+      | true ↦ λ shown. ap₂ (λ (n : ℕ) (ns : List ℕ). n ∷ ns) ins rest
+          ∙ ap (λ (b : Bool). map (λ (s : Stamped). s.ins) (cond b (stamped (mark at) a ∷ filter (is_visible epoch) (stamped_from (at + 1) mark rows)) (filter (is_visible epoch) (stamped_from (at + 1) mark rows)))) (sym shown ∙ test)
+      | false ↦ λ shown. rest
+          ∙ ap (λ (b : Bool). map (λ (s : Stamped). s.ins) (cond b (stamped (mark at) a ∷ filter (is_visible epoch) (stamped_from (at + 1) mark rows)) (filter (is_visible epoch) (stamped_from (at + 1) mark rows)))) (sym shown ∙ test)
+    ] refl
+  where
+    drop_next : (n : ℕ) (xs : List ℕ) (x : ℕ) (ys : List ℕ) → drop n xs ≡ x ∷ ys → drop (n + 1) xs ≡ ys
+    drop_next zero [] x ys eq = absurd (cc)
+    drop_next zero (y ∷ xs) x ys eq = cc
+    drop_next (suc n) [] x ys eq = absurd (cc)
+    drop_next (suc n) (y ∷ xs) x ys eq = let up : suc n + 1 ≡ suc (n + 1) = omega arith in ap (λ (k : ℕ). drop k (y ∷ xs)) up ∙ drop_next n xs x ys eq
+
+-- the epochs of the rows of a block that are shown are those of the visible ones
+pub block_epochs : (epoch count : ℕ) (inserted : List ℕ) (deletes : List (Option ℕ)) (mark : ℕ → Option ℕ) (first : ℕ) (rows : List Asked)
+    → count ≡ length rows → inserted ≡ map (λ a. a.ins) rows → ((i : ℕ) → i < length rows → get_or deletes (first + i) None ≡ mark (first + i))
+    → epochs_at inserted (shown_places epoch inserted deletes first count) ≡ map (λ a. a.ins) (filter (is_visible epoch) (stamped_from first mark rows))
+block_epochs epoch count inserted deletes mark first rows many told gone =
+    let same : (i : ℕ) → 0 + i ≡ i = λ i. omega arith in
+    let at : first ≡ first + 0 = omega arith in
+    ap (λ (n : ℕ). epochs_at inserted (shown_places epoch inserted deletes first n)) many
+    ∙ epochs_from epoch inserted deletes mark first 0 first rows at told (λ i lt. subst (λ (n : ℕ). get_or deletes (first + n) None ≡ mark (first + n)) (sym (same i)) (gone i lt))
 
 -- all that begin so stand within the values
 pub starts_within : (test : ℕ → Bool) (width count : ℕ) (values : List Value) → length values ≡ count * width → All IsValue values → IsBatch width values (map (λ i. i * width) (filter test (range_with_len 0 count)))

@@ -1,9 +1,10 @@
 -- A step of a scan.
-use Rattle.std.proofs.Common.{◌≡◌, ℕ, zero, suc, ◌+◌, ◌-◌, ◌*◌, ◌≤◌, ◌<◌, ◌++◌, min, List, [], ◌∷◌, length, map, take, drop, get_or, refl, sym, ap, ap₂, ◌∙◌, arith, subst}
+use Rattle.std.proofs.Common.{◌≡◌, ◌⊎◌, inl, inr, Bool, false, ℕ, zero, suc, ◌+◌, ◌-◌, ◌*◌, ◌≤◌, ◌<◌, ◌++◌, min, List, [], ◌∷◌, length, map, take, drop, get_or, refl, sym, ap, ap₂, ◌∙◌, arith, subst}
 use Rattle.std.specs.Prelude.{Option, Some, None, IsSomeAnd, slice_range, sum_by}
-use Rattle.std.specs.List.{slice_get}
+use Rattle.std.specs.List.{All, slice_get}
 use Rattle.std.specs.Option.{IfSome, option_map_or}
-use Rattle.std.proofs.lemmas.List.{append_assoc, length-drop}
+use Rattle.std.proofs.lemmas.List.{append_assoc, append-nil, length-drop}
+use Rattle.std.proofs.lemmas.List.Elements.{All-append, All-cons, All-head, All-nil, All-tail}
 use Rattle.std.proofs.lemmas.List.Folds.{drop_split}
 use Rattle.std.proofs.lemmas.List.Sums.{sum_by-cons}
 use Rattle.common_laws.specs.Maps.{Contents}
@@ -14,9 +15,8 @@ use Rattle.col_disk.specs.declared.disk.StoreFault.TheVariants.{Disk, Damaged, M
 use Rattle.col_value.specs.declared.kinds.Encoding.{Encoding}
 use Rattle.col_value.specs.declared.row.Asked.{Asked}
 use Rattle.col_value.specs.declared.row.Stamped.{Stamped}
-use Rattle.col_value.specs.declared.value.Value.{Value}
 use Rattle.pos_index.specs.Index.{blocks}
-use Rattle.row_history.specs.History.{stamped, visible}
+use Rattle.row_history.specs.History.{stamped}
 use Rattle.ros_container.specs.Encodings.{encodings_of}
 use Rattle.ros_container.specs.Held.{BlamesContainer, HoldsContainer}
 use Rattle.ros_container.proofs.Blames.{blamed_holds_none}
@@ -25,15 +25,20 @@ use Rattle.stored_rows.specs.Stored.{Beside, mark_in, Projected, StoresRows}
 use Rattle.write_store.specs.declared.held.Held.{Held}
 use Rattle.write_store.specs.Memory.{stamp}
 use Rattle.container_blocks.specs.Blocks.{rows_in}
+use Rattle.row_bounds.specs.Bounds.{within}
+use Rattle.row_bounds.specs.declared.bound.Bound.{Bound}
 use Rattle.query_cover.specs.Seen.{placed}
+use Rattle.exec_scan.specs.Batches.{Shown}
 use Rattle.exec_scan.specs.Opened.{HasOpened, IsOpening, Opening}
-use Rattle.exec_scan.specs.Reading.{OfBlock, ShowsRows}
-use Rattle.exec_scan.specs.Scanning.{AreLeft, BlamesContainerAt, Gives, HasOpenedAt, IsScanOf, IsUnblamed, Place, rows_passed, steps_left}
+use Rattle.exec_scan.specs.Passing.{AreOut, IsPassed}
+use Rattle.exec_scan.specs.Reading.{OfBlock, ShowsAll, ShowsRows}
+use Rattle.exec_scan.specs.Scanning.{AreLeft, AreOwn, BlamesContainerAt, Gives, HasOpenedAt, IsScanOf, IsUnblamed, Place, rows_passed, steps_left}
 use Rattle.exec_scan.proofs.Handed.{at_some, blank, some_at}
 use Rattle.exec_scan.proofs.Long.{container_long}
+use Rattle.exec_scan.proofs.Passed.{Between, own_encodings, passed_out, shows}
 
-abbrev pub at_place : ℕ → List (Option ℕ) → ℕ → ℕ → Option Opening → ℕ → Place
-at_place e ps i b o t = record { epoch = e; places = ps; container = i; block = b; opened = o; taken = t }
+abbrev pub at_place : ℕ → List (Option ℕ) → List Bound → Bool → ℕ → ℕ → Option Opening → ℕ → Place
+at_place e ps w st i b o t = record { epoch = e; places = ps; bounds = w; stamps = st; container = i; block = b; opened = o; taken = t }
 
 -- ---- the container at a place
 
@@ -85,6 +90,12 @@ at_one P o x is has = subst (λ (q : Option _). IsSomeAnd q P) is has
 one_at : {X : Type 0} (P : X → Type 0) (o : Option X) (x : X) → o ≡ Some x → P x → IsSomeAnd o P
 one_at P o x is has = subst (λ (q : Option _). IsSomeAnd q P) (sym is) has
 
+opened_here : (p : Projected) (i : ℕ) (ps : List (Option ℕ)) (holds : Option Contents) (opened : Opening) (k : Container) (b : Beside) → slice_get p.entry.containers i ≡ Some k → slice_get p.beside i ≡ Some b
+    → HasOpenedAt p i ps holds opened → HasOpened k (length p.entry.columns) b ps holds opened
+opened_here p i ps holds opened k b at beside_at has =
+    at_one (λ x. HasOpened k (length p.entry.columns) x ps holds opened) (slice_get p.beside i) b beside_at
+    (at_one (λ c. IsSomeAnd (slice_get p.beside i) (λ x. HasOpened c (length p.entry.columns) x ps holds opened)) (slice_get p.entry.containers i) k at has)
+
 -- ---- a file that is blamed
 
 unblamed_of : (es : List Encoding) (k : Container) (m : Contents) (holds : Option Contents) (fault : StoreFault) (asked : List Asked) → holds ≡ Some m → HoldsContainer m es k asked → BlamesContainer es k holds fault → IsUnblamed fault
@@ -92,23 +103,23 @@ unblamed_of es k m holds (Damaged q) asked told held blames = blamed_holds_none 
 unblamed_of es k m holds Disk asked told held blames = tt
 unblamed_of es k m holds Memory asked told held blames = tt
 
-pub unblamed_at : (m : Contents) (holds : Option Contents) (p : Projected) (e : ℕ) (ps : List (Option ℕ)) (i b : ℕ) (o : Option Opening) (t : ℕ) (left : List Stamped) (fault : StoreFault) → holds ≡ Some m → i < length p.entry.containers
-    → AreLeft m p (at_place e ps i b o t) left → BlamesContainerAt p.entry i holds fault → IsUnblamed fault
-unblamed_at m holds p e ps i b o t left fault told lt are blames =
+pub unblamed_at : (m : Contents) (holds : Option Contents) (p : Projected) (e : ℕ) (ps : List (Option ℕ)) (w : List Bound) (st : Bool) (i b : ℕ) (o : Option Opening) (t : ℕ) (left : List Stamped) (fault : StoreFault) → holds ≡ Some m → i < length p.entry.containers
+    → AreLeft m p (at_place e ps w st i b o t) left → BlamesContainerAt p.entry i holds fault → IsUnblamed fault
+unblamed_at m holds p e ps w st i b o t left fault told lt are blames =
     let s = stores_at m (encodings_of p.entry) p.entry.containers p.beside i are.saved lt are.stored in
     unblamed_of (encodings_of p.entry) s.entry m holds fault s.asked told s.held (at_one (λ k. BlamesContainer (encodings_of p.entry) k holds fault) (slice_get p.entry.containers i) s.entry s.at blames)
 
 -- ---- how many rows were handed over
 
-pub passed_none : (p : Projection) (e : ℕ) (ps : List (Option ℕ)) (i : ℕ) (o : Option Opening) (t : ℕ) → rows_passed p (at_place e ps i 0 o t) ≡ 0
-passed_none p e ps i o t = by (slice_get p.containers i)
+pub passed_none : (p : Projection) (e : ℕ) (ps : List (Option ℕ)) (w : List Bound) (st : Bool) (i : ℕ) (o : Option Opening) (t : ℕ) → rows_passed p (at_place e ps w st i 0 o t) ≡ 0
+passed_none p e ps w st i o t = by (slice_get p.containers i)
   where
     by : (q : Option Container) → option_map_or (λ k. min (1024 * 0) k.rows) q 0 ≡ 0
     by None = refl
     by (Some k) = omega arith
 
-passed_at : (p : Projection) (e : ℕ) (ps : List (Option ℕ)) (i b : ℕ) (o : Option Opening) (t : ℕ) (k : Container) → slice_get p.containers i ≡ Some k → rows_passed p (at_place e ps i b o t) ≡ min (1024 * b) k.rows
-passed_at p e ps i b o t k at = ap (λ (q : Option Container). option_map_or (λ x. min (1024 * b) x.rows) q 0) at
+passed_at : (p : Projection) (e : ℕ) (ps : List (Option ℕ)) (w : List Bound) (st : Bool) (i b : ℕ) (o : Option Opening) (t : ℕ) (k : Container) → slice_get p.containers i ≡ Some k → rows_passed p (at_place e ps w st i b o t) ≡ min (1024 * b) k.rows
+passed_at p e ps w st i b o t k at = ap (λ (q : Option Container). option_map_or (λ x. min (1024 * b) x.rows) q 0) at
 
 drop_front : (n : ℕ) (xs ys : List Stamped) → n ≤ length xs → drop n (xs ++ ys) ≡ drop n xs ++ ys
 drop_front zero xs ys le = refl
@@ -155,96 +166,174 @@ next_rows mark asked rows b long lt =
     ∙ ap (λ (xs : List Stamped). xs ++ drop upto here) (take_stamped mark (upto - 1024 * b) (1024 * b) (drop (1024 * b) asked))
     ∙ ap (λ (xs : List Asked). stamped_from (1024 * b) mark xs ++ drop upto here) (ap (λ (n : ℕ). take n (drop (1024 * b) asked)) j ∙ take_min 1024 (drop (1024 * b) asked))
 
+-- ---- blocks that are passed over
+
+drop_past : {X : Type 0} (n : ℕ) (xs : List X) → length xs ≤ n → drop n xs ≡ []
+drop_past zero [] le = refl
+drop_past zero (x ∷ xs) le = absurd (omega (arith, le))
+drop_past (suc n) [] le = refl
+drop_past (suc n) (x ∷ xs) le = drop_past n xs (omega (arith, le))
+
+-- these are the rows of blocks that are passed over, up to some others
+record Skipped (w : List Bound) (ps : List (Option ℕ)) (all rest : List Stamped) : Type 0 where
+  passed : List Stamped
+  are : all ≡ passed ++ rest
+  out : All (λ a. within w (placed ps a.row) ≡ false) passed
+
+out_stamped : (w : List Bound) (ps : List (Option ℕ)) (mark : ℕ → Option ℕ) (at : ℕ) (rows : List Asked) → AreOut w ps rows → All (λ a. within w (placed ps a.row) ≡ false) (stamped_from at mark rows)
+out_stamped w ps mark at [] out = All-nil (λ (a : Stamped). within w (placed ps a.row) ≡ false)
+out_stamped w ps mark at (a ∷ rows) out =
+    All-cons (λ (x : Stamped). within w (placed ps x.row) ≡ false) (stamped (mark at) a) (stamped_from (at + 1) mark rows) (All-head (λ (x : Asked). within w (placed ps x.row) ≡ false) a rows out)
+    (out_stamped w ps mark (at + 1) rows (All-tail (λ (x : Asked). within w (placed ps x.row) ≡ false) a rows out))
+
+skipped : (w : List Bound) (ps : List (Option ℕ)) (mark : ℕ → Option ℕ) (asked : List Asked) (rows n b c : ℕ) → length asked ≡ rows → b + n ≡ c → c ≤ blocks rows → ((j : ℕ) → b ≤ j → j < c → AreOut w ps (rows_in j asked))
+    → Skipped w ps (drop (min (1024 * b) rows) (stamped_from 0 mark asked)) (drop (min (1024 * c) rows) (stamped_from 0 mark asked))
+skipped w ps mark asked rows zero b c long upto le out =
+    let same : b ≡ c = omega (arith, upto) in
+    record {
+      passed = [];
+      are = ap (λ (n : ℕ). drop (min (1024 * n) rows) (stamped_from 0 mark asked)) same;
+      out = All-nil (λ (a : Stamped). within w (placed ps a.row) ≡ false);
+    }
+skipped w ps mark asked rows (suc n) b c long upto le out =
+    let lt : b < blocks rows = omega (arith, upto, le) in
+    let here = stamped_from (1024 * b) mark (rows_in b asked) in
+    let more = skipped w ps mark asked rows n (b + 1) c long (omega (arith, upto)) le (λ j from below. out j (omega (arith, from)) below) in
+    record {
+      passed = here ++ more.passed;
+      are =
+          next_rows mark asked rows b long lt ∙ ap (λ (xs : List Stamped). here ++ xs) more.are
+          ∙ sym (append_assoc here more.passed (drop (min (1024 * c) rows) (stamped_from 0 mark asked)));
+      out = All-append (λ (a : Stamped). within w (placed ps a.row) ≡ false) here more.passed (out_stamped w ps mark (1024 * b) (rows_in b asked) (out b (omega arith) (omega (arith, upto)))) more.out;
+    }
+
+record SkippedRest (w : List Bound) (ps : List (Option ℕ)) (all : List Stamped) : Type 0 where
+  passed : List Stamped
+  are : all ≡ passed
+  out : All (λ a. within w (placed ps a.row) ≡ false) passed
+
+-- from a block on all are passed over
+skipped_rest : (w : List Bound) (ps : List (Option ℕ)) (mark : ℕ → Option ℕ) (asked : List Asked) (rows b : ℕ) → length asked ≡ rows → ((j : ℕ) → b ≤ j → j < blocks rows → AreOut w ps (rows_in j asked))
+    → SkippedRest w ps (drop (min (1024 * b) rows) (stamped_from 0 mark asked))
+skipped_rest w ps mark asked rows b long out = by (grind arith)
+  where
+    here : List Stamped
+    here = stamped_from 0 mark asked
+
+    by : (b ≤ blocks rows) ⊎ (blocks rows < b) → SkippedRest w ps (drop (min (1024 * b) rows) here)
+    by (inl le) =
+        let skip = skipped w ps mark asked rows (blocks rows - b) b (blocks rows) long (omega (arith, le)) (omega arith) out in
+        let none : drop (min (1024 * blocks rows) rows) here ≡ [] = drop_past (min (1024 * blocks rows) rows) here (omega (arith, long, stamped_long mark 0 asked)) in
+        record {
+          passed = skip.passed;
+          are = skip.are ∙ ap (λ (xs : List Stamped). skip.passed ++ xs) none ∙ append-nil skip.passed;
+          out = skip.out;
+        }
+    by (inr past) = record {
+      passed = [];
+      are = drop_past (min (1024 * b) rows) here (omega (arith, past, long, stamped_long mark 0 asked));
+      out = All-nil (λ (a : Stamped). within w (placed ps a.row) ≡ false);
+    }
+
 -- ---- behind the last block
 
-pub done_gives : (m : Contents) (p : Projected) (e : ℕ) (ps : List (Option ℕ)) (i b : ℕ) (o none : Option Opening) (t : ℕ) (shown : List (List Value)) (shape : Projection) (ks : List Container) (left : List Stamped)
-    → shape ≡ p.entry → ks ≡ shape.containers → i < length p.entry.containers → blocks (get_or ks i blank).rows ≤ b → none ≡ None → shown ≡ []
-    → AreLeft m p (at_place e ps i b o t) left → Gives m p (at_place e ps i b o t) (at_place e ps (i + 1) 0 none t) left (Some shown)
-done_gives m p e ps i b o none t shown shape ks left same are_ks lt past is_none is_shown are =
-    let s = stores_at m (encodings_of p.entry) p.entry.containers p.beside i are.saved lt are.stored in
-    let ks_are : ks ≡ p.entry.containers = are_ks ∙ ap (λ (x : Projection). x.containers) same in
-    let entry : get_or ks i blank ≡ s.entry = ap (λ (xs : List Container). get_or xs i blank) ks_are ∙ got p.entry.containers i s.entry blank s.at in
-    let here = stamped_from 0 (mark_in s.kept) s.asked in
-    let many : length here ≡ s.entry.rows = stamped_long (mark_in s.kept) 0 s.asked ∙ container_long m (encodings_of p.entry) s.entry s.asked s.held in
-    let behind : blocks s.entry.rows ≤ b = subst (λ (k : Container). blocks k.rows ≤ b) entry past in
-    let whole : rows_passed p.entry (at_place e ps i b o t) ≡ length here = passed_at p.entry e ps i b o t s.entry s.at ∙ omega (arith, behind, many) in
-    let next : suc i ≡ i + 1 = omega arith in
-    let rest : left ≡ s.more ++ drop t p.unsaved =
-    are.left ∙ ap₂ (λ (n : ℕ) (xs : List Stamped). drop n xs ++ drop t p.unsaved) whole s.all
-    ∙ ap (λ (xs : List Stamped). xs ++ drop t p.unsaved) (drop_front (length here) here s.more (omega arith) ∙ drop_whole here s.more) in (
-      [],
-      left,
-      refl,
-      is_shown,
-      record {
-        saved = s.more;
-        stored = subst (λ (n : ℕ). StoresRows m (encodings_of p.entry) (drop n p.entry.containers) (drop n p.beside) s.more) next s.rest;
-        at_hand = subst (λ (q : Option Opening). IfSome q (HasOpenedAt p (i + 1) ps (Some m))) (sym is_none) tt;
-        left = rest ∙ ap (λ (n : ℕ). drop n s.more ++ drop t p.unsaved) (sym (passed_none p.entry e ps (i + 1) none t));
-      },
-    )
-
--- ---- a block
-
-pub block_gives : (m : Contents) (holds : Option Contents) (p : Projected) (e : ℕ) (ps : List (Option ℕ)) (i b : ℕ) (o : Option Opening) (opened : Opening) (t : ℕ) (shown : List (List Value)) (shape : Projection) (ks : List Container)
-    (left : List Stamped) → holds ≡ Some m → shape ≡ p.entry → ks ≡ shape.containers → i < length p.entry.containers → b < blocks (get_or ks i blank).rows → HasOpenedAt p i ps holds opened
-    → ((bes : Beside) → HasOpened (get_or ks i blank) (length shape.columns) bes ps holds opened → OfBlock (ShowsRows e ps (mark_in bes) (1024 * b) shown) holds (encodings_of shape) (get_or ks i blank) b)
-    → AreLeft m p (at_place e ps i b o t) left → Gives m p (at_place e ps i b o t) (at_place e ps i (b + 1) (Some opened) t) left (Some shown)
-block_gives m holds p e ps i b o opened t shown shape ks left told same are_ks lt below has found are =
+pub done_gives : Between → (m : Contents) (holds : Option Contents) (p : Projected) (e : ℕ) (ps : List (Option ℕ)) (w : List Bound) (st : Bool) (i b c : ℕ) (o none : Option Opening) (opened : Opening) (t : ℕ) (shown : Shown) (shape : Projection) (ks : List Container) (left : List Stamped)
+    → holds ≡ Some m → shape ≡ p.entry → ks ≡ shape.containers → i < length p.entry.containers → blocks (get_or ks i blank).rows ≤ c → none ≡ None → shown.rows ≡ [] → shown.inserted ≡ []
+    → AreOwn p.entry ps → HasOpenedAt p i ps holds opened → IsSomeAnd (slice_get p.entry.containers i) (λ k. IsOpening k.rows ps opened) → ((j : ℕ) → b ≤ j → j < c → IsPassed w opened.indexes j)
+    → AreLeft m p (at_place e ps w st i b o t) left → Gives m p (at_place e ps w st i b o t) (at_place e ps w st (i + 1) 0 none t) left (Some shown)
+done_gives between m holds p e ps w st i b c o none opened t shown shape ks left told same are_ks lt past is_none no_row no_epoch owned has opening misses are =
     let s = stores_at m (encodings_of p.entry) p.entry.containers p.beside i are.saved lt are.stored in
     let ks_are : ks ≡ p.entry.containers = are_ks ∙ ap (λ (x : Projection). x.containers) same in
     let entry : get_or ks i blank ≡ s.entry = ap (λ (xs : List Container). get_or xs i blank) ks_are ∙ got p.entry.containers i s.entry blank s.at in
     let mark = mark_in s.kept in
     let here = stamped_from 0 mark s.asked in
     let long = container_long m (encodings_of p.entry) s.entry s.asked s.held in
-    let within : b < blocks s.entry.rows = subst (λ (k : Container). b < blocks k.rows) entry below in
-    let own : HasOpened s.entry (length p.entry.columns) s.kept ps holds opened =
-    at_one (λ x. HasOpened s.entry (length p.entry.columns) x ps holds opened) (slice_get p.beside i) s.kept s.beside_at
-    (at_one (λ k. IsSomeAnd (slice_get p.beside i) (λ x. HasOpened k (length p.entry.columns) x ps holds opened)) (slice_get p.entry.containers i) s.entry s.at has) in
+    let many : length here ≡ s.entry.rows = stamped_long mark 0 s.asked ∙ long in
+    let behind : blocks s.entry.rows ≤ c = subst (λ (k : Container). blocks k.rows ≤ c) entry past in
+    let skip = skipped_rest w ps mark s.asked s.entry.rows b long
+    (λ j from below. passed_out between m (encodings_of p.entry) s.entry holds ps opened s.asked w j told s.held (own_encodings p.entry ps owned)
+    (opened_here p i ps holds opened s.entry s.kept s.at s.beside_at has) (at_one (λ k. IsOpening k.rows ps opened) (slice_get p.entry.containers i) s.entry s.at opening) below (misses j from (omega (arith, below, behind)))) in
+    let first : min (1024 * b) s.entry.rows ≤ length here = omega (arith, many) in
+    let next : suc i ≡ i + 1 = omega arith in
+    let rest : left ≡ skip.passed ++ (s.more ++ drop t p.unsaved) =
+    are.left ∙ ap₂ (λ (n : ℕ) (xs : List Stamped). drop n xs ++ drop t p.unsaved) (passed_at p.entry e ps w st i b o t s.entry s.at) s.all
+    ∙ ap (λ (xs : List Stamped). xs ++ drop t p.unsaved) (drop_front (min (1024 * b) s.entry.rows) here s.more first)
+    ∙ append_assoc (drop (min (1024 * b) s.entry.rows) here) s.more (drop t p.unsaved)
+    ∙ ap (λ (xs : List Stamped). xs ++ (s.more ++ drop t p.unsaved)) skip.are in (
+      skip.passed,
+      s.more ++ drop t p.unsaved,
+      rest,
+      shows (at_place e ps w st i b o t) [] skip.passed skip.passed shown (sym (append-nil skip.passed)) skip.out (record { rows = no_row; inserted = λ stamps. no_epoch }),
+      record {
+        saved = s.more;
+        stored = subst (λ (n : ℕ). StoresRows m (encodings_of p.entry) (drop n p.entry.containers) (drop n p.beside) s.more) next s.rest;
+        at_hand = subst (λ (q : Option Opening). IfSome q (HasOpenedAt p (i + 1) ps (Some m))) (sym is_none) tt;
+        left = ap (λ (n : ℕ). drop n s.more ++ drop t p.unsaved) (sym (passed_none p.entry e ps w st (i + 1) none t));
+      },
+    )
+
+-- ---- a block
+
+pub block_gives : Between → (m : Contents) (holds : Option Contents) (p : Projected) (e : ℕ) (ps : List (Option ℕ)) (w : List Bound) (st : Bool) (i b c : ℕ) (o : Option Opening) (opened : Opening) (t : ℕ) (shown : Shown) (shape : Projection) (ks : List Container)
+    (left : List Stamped) → holds ≡ Some m → shape ≡ p.entry → ks ≡ shape.containers → i < length p.entry.containers → b ≤ c → c < blocks (get_or ks i blank).rows
+    → AreOwn p.entry ps → HasOpenedAt p i ps holds opened → IsSomeAnd (slice_get p.entry.containers i) (λ k. IsOpening k.rows ps opened) → ((j : ℕ) → b ≤ j → j < c → IsPassed w opened.indexes j)
+    → ((bes : Beside) → HasOpened (get_or ks i blank) (length shape.columns) bes ps holds opened → OfBlock (ShowsRows e ps st (mark_in bes) (1024 * c) shown) holds (encodings_of shape) (get_or ks i blank) c)
+    → AreLeft m p (at_place e ps w st i b o t) left → Gives m p (at_place e ps w st i b o t) (at_place e ps w st i (c + 1) (Some opened) t) left (Some shown)
+block_gives between m holds p e ps w st i b c o opened t shown shape ks left told same are_ks lt from below owned has opening misses found are =
+    let s = stores_at m (encodings_of p.entry) p.entry.containers p.beside i are.saved lt are.stored in
+    let ks_are : ks ≡ p.entry.containers = are_ks ∙ ap (λ (x : Projection). x.containers) same in
+    let entry : get_or ks i blank ≡ s.entry = ap (λ (xs : List Container). get_or xs i blank) ks_are ∙ got p.entry.containers i s.entry blank s.at in
+    let mark = mark_in s.kept in
+    let here = stamped_from 0 mark s.asked in
+    let long = container_long m (encodings_of p.entry) s.entry s.asked s.held in
+    let within : c < blocks s.entry.rows = subst (λ (k : Container). c < blocks k.rows) entry below in
+    let own : HasOpened s.entry (length p.entry.columns) s.kept ps holds opened = opened_here p i ps holds opened s.entry s.kept s.at s.beside_at has in
     let shape_own : HasOpened (get_or ks i blank) (length shape.columns) s.kept ps holds opened =
     subst (λ (k : Container). HasOpened k (length shape.columns) s.kept ps holds opened) (sym entry)
     (subst (λ (x : Projection). HasOpened s.entry (length x.columns) s.kept ps holds opened) (sym same) own) in
     let shape_held : HoldsContainer m (encodings_of shape) (get_or ks i blank) s.asked =
     subst (λ (k : Container). HoldsContainer m (encodings_of shape) k s.asked) (sym entry) (subst (λ (x : Projection). HoldsContainer m (encodings_of x) s.entry s.asked) (sym same) s.held) in
-    let next = stamped_from (1024 * b) mark (rows_in b s.asked) in
-    let upto = min (1024 * (b + 1)) s.entry.rows in
+    let skip = skipped w ps mark s.asked s.entry.rows (c - b) b c long (omega (arith, from)) (omega (arith, within))
+    (λ j first upto. passed_out between m (encodings_of p.entry) s.entry holds ps opened s.asked w j told s.held (own_encodings p.entry ps owned) own
+    (at_one (λ k. IsOpening k.rows ps opened) (slice_get p.entry.containers i) s.entry s.at opening) (omega (arith, upto, within)) (misses j first upto)) in
+    let came = stamped_from (1024 * c) mark (rows_in c s.asked) in
+    let next = skip.passed ++ came in
+    let upto = min (1024 * (c + 1)) s.entry.rows in
     let many : length here ≡ s.entry.rows = stamped_long mark 0 s.asked ∙ long in
     let first : min (1024 * b) s.entry.rows ≤ length here = omega (arith, many) in
     let later : upto ≤ length here = omega (arith, many) in
     let rest = drop upto here ++ (s.more ++ drop t p.unsaved) in
     let split : left ≡ next ++ rest =
-    are.left ∙ ap₂ (λ (n : ℕ) (xs : List Stamped). drop n xs ++ drop t p.unsaved) (passed_at p.entry e ps i b o t s.entry s.at) s.all
+    are.left ∙ ap₂ (λ (n : ℕ) (xs : List Stamped). drop n xs ++ drop t p.unsaved) (passed_at p.entry e ps w st i b o t s.entry s.at) s.all
     ∙ ap (λ (xs : List Stamped). xs ++ drop t p.unsaved) (drop_front (min (1024 * b) s.entry.rows) here s.more first)
     ∙ append_assoc (drop (min (1024 * b) s.entry.rows) here) s.more (drop t p.unsaved)
-    ∙ ap (λ (xs : List Stamped). xs ++ (s.more ++ drop t p.unsaved)) (next_rows mark s.asked s.entry.rows b long within)
+    ∙ ap (λ (xs : List Stamped). xs ++ (s.more ++ drop t p.unsaved)) (skip.are ∙ ap (λ (xs : List Stamped). skip.passed ++ xs) (next_rows mark s.asked s.entry.rows c long within) ∙ sym (append_assoc skip.passed came (drop upto here)))
     ∙ append_assoc next (drop upto here) (s.more ++ drop t p.unsaved) in (
       next,
       rest,
       split,
-      found s.kept shape_own m told s.asked shape_held,
+      shows (at_place e ps w st i b o t) came skip.passed next shown refl skip.out (found s.kept shape_own m told s.asked shape_held),
       record {
         saved = are.saved;
         stored = are.stored;
         at_hand = subst (λ (h : Option Contents). HasOpenedAt p i ps h opened) told has;
         left =
             sym
-            (ap₂ (λ (n : ℕ) (xs : List Stamped). drop n xs ++ drop t p.unsaved) (passed_at p.entry e ps i (b + 1) (Some opened) t s.entry s.at) s.all
+            (ap₂ (λ (n : ℕ) (xs : List Stamped). drop n xs ++ drop t p.unsaved) (passed_at p.entry e ps w st i (c + 1) (Some opened) t s.entry s.at) s.all
             ∙ ap (λ (xs : List Stamped). xs ++ drop t p.unsaved) (drop_front upto here s.more later)
             ∙ append_assoc (drop upto here) s.more (drop t p.unsaved));
       },
     )
 
-pub block_unblamed : (m : Contents) (holds : Option Contents) (p : Projected) (e : ℕ) (ps : List (Option ℕ)) (i b : ℕ) (o : Option Opening) (opened : Opening) (t : ℕ) (shape : Projection) (ks : List Container)
+pub block_unblamed : (m : Contents) (holds : Option Contents) (p : Projected) (e : ℕ) (ps : List (Option ℕ)) (w : List Bound) (st : Bool) (i b : ℕ) (o : Option Opening) (opened : Opening) (t : ℕ) (shape : Projection) (ks : List Container)
     (left : List Stamped) (fault : StoreFault) → holds ≡ Some m → shape ≡ p.entry → ks ≡ shape.containers → i < length p.entry.containers → HasOpenedAt p i ps holds opened
     → ((bes : Beside) → HasOpened (get_or ks i blank) (length shape.columns) bes ps holds opened → BlamesContainer (encodings_of shape) (get_or ks i blank) holds fault)
-    → AreLeft m p (at_place e ps i b o t) left → IsUnblamed fault
-block_unblamed m holds p e ps i b o opened t shape ks left fault told same are_ks lt has blames are =
+    → AreLeft m p (at_place e ps w st i b o t) left → IsUnblamed fault
+block_unblamed m holds p e ps w st i b o opened t shape ks left fault told same are_ks lt has blames are =
     let s = stores_at m (encodings_of p.entry) p.entry.containers p.beside i are.saved lt are.stored in
     let ks_are : ks ≡ p.entry.containers = are_ks ∙ ap (λ (x : Projection). x.containers) same in
     let entry : get_or ks i blank ≡ s.entry = ap (λ (xs : List Container). get_or xs i blank) ks_are ∙ got p.entry.containers i s.entry blank s.at in
-    let own : HasOpened s.entry (length p.entry.columns) s.kept ps holds opened =
-    at_one (λ x. HasOpened s.entry (length p.entry.columns) x ps holds opened) (slice_get p.beside i) s.kept s.beside_at
-    (at_one (λ k. IsSomeAnd (slice_get p.beside i) (λ x. HasOpened k (length p.entry.columns) x ps holds opened)) (slice_get p.entry.containers i) s.entry s.at has) in
+    let own : HasOpened s.entry (length p.entry.columns) s.kept ps holds opened = opened_here p i ps holds opened s.entry s.kept s.at s.beside_at has in
     let shape_own : HasOpened (get_or ks i blank) (length shape.columns) s.kept ps holds opened =
     subst (λ (k : Container). HasOpened k (length shape.columns) s.kept ps holds opened) (sym entry)
     (subst (λ (x : Projection). HasOpened s.entry (length x.columns) s.kept ps holds opened) (sym same) own) in
@@ -269,15 +358,13 @@ sum_at f (k ∷ ks) (suc i) d lt =
     let up : suc i + 1 ≡ suc (i + 1) = omega arith in
     sum_at f ks i d (omega (arith, lt)) ∙ ap (λ (n : ℕ). f (get_or ks i d) + sum_by f (drop n (k ∷ ks))) (sym up)
 
-pub done_fewer : (p : Projection) (u e : ℕ) (ps : List (Option ℕ)) (i b : ℕ) (o none : Option Opening) (t : ℕ) (shape : Projection) (ks : List Container) → shape ≡ p → ks ≡ shape.containers → i < length p.containers
-    → blocks (get_or ks i blank).rows ≤ b → IsScanOf p (at_place e ps i b o t) → steps_left p u (at_place e ps (i + 1) 0 none t) < steps_left p u (at_place e ps i b o t)
-done_fewer p u e ps i b o ended t shape ks same are lt past is =
-    let ks_are : ks ≡ p.containers = are ∙ ap (λ (x : Projection). x.containers) same in
+pub done_fewer : (p : Projection) (u e : ℕ) (ps : List (Option ℕ)) (w : List Bound) (st : Bool) (i b : ℕ) (o none : Option Opening) (t : ℕ) (shape : Projection) (ks : List Container) → shape ≡ p → ks ≡ shape.containers → i < length p.containers
+    → IsScanOf p (at_place e ps w st i b o t) → steps_left p u (at_place e ps w st (i + 1) 0 none t) < steps_left p u (at_place e ps w st i b o t)
+done_fewer p u e ps w st i b o ended t shape ks same are lt is =
     let k = get_or p.containers i blank in
     let sum = sum_at (λ x. blocks x.rows + 1) p.containers i blank lt in
-    let at_least : blocks k.rows ≤ b = subst (λ (xs : List Container). blocks (get_or xs i blank).rows ≤ b) ks_are past in
     let at_most : b ≤ blocks k.rows = by o refl in
-    omega (arith, sum, at_least, at_most)
+    omega (arith, sum, at_most)
   where
     by : (q : Option Opening) → o ≡ q → b ≤ blocks (get_or p.containers i blank).rows
     by None none_is = let zero_is : b ≡ 0 = is.closed none_is in omega (arith, zero_is)
@@ -285,15 +372,24 @@ done_fewer p u e ps i b o ended t shape ks same are lt past is =
         let there = subst (λ (q : Option Opening). IfSome q (λ y. IsSomeAnd (slice_get p.containers i) (λ k. IsOpening k.rows ps y × (b ≤ blocks k.rows)))) some_is is.opening in
         (at_some (λ k. IsOpening k.rows ps x × (b ≤ blocks k.rows)) p.containers i blank there).1
 
-pub next_scan : (p : Projection) (e : ℕ) (ps : List (Option ℕ)) (i b : ℕ) (o : Option Opening) (opened : Opening) (t : ℕ) (shape : Projection) (ks : List Container) → shape ≡ p → ks ≡ shape.containers → i < length p.containers
-    → b < blocks (get_or ks i blank).rows → IsSomeAnd (slice_get p.containers i) (λ k. IsOpening k.rows ps opened) → IsScanOf p (at_place e ps i b o t) → IsScanOf p (at_place e ps i (b + 1) (Some opened) t)
-next_scan p e ps i b o opened t shape ks same are lt below opening is =
+pub next_fewer : (p : Projection) (u e : ℕ) (ps : List (Option ℕ)) (w : List Bound) (st : Bool) (i b c : ℕ) (o : Option Opening) (opened : Opening) (t : ℕ) (shape : Projection) (ks : List Container) → shape ≡ p → ks ≡ shape.containers → i < length p.containers
+    → b ≤ c → c < blocks (get_or ks i blank).rows → steps_left p u (at_place e ps w st i (c + 1) (Some opened) t) < steps_left p u (at_place e ps w st i b o t)
+next_fewer p u e ps w st i b c o opened t shape ks same are lt from below =
     let ks_are : ks ≡ p.containers = are ∙ ap (λ (x : Projection). x.containers) same in
     let k = get_or p.containers i blank in
-    let here : b < blocks k.rows = subst (λ (xs : List Container). b < blocks (get_or xs i blank).rows) ks_are below in
+    let sum = sum_at (λ x. blocks x.rows + 1) p.containers i blank lt in
+    let here : c < blocks k.rows = subst (λ (xs : List Container). c < blocks (get_or xs i blank).rows) ks_are below in
+    omega (arith, sum, from, here)
+
+pub next_scan : (p : Projection) (e : ℕ) (ps : List (Option ℕ)) (w : List Bound) (st : Bool) (i b c : ℕ) (o : Option Opening) (opened : Opening) (t : ℕ) (shape : Projection) (ks : List Container) → shape ≡ p → ks ≡ shape.containers → i < length p.containers
+    → c < blocks (get_or ks i blank).rows → IsSomeAnd (slice_get p.containers i) (λ k. IsOpening k.rows ps opened) → IsScanOf p (at_place e ps w st i b o t) → IsScanOf p (at_place e ps w st i (c + 1) (Some opened) t)
+next_scan p e ps w st i b c o opened t shape ks same are lt below opening is =
+    let ks_are : ks ≡ p.containers = are ∙ ap (λ (x : Projection). x.containers) same in
+    let k = get_or p.containers i blank in
+    let here : c < blocks k.rows = subst (λ (xs : List Container). c < blocks (get_or xs i blank).rows) ks_are below in
     record {
       own = is.own;
-      opening = some_at (λ x. IsOpening x.rows ps opened × (b + 1 ≤ blocks x.rows)) p.containers i blank lt
+      opening = some_at (λ x. IsOpening x.rows ps opened × (c + 1 ≤ blocks x.rows)) p.containers i blank lt
           (at_some (λ x. IsOpening x.rows ps opened) p.containers i blank opening, omega (arith, here));
       closed = λ none. absurd (cc);
     }
@@ -320,12 +416,6 @@ slice_mapped xs a b = ap (take (b - a)) (dropped a xs) ∙ taken (b - a) (drop a
     taken (suc n) [] = refl
     taken (suc n) (y ∷ ys) = ap (λ (zs : List Stamped). stamp y ∷ zs) (taken n ys)
 
-drop_past : {X : Type 0} (n : ℕ) (xs : List X) → length xs ≤ n → drop n xs ≡ []
-drop_past zero [] le = refl
-drop_past zero (x ∷ xs) le = absurd (omega (arith, le))
-drop_past (suc n) [] le = refl
-drop_past (suc n) (x ∷ xs) le = drop_past n xs (omega (arith, le))
-
 nothing_saved : (m : Contents) (es : List Encoding) (bs : List Beside) (saved : List Stamped) → StoresRows m es [] bs saved → saved ≡ []
 nothing_saved m es [] saved is = is
 nothing_saved m es (b ∷ bs) saved is = absurd is
@@ -344,20 +434,20 @@ memory_left m p s left past are =
     (subst (λ (ks : List Container). StoresRows m (encodings_of p.entry) ks (drop s.container p.beside) are.saved) (drop_past s.container p.entry.containers past) are.stored) in
     are.left ∙ ap (λ (xs : List Stamped). drop (rows_passed p.entry s) xs ++ drop s.taken p.unsaved) none ∙ ap (λ (xs : List Stamped). xs ++ drop s.taken p.unsaved) (drop_none (rows_passed p.entry s))
 
-pub memory_gives : (m : Contents) (p : Projected) (e : ℕ) (ps : List (Option ℕ)) (i b : ℕ) (o : Option Opening) (t upto : ℕ) (rows : List Held) (shown : List (List Value)) (left : List Stamped)
-    → map stamp rows ≡ p.unsaved → length p.entry.containers ≤ i → t ≤ upto → shown ≡ map (placed ps) (visible e (map stamp (slice_range rows t upto)))
-    → AreLeft m p (at_place e ps i b o t) left → Gives m p (at_place e ps i b o t) (at_place e ps i b o upto) left (Some shown)
-memory_gives m p e ps i b o t upto rows shown left stamps past le is are =
-    let all = memory_left m p (at_place e ps i b o t) left past are in
+pub memory_gives : (m : Contents) (p : Projected) (e : ℕ) (ps : List (Option ℕ)) (w : List Bound) (st : Bool) (i b : ℕ) (o : Option Opening) (t upto : ℕ) (rows : List Held) (shown : Shown) (left : List Stamped)
+    → map stamp rows ≡ p.unsaved → length p.entry.containers ≤ i → t ≤ upto → ShowsAll e ps st shown (map stamp (slice_range rows t upto))
+    → AreLeft m p (at_place e ps w st i b o t) left → Gives m p (at_place e ps w st i b o t) (at_place e ps w st i b o upto) left (Some shown)
+memory_gives m p e ps w st i b o t upto rows shown left stamps past le is are =
+    let all = memory_left m p (at_place e ps w st i b o t) left past are in
     let next = slice_range p.unsaved t upto in
     let seen : map stamp (slice_range rows t upto) ≡ next = sym (slice_mapped rows t upto) ∙ ap (λ (xs : List Stamped). slice_range xs t upto) stamps in
     let none : are.saved ≡ [] = nothing_saved m (encodings_of p.entry) (drop i p.beside) are.saved
     (subst (λ (ks : List Container). StoresRows m (encodings_of p.entry) ks (drop i p.beside) are.saved) (drop_past i p.entry.containers past) are.stored) in
-    let n = rows_passed p.entry (at_place e ps i b o upto) in (
+    let n = rows_passed p.entry (at_place e ps w st i b o upto) in (
       next,
       drop upto p.unsaved,
       all ∙ drop_split p.unsaved t upto le,
-      is ∙ ap (λ (xs : List Stamped). map (placed ps) (visible e xs)) seen,
+      shows (at_place e ps w st i b o t) next [] next shown refl (All-nil (λ (a : Stamped). within w (placed ps a.row) ≡ false)) (subst (λ (xs : List Stamped). ShowsAll e ps st shown xs) seen is),
       record {
         saved = are.saved;
         stored = are.stored;

@@ -1,10 +1,15 @@
 -- How a batch has its rows, and which rows it shows.
-use Rattle.std.specs.Prelude.{ℕ, ◌≡◌, ◌≤◌, ◌<◌, ◌+◌, ◌*◌, ◌&&◌, not, nat_le, Bool, false, List, length, map, Option, None, slice_index_or, slice_range}
-use Rattle.std.specs.List.{All}
+use Rattle.std.specs.Prelude.{ℕ, ◌≡◌, ◌≤◌, ◌<◌, ◌+◌, ◌*◌, ◌&&◌, not, nat_le, Bool, false, List, length, map, filter, Option, None, slice_index_or, slice_range}
+use Rattle.std.specs.List.{All, range_with_len}
 use Rattle.std.specs.Option.{option_map_or}
 use Rattle.col_value.specs.declared.value.Value.{Value}
 use Rattle.col_value.specs.declared.value.Value.TheVariants as value
 use Rattle.col_value.specs.Order.{IsValue}
+
+-- what a batch shows: rows, and the epochs that inserted them, where these are told
+pub record Shown : Type 0 where
+  pub rows : List (List Value)
+  pub inserted : List ℕ
 
 -- the rows of so many values that begin at these places
 abbrev pub rows_at : ℕ → List Value → List ℕ → List (List Value)
@@ -24,3 +29,11 @@ pub record PutsColumn (width column : ℕ) (new old values : List Value) : Type 
 -- A row is shown at an epoch: it was inserted up to it, which each row was that has no epoch here, and isn't deleted up to it.
 abbrev pub is_shown : ℕ → List ℕ → List (Option ℕ) → ℕ → ℕ → Bool
 is_shown epoch inserted deletes first i = nat_le (slice_index_or inserted i 0) epoch && not (option_map_or (λ e. nat_le e epoch) (slice_index_or deletes (first + i) None) false)
+
+-- the places of those rows of a block, which has so many, that are shown
+abbrev pub shown_places : ℕ → List ℕ → List (Option ℕ) → ℕ → ℕ → List ℕ
+shown_places epoch inserted deletes first count = filter (is_shown epoch inserted deletes first) (range_with_len 0 count)
+
+-- the epochs at these places
+abbrev pub epochs_at : List ℕ → List ℕ → List ℕ
+epochs_at inserted places = map (λ i. slice_index_or inserted i 0) places

@@ -12,9 +12,10 @@ pub record Opening : Type 0 where
   pub epochs : PosIndex
   pub deletes : List (Option ℕ)
 
--- a column that is needed has an index of so many rows
+-- a column that is needed has an index of so many rows, and another one has none
 abbrev pub IsNeeded : ℕ → Option ℕ → Option PosIndex → Type 0
-IsNeeded rows None index = Unit {0}
+IsNeeded rows None None = Unit {0}
+IsNeeded rows None (Some at) = ⊥
 IsNeeded rows (Some place) None = ⊥
 IsNeeded rows (Some place) (Some at) = IsIndexOf rows at
 

@@ -1,32 +1,38 @@
 -- A scan of a projection: which rows are left, and what its next batch gives.
-use Rattle.std.specs.Prelude.{ℕ, ◌≡◌, ◌≤◌, ◌<◌, ◌+◌, ◌-◌, ◌*◌, ◌++◌, min, sum_by, List, [], length, map, drop, Option, Some, None}
+use Rattle.std.specs.Prelude.{ℕ, ◌≡◌, ◌≤◌, ◌<◌, ◌+◌, ◌-◌, ◌*◌, ◌++◌, min, sum_by, Bool, true, false, List, [], length, map, filter, drop, Option, Some, None}
 use Rattle.std.specs.List.{All, slice_get}
 use Rattle.std.specs.Option.{IfSome, IsSomeAnd, option_map_or}
+use Rattle.common_laws.specs.Bags.{SameBag}
 use Rattle.common_laws.specs.Maps.{Contents}
 use Rattle.col_disk.specs.declared.disk.StoreFault.{StoreFault}
 use Rattle.col_disk.specs.declared.disk.StoreFault.TheVariants.{Disk, Damaged, Memory}
 use Rattle.catalog_types.specs.declared.catalogue.Projection.{Projection}
-use Rattle.col_value.specs.declared.value.Value.{Value}
 use Rattle.col_value.specs.declared.row.Stamped.{Stamped}
 use Rattle.pos_index.specs.Index.{blocks}
 use Rattle.ros_container.specs.Encodings.{encodings_of}
 use Rattle.ros_container.specs.Held.{BlamesContainer}
-use Rattle.row_history.specs.History.{visible}
+use Rattle.row_history.specs.History.{is_visible, visible}
 use Rattle.stored_rows.specs.Stored.{Projected, StoresRows}
+use Rattle.row_bounds.specs.Bounds.{within}
+use Rattle.row_bounds.specs.declared.bound.Bound.{Bound}
 use Rattle.query_cover.specs.Seen.{placed}
+use Rattle.exec_scan.specs.Batches.{Shown}
 use Rattle.exec_scan.specs.Opened.{Opening, IsOpening, HasOpened}
 
--- At which epoch which columns are read; the container at hand and how many of its blocks were handed over; and how many rows in memory.
+-- At which epoch which columns are read, which bounds the rows have to lie in, and whether insert epochs are told; the container at hand and
+-- how many of its blocks are done; and how many rows in memory.
 pub record Place : Type 0 where
   pub epoch : ℕ
   pub places : List (Option ℕ)
+  pub bounds : List Bound
+  pub stamps : Bool
   pub container : ℕ
   pub block : ℕ
   pub opened : Option Opening
   pub taken : ℕ
 
-abbrev pub start : ℕ → List (Option ℕ) → Place
-start epoch places = record { epoch = epoch; places = places; container = 0; block = 0; opened = None; taken = 0 }
+abbrev pub start : ℕ → List (Option ℕ) → List Bound → Bool → Place
+start epoch places bounds stamps = record { epoch = epoch; places = places; bounds = bounds; stamps = stamps; container = 0; block = 0; opened = None; taken = 0 }
 
 -- a needed column is one of the projection's
 abbrev pub AreOwn : Projection → List (Option ℕ) → Type 0
@@ -65,10 +71,28 @@ pub record AreLeft (m : Contents) (p : Projected) (s : Place) (rows : List Stamp
   pub at_hand : IsAtHand (Some m) p s
   pub left : rows ≡ drop (rows_passed p.entry s) saved ++ drop s.taken p.unsaved
 
--- A batch has the visible ones of the next rows, made for the table's columns; the others are left. Where there is none, no row is left.
-abbrev pub Gives : Contents → Projected → Place → Place → List Stamped → Option (List (List Value)) → Type 0
+-- Of the next rows some were passed over, each of which lies out of the bounds; the batch has the visible ones of the others, made for the
+-- table's columns, and their insert epochs where they are told. Without bounds none is passed over.
+pub record Shows (s : Place) (next : List Stamped) (b : Shown) : Type 0 where
+  pub came : List Stamped
+  pub passed : List Stamped
+  pub parts : SameBag next (came ++ passed)
+  pub out : All (λ a. within s.bounds (placed s.places a.row) ≡ false) passed
+  pub rows : b.rows ≡ map (placed s.places) (visible s.epoch came)
+  pub inserted : s.stamps ≡ true → b.inserted ≡ map (λ a. a.ins) (filter (is_visible s.epoch) came)
+  pub whole : s.bounds ≡ [] → came ≡ next
+
+-- A batch shows the next rows, and the others are left. Where there is none, no row is left.
+abbrev pub Gives : Contents → Projected → Place → Place → List Stamped → Option Shown → Type 0
 Gives m p old new left None = left ≡ []
-Gives m p old new left (Some rows) = (next : List Stamped) × (rest : List Stamped) × (left ≡ next ++ rest) × (rows ≡ map (placed old.places) (visible old.epoch next)) × AreLeft m p new rest
+Gives m p old new left (Some b) = (next : List Stamped) × (rest : List Stamped) × (left ≡ next ++ rest) × Shows old next b × AreLeft m p new rest
+
+-- what a scan asks for stays
+pub record AsksSame (old new : Place) : Type 0 where
+  pub epoch : new.epoch ≡ old.epoch
+  pub places : new.places ≡ old.places
+  pub bounds : new.bounds ≡ old.bounds
+  pub stamps : new.stamps ≡ old.stamps
 
 -- no file is to blame
 abbrev pub IsUnblamed : StoreFault → Type 0

@@ -1,9 +1,11 @@
 //! A projection scanned batch by batch.
 //!
-//! A `Scan` hands over the rows that are visible at an epoch, as rows of the table's columns with NULL in those that aren't needed:
-//! `next` gives those of the next block of a container, or of the next rows in memory (`Gives` of `specs/Scanning.antt`), until no row is
-//! left. Of a container only the columns that are needed are read, block by block; its epochs only where some of them are later than
-//! the epoch that is asked for. A `Batch` holds up to 1,024 rows; none of them is a vector of its own.
+//! A `Scan` hands over the rows that are visible at an epoch, as rows of the table's columns with NULL in those that aren't needed, and
+//! their insert epochs, if these are asked for: `next` gives those of the next block of a container, or of the next rows in memory
+//! (`Gives` of `specs/Scanning.antt`), until no row is left. Blocks whose rows lie out of the bounds that the scan has, by the least and
+//! greatest values in the indexes, are passed over unread: those rows are told apart by `Shows`. Of a container only the columns that are
+//! needed are read, block by block; its epochs only where they are told, or some of them are later than the epoch that is asked for. A
+//! `Batch` holds up to 1,024 rows; none of them is a vector of its own.
 //! `scan_rows` is all batches together: exactly the visible rows of the projection. `retains` says whether a row is retained from a mark on,
 //! and reads nothing.
 #![tactic(auto)]
@@ -12,6 +14,7 @@ mod batch;
 mod columns;
 mod deletes;
 mod opened;
+mod passing;
 mod reading;
 mod retained;
 mod scan;

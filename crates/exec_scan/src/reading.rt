@@ -1,6 +1,6 @@
 //! One block of a container as a batch.
 
-ghost use Rattle.std.specs.Prelude.{◌≡◌, ◌≤◌, ◌<◌, ◌+◌, ◌-◌, ◌*◌, ◌^◌, min, length, IfOk, IfErr, OnOk, Some};
+ghost use Rattle.std.specs.Prelude.{◌≡◌, ◌≤◌, ◌<◌, ◌+◌, ◌-◌, ◌*◌, ◌^◌, min, true, length, map, IfOk, IfErr, OnOk, Some};
 ghost use Rattle.std.specs.List.{All};
 ghost use Rattle.std.specs.Option.{IfSome};
 ghost use Rattle.common_laws.specs.Causes.{HasCause};
@@ -12,15 +12,15 @@ ghost use Rattle.ros_container.specs.Held.{BlamesContainer};
 ghost use Rattle.proj_store.specs.Sound.{HasFileNumbers};
 ghost use Rattle.stored_rows.specs.Stored.{Beside as Kept, mark_in};
 ghost use Rattle.container_blocks.specs.Blocks.{IsIndexOf, HasIndex};
-ghost use Rattle.exec_scan.specs.Batches.{PutsColumn};
+ghost use Rattle.exec_scan.specs.Batches.{epochs_at, PutsColumn, rows_at, shown_places};
 ghost use Rattle.exec_scan.specs.Opened.{HoldsNeeded, IsNeeded, IsOpening, HasOpened};
-ghost use Rattle.exec_scan.specs.Reading.{AreInserted, HaveColumns, OfBlock, PutsNeeded, PutsRows, ShowsRows};
+ghost use Rattle.exec_scan.specs.Reading.{AreInserted, AreTold, HaveColumns, OfBlock, PutsNeeded, PutsRows, ShowsRows};
 ghost use Rattle.exec_scan.specs.Scanning.{AreOwn};
 
 use crate::batch::Batch;
 use crate::columns::{nulls, put_column};
 use crate::opened::Opened;
-use crate::shown::shown_starts;
+use crate::shown::{shown_epochs, shown_starts};
 use catalog_types::{Container, Projection};
 use col_disk::{Disk, StoreFault};
 use col_value::Value;
@@ -28,7 +28,7 @@ use container_blocks::{block, epochs};
 use pos_index::PosIndex;
 use std::alloc::{AllocError, Global};
 
-/// The epochs that inserted the rows of a block; none where all are up to the epoch that is asked for.
+/// The epochs that inserted the rows of a block; none where all are up to the epoch that is asked for and they aren't told.
 fn inserted<D: Disk>(
     alloc: Global,
     disk: &mut D,
@@ -37,17 +37,19 @@ fn inserted<D: Disk>(
     at: &PosIndex,
     k: usize,
     epoch: u64,
+    stamps: bool,
 ) -> Result<Vec<u64>, StoreFault>
     requires numbers { HasFileNumbers (length shape.now.columns) entry.now }
     requires index { IsIndexOf entry.now.rows at.now }
     requires block { k < blocks entry.now.rows }
     ensures found { IfOk result (λ v. HasIndex entry.now (length shape.now.columns) at.now (D.holds disk.old) → OfBlock (AreInserted epoch v.items) (D.holds disk.old) (encodings_of shape.now) entry.now k) }
+    ensures told { IfOk result (λ v. HasIndex entry.now (length shape.now.columns) at.now (D.holds disk.old) → OfBlock (AreTold stamps v.items) (D.holds disk.old) (encodings_of shape.now) entry.now k) }
     ensures blamed { IfErr result (λ fault. HasIndex entry.now (length shape.now.columns) at.now (D.holds disk.old) → BlamesContainer (encodings_of shape.now) entry.now (D.holds disk.old) fault) }
     ensures kept { D.holds disk.new ≡ D.holds disk.old }
     ensures moved { Moved ⟦<D as Disk>⟧ NoName NoName disk.old disk.new }
     ensures cause { HasCause StoreFault.Disk (D.faults disk.old) (D.faults disk.new) result }
 {
-    if entry.greatest_epoch <= epoch {
+    if !stamps && entry.greatest_epoch <= epoch {
         return Ok(Vec::new(alloc));
     }
     match epochs(alloc, disk, entry, at, shape, k) {
@@ -192,7 +194,51 @@ fn laid_out<D: Disk>(
     Ok(values)
 }
 
-/// The rows of a block that are visible at an epoch, made for the table's columns.
+/// The epochs of the rows of a block that are shown, where they are told.
+fn told(
+    alloc: Global,
+    epoch: u64,
+    stamps: bool,
+    inserted: &[u64],
+    deletes: &[Option<u64>],
+    first: usize,
+    count: usize,
+) -> Result<Vec<u64>, AllocError>
+    requires places { first + count < 2 ^ 64 }
+    ensures { IfOk result (λ v. stamps ≡ true → v.items ≡ epochs_at inserted.now (shown_places epoch inserted.now deletes.now first count)) }
+{
+    if !stamps {
+        return Ok(Vec::new(alloc));
+    }
+    let epochs = shown_epochs(alloc, epoch, inserted, deletes, first, count)?;
+    Ok(epochs)
+}
+
+/// The rows of a block that are shown.
+fn shown_rows(
+    alloc: Global,
+    epoch: u64,
+    stamps: bool,
+    values: Vec<Value>,
+    inserted: &[u64],
+    deletes: &[Option<u64>],
+    first: usize,
+    count: usize,
+    width: usize,
+) -> Result<Batch, AllocError>
+    requires places { first + count < 2 ^ 64 }
+    requires cells { count * width < 2 ^ 64 }
+    requires long { length values.items ≡ count * width }
+    requires valid { All IsValue values.items }
+    ensures rows { IfOk result (λ b. b.rows ≡ rows_at width values.items (map (λ i. i * width) (shown_places epoch inserted.now deletes.now first count))) }
+    ensures inserted { IfOk result (λ b. stamps ≡ true → b.inserted ≡ epochs_at inserted.now (shown_places epoch inserted.now deletes.now first count)) }
+{
+    let starts = shown_starts(alloc, epoch, inserted, deletes, first, count, width)?;
+    let epochs = told(alloc, epoch, stamps, inserted, deletes, first, count)?;
+    Ok(Batch::of(width, values, starts, epochs))
+}
+
+/// The rows of a block that are visible at an epoch, made for the table's columns, and their insert epochs, where these are told.
 pub fn read_block<D: Disk>(
     alloc: Global,
     disk: &mut D,
@@ -202,12 +248,13 @@ pub fn read_block<D: Disk>(
     places: &[Option<usize>],
     k: usize,
     epoch: u64,
+    stamps: bool,
 ) -> Result<Batch, StoreFault>
     requires numbers { HasFileNumbers (length shape.now.columns) entry.now }
     requires own { AreOwn shape.now places.now }
     requires opening { IsOpening entry.now.rows places.now opened.now }
     requires block { k < blocks entry.now.rows }
-    ensures found { IfOk result (λ shown. (b : Kept) → HasOpened entry.now (length shape.now.columns) b places.now (D.holds disk.old) opened.now → OfBlock (ShowsRows epoch places.now (mark_in b) (1024 * k) shown) (D.holds disk.old) (encodings_of shape.now) entry.now k) }
+    ensures found { IfOk result (λ shown. (b : Kept) → HasOpened entry.now (length shape.now.columns) b places.now (D.holds disk.old) opened.now → OfBlock (ShowsRows epoch places.now stamps (mark_in b) (1024 * k) shown) (D.holds disk.old) (encodings_of shape.now) entry.now k) }
     ensures blamed { IfErr result (λ fault. (b : Kept) → HasOpened entry.now (length shape.now.columns) b places.now (D.holds disk.old) opened.now → BlamesContainer (encodings_of shape.now) entry.now (D.holds disk.old) fault) }
     ensures kept { D.holds disk.new ≡ D.holds disk.old }
     ensures moved { Moved ⟦<D as Disk>⟧ NoName NoName disk.old disk.new }
@@ -223,20 +270,22 @@ pub fn read_block<D: Disk>(
         Ok(values) => values,
         Err(fault) => return Err(fault),
     };
-    let epochs = match inserted(alloc, disk, entry, shape, &opened.epochs, k, epoch) {
+    let epochs = match inserted(alloc, disk, entry, shape, &opened.epochs, k, epoch, stamps) {
         Ok(epochs) => epochs,
         Err(fault) => return Err(fault),
     };
-    match shown_starts(
+    match shown_rows(
         alloc,
         epoch,
+        stamps,
+        values,
         epochs.as_slice(),
         opened.deletes.as_slice(),
         first,
         count,
         width,
     ) {
-        Ok(starts) => Ok(Batch::of(width, values, starts)),
+        Ok(batch) => Ok(batch),
         Err(AllocError) => Err(StoreFault::Memory),
     }
 }

@@ -1,6 +1,6 @@
 //! The scan.
 
-ghost use Rattle.std.specs.Prelude.{◌≡◌, ◌<◌, ◌++◌, ◌∷◌, [], if◌then◌else◌, List, length, map, IfOk, IfErr, OnOk, Some, OnSome, IsSomeAnd};
+ghost use Rattle.std.specs.Prelude.{◌≡◌, ◌<◌, ◌++◌, ◌∷◌, [], if◌then◌else◌, List, length, map, filter, IfOk, IfErr, OnOk, Some, OnSome, IsSomeAnd};
 ghost use Rattle.std.specs.List.{All, slice_get};
 ghost use Rattle.std.specs.Option.{IfSome};
 ghost use Rattle.common_laws.specs.Causes.{HasCause};
@@ -13,15 +13,19 @@ ghost use Rattle.col_value.specs.Order.{IsRow};
 ghost use Rattle.query_cover.specs.Seen.{placed};
 ghost use Rattle.exec_scan.specs.Batches.{IsBatch, rows_at};
 ghost use Rattle.exec_scan.specs.Opened.{IsOpening};
-ghost use Rattle.exec_scan.specs.Scanning.{AreLeft, AreOwn, BlamesContainerAt, Gives, HasOpenedAt, IsScanOf, IsUnblamed, start, steps_left};
+ghost use Rattle.exec_scan.specs.Scanning.{AreLeft, AreOwn, AsksSame, BlamesContainerAt, Gives, HasOpenedAt, IsScanOf, IsUnblamed, start, steps_left};
 
 use crate::batch::{Batch, put_row};
 use crate::opened::{Opened, open};
+use crate::passing::next_needed;
 use crate::reading::read_block;
+use crate::shown::put_epoch;
 use col_disk::{Disk, StoreFault};
 use col_value::Value;
+use container_blocks::values_lie_between;
 use pos_index::blocks_of;
 use proj_store::ProjStore;
+use row_bounds::Bound;
 use std::alloc::{AllocError, Global};
 use std::marker::Model;
 use write_store::Held;
@@ -29,11 +33,14 @@ use write_store::Held;
 // How many rows in memory a batch has at most.
 const ROWS: usize = 1024;
 
-/// A scan of a projection at an epoch: which columns it reads, and how far it is.
+/// A scan of a projection at an epoch: which columns it reads, which bounds the rows have to lie in, whether insert epochs are told, and how
+/// far it is.
 #[derive(Drop)]
 pub struct Scan {
     epoch: u64,
     places: Vec<Option<usize>>,
+    bounds: Vec<Bound>,
+    stamps: bool,
     container: usize,
     block: usize,
     opened: Option<Opened>,
@@ -45,7 +52,7 @@ impl Model for Scan {
 
     ghost Value = { Place };
 
-    ghost view = { λ s. record { epoch = s.epoch; places = s.places.items; container = s.container; block = s.block; opened = s.opened; taken = s.taken } };
+    ghost view = { λ s. record { epoch = s.epoch; places = s.places.items; bounds = s.bounds.items; stamps = s.stamps; container = s.container; block = s.block; opened = s.opened; taken = s.taken } };
 }
 
 fn is_visible(epoch: u64, row: &Held) -> bool
@@ -80,7 +87,7 @@ fn put_shown(
     Ok(())
 }
 
-/// The visible ones of some rows in memory, made for the table's columns.
+/// The visible ones of some rows in memory, made for the table's columns, and their insert epochs.
 fn from_memory(
     alloc: Global,
     epoch: u64,
@@ -88,12 +95,15 @@ fn from_memory(
     places: &[Option<usize>],
 ) -> Result<Batch, AllocError>
     requires { AreHeldRows rows.now }
-    ensures { IfOk result (λ b. b ≡ map (placed places.now) (visible epoch (map stamp rows.now))) }
+    ensures rows { IfOk result (λ b. b.rows ≡ map (placed places.now) (visible epoch (map stamp rows.now))) }
+    ensures inserted { IfOk result (λ b. b.inserted ≡ map (λ a. a.ins) (filter (is_visible epoch) (map stamp rows.now))) }
 {
     let mut values = Vec::new(alloc);
     let mut starts = Vec::new(alloc);
+    let mut inserted = Vec::new(alloc);
     for row in rows {
         let shown = is_visible(epoch, row);
+        put_epoch(&mut inserted, shown, row.inserted.ins)?;
         put_shown(
             alloc,
             &mut values,
@@ -103,7 +113,7 @@ fn from_memory(
             places,
         )?;
     }
-    Ok(Batch::of(places.len(), values, starts))
+    Ok(Batch::of(places.len(), values, starts, inserted))
 }
 
 /// The container at hand: it is opened where that wasn't done.
@@ -144,13 +154,16 @@ fn at_hand<D: Disk>(
 }
 
 impl Scan {
-    /// A scan from the beginning. For each column of the table `places` has its place in the projection, if it is needed.
-    pub fn new(epoch: u64, places: Vec<Option<usize>>) -> Scan
-        ensures { result ≡ start epoch places.items }
+    /// A scan from the beginning. For each column of the table `places` has its place in the projection, if it is needed. Rows that lie out
+    /// of the bounds may be passed over. The insert epochs are told where `stamps` says so.
+    pub fn new(epoch: u64, places: Vec<Option<usize>>, bounds: Vec<Bound>, stamps: bool) -> Scan
+        ensures { result ≡ start epoch places.items bounds.items stamps }
     {
         Scan {
             epoch,
             places,
+            bounds,
+            stamps,
             container: 0,
             block: 0,
             opened: None,
@@ -158,8 +171,8 @@ impl Scan {
         }
     }
 
-    /// The next rows that are visible, perhaps none; None where no row is left. A file of the projection is blamed only where it stores no
-    /// rows.
+    /// The next rows that are visible, perhaps none; None where no row is left. Blocks of rows that lie out of the bounds, as far as the
+    /// indexes tell that, are passed over unread. A file of the projection is blamed only where it stores no rows.
     pub fn next<D: Disk>(
         &mut self,
         alloc: Global,
@@ -169,7 +182,7 @@ impl Scan {
         requires { IsScanOf store.now.stored.entry self.old }
         ensures scan { IfOk result (λ o. IsScanOf store.now.stored.entry self.new) }
         ensures gives { IfOk result (λ o. (m : Contents) → D.holds disk.old ≡ Some m → (left : List Stamped) → AreLeft m store.now.stored self.old left → Gives m store.now.stored self.old self.new left o) }
-        ensures same { IfOk result (λ o. (self.new.epoch ≡ self.old.epoch) × (self.new.places ≡ self.old.places)) }
+        ensures same { IfOk result (λ o. AsksSame self.old self.new) }
         ensures fewer { IfOk result (λ o. OnSome o (steps_left store.now.stored.entry (length store.now.stored.unsaved) self.new < steps_left store.now.stored.entry (length store.now.stored.unsaved) self.old)) }
         ensures unblamed { IfErr result (λ fault. (m : Contents) → D.holds disk.old ≡ Some m → (left : List Stamped) → AreLeft m store.now.stored self.old left → IsUnblamed fault) }
         ensures kept { D.holds disk.new ≡ D.holds disk.old }
@@ -201,7 +214,8 @@ impl Scan {
         }
     }
 
-    /// The visible rows of the next block of the container at hand; none behind its last one, where the scan goes on to the next container.
+    /// The visible rows of the next block of the container at hand that can't be passed over; none behind its last one, where the scan goes on
+    /// to the next container.
     fn next_block<D: Disk>(
         &mut self,
         alloc: Global,
@@ -212,13 +226,14 @@ impl Scan {
         requires scan { IsScanOf store.now.stored.entry self.old }
         ensures scan { IfOk result (λ b. IsScanOf store.now.stored.entry self.new) }
         ensures gives { IfOk result (λ b. (m : Contents) → D.holds disk.old ≡ Some m → (left : List Stamped) → AreLeft m store.now.stored self.old left → Gives m store.now.stored self.old self.new left (Some b)) }
-        ensures same { IfOk result (λ b. (self.new.epoch ≡ self.old.epoch) × (self.new.places ≡ self.old.places)) }
+        ensures same { IfOk result (λ b. AsksSame self.old self.new) }
         ensures fewer { IfOk result (λ b. steps_left store.now.stored.entry (length store.now.stored.unsaved) self.new < steps_left store.now.stored.entry (length store.now.stored.unsaved) self.old) }
         ensures unblamed { IfErr result (λ fault. (m : Contents) → D.holds disk.old ≡ Some m → (left : List Stamped) → AreLeft m store.now.stored self.old left → IsUnblamed fault) }
         ensures kept { D.holds disk.new ≡ D.holds disk.old }
         ensures moved { Moved ⟦<D as Disk>⟧ NoName NoName disk.old disk.new }
         ensures cause { HasCause StoreFault.Disk (D.faults disk.old) (D.faults disk.new) result }
     {
+        values_lie_between();
         let opened = self.opened.take();
         let opened = match at_hand(
             alloc,
@@ -233,7 +248,9 @@ impl Scan {
         };
         let shape = store.entry();
         let entry = &shape.containers.as_slice()[self.container];
-        if self.block as u64 >= blocks_of(entry.rows) {
+        let count = blocks_of(entry.rows) as usize;
+        let block = next_needed(self.bounds.as_slice(), &opened, self.block, count);
+        if block >= count {
             self.container += 1;
             self.block = 0;
             return Ok(Batch::empty(alloc));
@@ -245,14 +262,15 @@ impl Scan {
             shape,
             &opened,
             self.places.as_slice(),
-            self.block,
+            block,
             self.epoch,
+            self.stamps,
         ) {
             Ok(batch) => batch,
             Err(fault) => return Err(fault),
         };
         self.opened = Some(opened);
-        self.block += 1;
+        self.block = block + 1;
         Ok(batch)
     }
 }

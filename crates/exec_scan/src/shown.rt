@@ -1,9 +1,8 @@
 //! Which rows of a block are shown at an epoch.
 
-ghost use Rattle.std.specs.Prelude.{◌≡◌, ◌<◌, ◌+◌, ◌*◌, ◌^◌, ◌++◌, ◌∷◌, [], map, filter, false, if◌then◌else◌, IfOk, OnOk, nat_le, slice_index_or, None};
-ghost use Rattle.std.specs.List.{range_with_len};
+ghost use Rattle.std.specs.Prelude.{◌≡◌, ◌<◌, ◌+◌, ◌*◌, ◌^◌, ◌++◌, ◌∷◌, [], map, false, if◌then◌else◌, IfOk, OnOk, nat_le, slice_index_or, None};
 ghost use Rattle.std.specs.Option.{option_map_or};
-ghost use Rattle.exec_scan.specs.Batches.{is_shown};
+ghost use Rattle.exec_scan.specs.Batches.{epochs_at, is_shown, shown_places};
 
 use std::alloc::{AllocError, Global};
 
@@ -59,7 +58,7 @@ pub fn shown_starts(
 ) -> Result<Vec<usize>, AllocError>
     requires places { first + count < 2 ^ 64 }
     requires values { count * width < 2 ^ 64 }
-    ensures { IfOk result (λ v. v.items ≡ map (λ i. i * width) (filter (is_shown epoch inserted.now deletes.now first) (range_with_len 0 count))) }
+    ensures { IfOk result (λ v. v.items ≡ map (λ i. i * width) (shown_places epoch inserted.now deletes.now first count)) }
 {
     let mut starts = Vec::new(alloc);
     for i in 0..count {
@@ -67,4 +66,45 @@ pub fn shown_starts(
         put_start(&mut starts, shown, i * width)?;
     }
     Ok(starts)
+}
+
+/// The epoch at a place, 0 where there is none.
+fn epoch_at(inserted: &[u64], i: usize) -> u64
+    ensures { result ≡ slice_index_or inserted.now i 0 }
+{
+    match inserted.get(i) {
+        Some(ins) => *ins,
+        None => 0,
+    }
+}
+
+/// Appends an epoch, if its row is shown.
+pub fn put_epoch(epochs: &mut Vec<u64>, shown: bool, epoch: u64) -> Result<(), AllocError>
+    ensures { OnOk result (epochs.new.items ≡ epochs.old.items ++ (if shown then epoch ∷ [] else [])) }
+{
+    if shown {
+        epochs.push(epoch)?;
+        return Ok(());
+    }
+    Ok(())
+}
+
+/// The epochs of the rows of a block that are shown.
+pub fn shown_epochs(
+    alloc: Global,
+    epoch: u64,
+    inserted: &[u64],
+    deletes: &[Option<u64>],
+    first: usize,
+    count: usize,
+) -> Result<Vec<u64>, AllocError>
+    requires places { first + count < 2 ^ 64 }
+    ensures { IfOk result (λ v. v.items ≡ epochs_at inserted.now (shown_places epoch inserted.now deletes.now first count)) }
+{
+    let mut epochs = Vec::new(alloc);
+    for i in 0..count {
+        let shown = is_shown(epoch, inserted, deletes, first, i);
+        put_epoch(&mut epochs, shown, epoch_at(inserted, i))?;
+    }
+    Ok(epochs)
 }

@@ -34,7 +34,7 @@ fn row_copy(alloc: Global, values: &[Value]) -> Result<Row, AllocError>
 /// Appends the rows of a batch.
 fn add_batch(alloc: Global, out: &mut Vec<Row>, batch: &Batch) -> Result<(), AllocError>
     requires { All IsRow out.old.items }
-    ensures rows { OnOk result (out.new.items ≡ out.old.items ++ batch.now) }
+    ensures rows { OnOk result (out.new.items ≡ out.old.items ++ batch.now.rows) }
     ensures valid { OnOk result (All IsRow out.new.items) }
 {
     for i in 0..batch.len() {
@@ -60,7 +60,7 @@ pub fn scan_rows<D: Disk>(
     ensures moved { Moved ⟦<D as Disk>⟧ NoName NoName disk.old disk.new }
     ensures cause { HasCause StoreFault.Disk (D.faults disk.old) (D.faults disk.new) result }
 {
-    let mut scan = Scan::new(epoch, places);
+    let mut scan = Scan::new(epoch, places, Vec::new(alloc), false);
     let mut out = Vec::new(alloc);
     loop {
         let batch = match scan.next(alloc, store, disk) {

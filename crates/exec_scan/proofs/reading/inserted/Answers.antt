@@ -16,3 +16,6 @@ returns-then-entry-epoch-clause-moved g c = moved_none g.D.Disk c.args.disk.now
 
 pub returns-in-Ok-clause-found : goal.returns-in-Ok-clause-found
 returns-in-Ok-clause-found g c = λ has m told rows held. as_read c.args.epoch c.in-Ok.inserted.items (rows_in c.args.k rows) (c.in-Ok.ensures.found has m told rows held)
+
+pub returns-in-Ok-clause-told : goal.returns-in-Ok-clause-told
+returns-in-Ok-clause-told g c = λ has m told rows held on. c.in-Ok.ensures.found has m told rows held

@@ -1,17 +1,15 @@
-use Rattle.std.proofs.Common.{◌≡◌, ◌+◌, ◌-◌, ◌*◌, ◌∙◌, ℕ, List, length, map, filter, get_or, min, rules, ap, sym, subst, arith}
+use Rattle.std.proofs.Common.{◌≡◌, ◌<◌, ◌+◌, ◌-◌, ◌*◌, ◌∙◌, ℕ, List, length, get_or, min, rules, ap, sym, subst, arith}
 use Rattle.std.specs.Prelude.{Option, None}
-use Rattle.std.specs.List.{range_with_len}
 use Rattle.common_laws.specs.Maps.{Contents}
 use Rattle.pos_index.specs.declared.index.PosIndex.{PosIndex}
 use Rattle.col_disk.proofs.Moving.{moved_join, moved_none}
 use Rattle.ros_container.specs.Encodings.{encodings_of}
 use Rattle.stored_rows.specs.Stored.{mark_in}
 use Rattle.container_blocks.specs.Blocks.{HasIndex, rows_in}
-use Rattle.exec_scan.specs.Batches.{IsBatch, is_shown, rows_at}
 use Rattle.exec_scan.specs.Opened.{Opening}
 use Rattle.exec_scan.specs.Reading.{AreInserted}
 use Rattle.exec_scan.proofs.Long.{block_long}
-use Rattle.exec_scan.proofs.Shows.{block_shown, starts_within}
+use Rattle.exec_scan.proofs.Shows.{block_epochs, block_shown}
 use Rattle.exec_scan.proofs.reading.read_block.Goals as goal
 
 pub returns-in_default-clause-moved : goal.returns-in_default-clause-moved
@@ -20,22 +18,16 @@ returns-in_default-clause-moved g c = moved_none g.D.Disk c.args.disk.now
 pub returns-in-Err-inserted-clause-moved : goal.returns-in-Err-inserted-clause-moved
 returns-in-Err-inserted-clause-moved g c = moved_join g.D.Disk c.laid_out.ensures.moved c.inserted.ensures.moved
 
-pub of-requires : goal.of-requires
-of-requires g c =
-    let w = length c.args.places.now in
-    let test = is_shown c.args.epoch c.as_slice.result.now c.as_slice-2.result.now (1024 * c.args.k) in
-    let starts : c.in-Ok-shown_starts.starts.items ≡ map (λ i. i * w) (filter test (range_with_len 0 c.min-count.result)) = c.in-Ok-shown_starts.ensures in
+pub shown_rows-requires-clause-long : goal.shown_rows-requires-clause-long
+shown_rows-requires-clause-long g c =
     let cells : c.in-Some.cells ≡ c.min-count.result * length c.args.places.now = search rules in
-    let long : length c.in-Ok.values.items ≡ c.min-count.result * w = c.in-Ok.ensures.long ∙ cells in
-    subst (IsBatch w c.in-Ok.values.items) (sym starts) (starts_within test w c.min-count.result c.in-Ok.values.items long c.in-Ok.ensures.valid)
+    c.in-Ok.ensures.long ∙ cells
 
-pub returns-in-Ok-shown_starts-clause-found : goal.returns-in-Ok-shown_starts-clause-found
-returns-in-Ok-shown_starts-clause-found g c = λ b opened m told rows held.
+pub returns-in-Ok-shown_rows-clause-found : goal.returns-in-Ok-shown_rows-clause-found
+returns-in-Ok-shown_rows-clause-found g c = λ b opened m told rows held.
     let w = length c.args.places.now in
     let mark = mark_in b in
     let first = 1024 * c.args.k in
-    let test = is_shown c.args.epoch c.as_slice.result.now c.as_slice-2.result.now first in
-    let starts : c.in-Ok-shown_starts.starts.items ≡ map (λ i. i * w) (filter test (range_with_len 0 c.min-count.result)) = c.in-Ok-shown_starts.ensures in
     let cells : c.in-Some.cells ≡ c.min-count.result * length c.args.places.now = search rules in
     let long : length c.in-Ok.values.items ≡ c.min-count.result * w = c.in-Ok.ensures.long ∙ cells in
     let block : length (rows_in c.args.k rows) ≡ min 1024 (c.args.entry.now.rows - 1024 * c.args.k) = block_long m (encodings_of c.args.shape.now) c.args.entry.now c.args.k rows held in
@@ -48,13 +40,19 @@ returns-in-Ok-shown_starts-clause-found g c = λ b opened m told rows held.
     (subst (λ (at : PosIndex). HasIndex c.args.entry.now (length c.args.shape.now.columns) at (g.D.Disk.holds c.args.disk.now)) (sym index) opened.epochs_held) in
     let early : AreInserted c.args.epoch c.as_slice.result.now (rows_in c.args.k rows) =
     subst (λ (xs : List ℕ). AreInserted c.args.epoch xs (rows_in c.args.k rows)) (sym epochs) (c.in-Ok-inserted.ensures.found has m (c.laid_out.ensures.kept ∙ told) rows held) in
-    c.of.ensures ∙ ap (λ (xs : List ℕ). rows_at w c.in-Ok.values.items xs) starts
-    ∙ block_shown c.args.epoch c.min-count.result c.args.places.now c.in-Ok.values.items c.as_slice.result.now c.as_slice-2.result.now mark first (rows_in c.args.k rows) many long
-    (c.in-Ok.ensures.found b opened m told rows held) early
-    (λ i lt. ap (λ (xs : List (Option ℕ)). get_or xs (first + i) None) deletes ∙ opened.deleted (first + i) (omega (arith, lt, block)))
+    let gone : (i : ℕ) → i < length (rows_in c.args.k rows) → get_or c.as_slice-2.result.now (first + i) None ≡ mark (first + i) =
+    λ i lt. ap (λ (xs : List (Option ℕ)). get_or xs (first + i) None) deletes ∙ opened.deleted (first + i) (omega (arith, lt, block)) in
+    record {
+      rows = c.in-Ok-shown_rows.ensures.rows
+          ∙ block_shown c.args.epoch c.min-count.result c.args.places.now c.in-Ok.values.items c.as_slice.result.now c.as_slice-2.result.now mark first (rows_in c.args.k rows) many long
+          (c.in-Ok.ensures.found b opened m told rows held) early gone;
+      inserted = λ stamps. c.in-Ok-shown_rows.ensures.inserted stamps
+          ∙ block_epochs c.args.epoch c.min-count.result c.as_slice.result.now c.as_slice-2.result.now mark first (rows_in c.args.k rows) many
+          (epochs ∙ c.in-Ok-inserted.ensures.told has m (c.laid_out.ensures.kept ∙ told) rows held stamps) gone;
+    }
 
-pub returns-in-Ok-shown_starts-clause-moved : goal.returns-in-Ok-shown_starts-clause-moved
-returns-in-Ok-shown_starts-clause-moved g c = moved_join g.D.Disk c.laid_out.ensures.moved c.inserted.ensures.moved
+pub returns-in-Ok-shown_rows-clause-moved : goal.returns-in-Ok-shown_rows-clause-moved
+returns-in-Ok-shown_rows-clause-moved g c = moved_join g.D.Disk c.laid_out.ensures.moved c.inserted.ensures.moved
 
-pub returns-in-Err-shown_starts-clause-moved : goal.returns-in-Err-shown_starts-clause-moved
-returns-in-Err-shown_starts-clause-moved g c = moved_join g.D.Disk c.laid_out.ensures.moved c.inserted.ensures.moved
+pub returns-clause-moved : goal.returns-clause-moved
+returns-clause-moved g c = moved_join g.D.Disk c.laid_out.ensures.moved c.inserted.ensures.moved

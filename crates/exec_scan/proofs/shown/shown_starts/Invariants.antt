@@ -1,7 +1,6 @@
-use Rattle.std.proofs.Common.{◌≡◌, ◌*◌, map, filter}
-use Rattle.std.specs.List.{range_with_len}
-use Rattle.exec_scan.specs.Batches.{is_shown}
+use Rattle.std.proofs.Common.{◌≡◌, ◌*◌, map}
+use Rattle.exec_scan.specs.Batches.{shown_places}
 use Rattle.exec_scan.proofs.shown.shown_starts.Given as goal
 
 abbrev pub invariant-loop-i : goal.invariant-loop-i
-invariant-loop-i l = l.starts.items ≡ map (λ i. i * l.width) (filter (is_shown l.epoch l.inserted l.deletes l.first) (range_with_len 0 l.i))
+invariant-loop-i l = l.starts.items ≡ map (λ i. i * l.width) (shown_places l.epoch l.inserted l.deletes l.first l.i)

@@ -5,6 +5,6 @@ use Rattle.exec_scan.proofs.whole.add_batch.Given as goal
 
 abbrev pub invariant-loop-i : goal.invariant-loop-i
 invariant-loop-i l = record {
-  rows : l.out.items ≡ l.fn.out.items ++ take l.i l.batch;
+  rows : l.out.items ≡ l.fn.out.items ++ take l.i l.batch.rows;
   valid : All IsRow l.out.items;
 }

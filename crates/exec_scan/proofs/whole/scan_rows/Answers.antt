@@ -1,20 +1,22 @@
-use Rattle.std.proofs.Common.{◌∙◌, List, refl, sym, ap, subst}
+use Rattle.std.proofs.Common.{◌∙◌, false, List, refl, sym, ap, subst}
 use Rattle.std.specs.Prelude.{Option}
 use Rattle.std.specs.List.{All}
 use Rattle.std.proofs.lemmas.List.Elements.{All-nil}
 use Rattle.col_disk.proofs.Moving.{moved_join, moved_none}
 use Rattle.col_value.specs.Order.{IsRow}
 use Rattle.col_value.specs.declared.value.Value.{Value}
+use Rattle.exec_scan.specs.Batches.{Shown}
 use Rattle.exec_scan.specs.Scanning.{Gives, IsScanOf, Place}
 use Rattle.exec_scan.proofs.Gathered.{gathered_all, gathered_more, gathered_none}
 use Rattle.exec_scan.proofs.whole.scan_rows.Goals as goal
 
 pub loop-batch-init : goal.loop-batch-init
 loop-batch-init g c = record {
-  gathered = λ m told rows stores. gathered_none m c.args.store.now.stored c.args.epoch c.args.places.items c.new-scan.result c.new-out.result.items rows c.new-scan.ensures c.new-out.ensures.items stores;
+  gathered = λ m told rows stores. gathered_none m c.args.store.now.stored c.args.epoch c.args.places.items c.new.result.items false c.new-scan.result c.new-out.result.items rows c.new-scan.ensures c.new-out.ensures.items stores;
   scan_of = subst (λ (s : Place). IsScanOf c.args.store.now.stored.entry s) (sym c.new-scan.ensures) (record { own = c.requires; opening = tt; closed = λ none. refl });
   epoch_is = ap (λ (s : Place). s.epoch) c.new-scan.ensures;
   places_are = ap (λ (s : Place). s.places) c.new-scan.ensures;
+  bounds_are = ap (λ (s : Place). s.bounds) c.new-scan.ensures ∙ c.new.ensures.items;
   valid = subst (λ (xs : List (List Value)). All IsRow xs) (sym c.new-out.ensures.items) (All-nil IsRow);
   kept = refl;
   moved = moved_none g.D.Disk c.args.disk.now;
@@ -24,7 +26,7 @@ pub returns-in-Ok-None-clause-found : goal.returns-in-Ok-None-clause-found
 returns-in-Ok-None-clause-found g c = λ m told rows stores.
     let p = c.args.store.now.stored in
     gathered_all m p c.args.epoch c.args.places.items c.loop-batch.scan c.loop-batch.out.items rows
-    (λ left are. subst (λ (o : Option (List (List Value))). Gives m p c.loop-batch.scan c.next.new.self left o) c.in-Ok-None.field-0-is
+    (λ left are. subst (λ (o : Option Shown). Gives m p c.loop-batch.scan c.next.new.self left o) c.in-Ok-None.field-0-is
     (c.in-Ok-None.ensures.gives m (c.loop-batch.invariant.kept ∙ told) left are)) (c.loop-batch.invariant.gathered m told rows stores)
 
 pub returns-in-Ok-None-clause-moved : goal.returns-in-Ok-None-clause-moved
@@ -46,12 +48,13 @@ loop-batch-preserved g c =
     let p = c.args.store.now.stored in
     record {
       gathered = λ m told rows stores. gathered_more m p c.args.epoch c.args.places.items c.loop-batch.scan c.next.new.self c.loop-batch.out.items c.add_batch.new.out.items c.in-Ok-Some.batch rows
-          c.loop-batch.invariant.epoch_is c.loop-batch.invariant.places_are c.in-Ok.ensures.rows
-          (λ left are. subst (λ (o : Option (List (List Value))). Gives m p c.loop-batch.scan c.next.new.self left o) c.in-Ok-Some.field-0-is
+          c.loop-batch.invariant.epoch_is c.loop-batch.invariant.places_are c.loop-batch.invariant.bounds_are c.in-Ok.ensures.rows
+          (λ left are. subst (λ (o : Option Shown). Gives m p c.loop-batch.scan c.next.new.self left o) c.in-Ok-Some.field-0-is
           (c.in-Ok-Some.ensures.gives m (c.loop-batch.invariant.kept ∙ told) left are)) (c.loop-batch.invariant.gathered m told rows stores);
       scan_of = c.in-Ok-Some.ensures.scan;
-      epoch_is = c.in-Ok-Some.ensures.same.0 ∙ c.loop-batch.invariant.epoch_is;
-      places_are = c.in-Ok-Some.ensures.same.1 ∙ c.loop-batch.invariant.places_are;
+      epoch_is = c.in-Ok-Some.ensures.same.epoch ∙ c.loop-batch.invariant.epoch_is;
+      places_are = c.in-Ok-Some.ensures.same.places ∙ c.loop-batch.invariant.places_are;
+      bounds_are = c.in-Ok-Some.ensures.same.bounds ∙ c.loop-batch.invariant.bounds_are;
       valid = c.in-Ok.ensures.valid;
       kept = c.next.ensures.kept ∙ c.loop-batch.invariant.kept;
       moved = moved_join g.D.Disk c.loop-batch.invariant.moved c.next.ensures.moved;

@@ -1,4 +1,4 @@
-use Rattle.std.proofs.Common.{◌≡◌, List, length}
+use Rattle.std.proofs.Common.{◌≡◌, [], List, length}
 use Rattle.std.specs.Prelude.{Some}
 use Rattle.std.specs.List.{All}
 use Rattle.common_laws.specs.Maps.{Contents}
@@ -16,6 +16,7 @@ invariant-loop-batch g l = record {
   scan_of : IsScanOf l.store.stored.entry l.scan;
   epoch_is : l.scan.epoch ≡ l.epoch;
   places_are : l.scan.places ≡ l.fn.places.items;
+  bounds_are : l.scan.bounds ≡ [];
   valid : All IsRow l.out.items;
   kept : g.D.Disk.holds l.disk ≡ g.D.Disk.holds l.fn.disk;
   moved : Moved g.D.Disk NoName NoName l.fn.disk l.disk;

@@ -7,11 +7,13 @@ use Rattle.pos_index.specs.Index.{blocks}
 use Rattle.ros_container.specs.Encodings.{encodings_of}
 use Rattle.ros_container.specs.Held.{BlamesContainer}
 use Rattle.stored_rows.specs.Stored.{Beside, mark_in}
+use Rattle.row_bounds.specs.declared.bound.Bound.{Bound}
 use Rattle.exec_scan.specs.Opened.{HasOpened, IsOpening}
+use Rattle.exec_scan.specs.Passing.{IsPassed}
 use Rattle.exec_scan.specs.Reading.{OfBlock, ShowsRows}
 use Rattle.exec_scan.specs.Scanning.{AreLeft, Gives, IsScanOf, Place, steps_left}
 use Rattle.exec_scan.proofs.Handed.{blank}
-use Rattle.exec_scan.proofs.Stepping.{at_place, block_gives, block_unblamed, done_fewer, done_gives, handed, next_scan, opening_here, unblamed_at}
+use Rattle.exec_scan.proofs.Stepping.{at_place, block_gives, block_unblamed, done_fewer, done_gives, handed, next_fewer, next_scan, opening_here, unblamed_at}
 use Rattle.exec_scan.proofs.scan.Scan.next_block.Goals as goal
 
 pub returns-in-Err-clause-unblamed : goal.returns-in-Err-clause-unblamed
@@ -20,34 +22,37 @@ returns-in-Err-clause-unblamed g c = λ m told left are.
     let p = c.args.store.now.stored in
     let was = subst (λ (x : Place). AreLeft m p x left) (sym c.self.view_is) are in
     let there : s.container < length p.entry.containers = subst (λ (x : Place). x.container < length p.entry.containers) (sym c.self.view_is) c.requires.there in
-    unblamed_at m (g.D.Disk.holds c.args.disk.now) p s.epoch s.places.items s.container s.block s.opened s.taken left c.in-Err.fault told there was c.in-Err.ensures.blamed
+    unblamed_at m (g.D.Disk.holds c.args.disk.now) p s.epoch s.places.items s.bounds.items s.stamps s.container s.block s.opened s.taken left c.in-Err.fault told there was c.in-Err.ensures.blamed
 
-pub returns-then-self-blocks_of-clause-gives : goal.returns-then-self-blocks_of-clause-gives
-returns-then-self-blocks_of-clause-gives g c = λ m told left are.
+pub returns-then-block-count-clause-gives : goal.returns-then-block-count-clause-gives
+returns-then-block-count-clause-gives g c = λ m told left are.
     let s = c.self.inside in
     let p = c.args.store.now.stored in
     let was = subst (λ (x : Place). AreLeft m p x left) (sym c.self.view_is) are in
     let there : s.container < length p.entry.containers = subst (λ (x : Place). x.container < length p.entry.containers) (sym c.self.view_is) c.requires.there in
-    let past : blocks (get_or c.as_slice-2.result.now s.container blank).rows ≤ s.block = omega (arith, c.if-self-blocks_of.true, c.blocks_of.ensures) in
-    subst (λ (x : Place). Gives m p x (at_place s.epoch s.places.items (s.container + 1) 0 c.take-opened.new.self s.taken) left (Some c.empty.result)) c.self.view_is
-    (done_gives m p s.epoch s.places.items s.container s.block s.opened c.take-opened.new.self s.taken c.empty.result c.entry-shape.result.now c.as_slice-2.result.now left
-    c.entry-shape.ensures.entry c.as_slice-2.ensures there past c.take-opened.ensures.after c.empty.ensures was)
+    let scan = subst (λ (x : Place). IsScanOf p.entry x) (sym c.self.view_is) c.requires.scan in
+    let has = handed p s.container s.places.items c.as_slice.result.now s.opened c.take-opened.result m (g.D.Disk.holds c.args.disk.now) c.in-Ok.opened c.take-opened.ensures.value c.as_slice.ensures.value told was.at_hand c.in-Ok.ensures.held in
+    let opening = subst (λ (ps : List (Option ℕ)). IsSomeAnd (slice_get p.entry.containers s.container) (λ k. IsOpening k.rows ps c.in-Ok.opened)) c.as_slice.ensures.value c.in-Ok.ensures.opening in
+    let past : blocks (get_or c.as_slice-2.result.now s.container blank).rows ≤ c.next_needed-block.result = omega (arith, c.if-block-count.true, c.blocks_of-count.ensures) in
+    let misses = subst (λ (w : List Bound). (j : ℕ) → s.block ≤ j → j < c.next_needed-block.result → IsPassed w c.in-Ok.opened.indexes j) c.as_slice-3.ensures.value c.next_needed-block.ensures.passed in
+    subst (λ (x : Place). Gives m p x (at_place s.epoch s.places.items s.bounds.items s.stamps (s.container + 1) 0 c.take-opened.new.self s.taken) left (Some c.empty.result)) c.self.view_is
+    (done_gives c.values_lie_between.ensures m (g.D.Disk.holds c.args.disk.now) p s.epoch s.places.items s.bounds.items s.stamps s.container s.block c.next_needed-block.result s.opened c.take-opened.new.self c.in-Ok.opened s.taken c.empty.result c.entry-shape.result.now c.as_slice-2.result.now left
+    told c.entry-shape.ensures.entry c.as_slice-2.ensures there past c.take-opened.ensures.after c.empty.ensures.rows c.empty.ensures.inserted scan.own has opening misses was)
 
-pub returns-then-self-blocks_of-clause-fewer : goal.returns-then-self-blocks_of-clause-fewer
-returns-then-self-blocks_of-clause-fewer g c =
+pub returns-then-block-count-clause-fewer : goal.returns-then-block-count-clause-fewer
+returns-then-block-count-clause-fewer g c =
     let s = c.self.inside in
     let p = c.args.store.now.stored in
     let u = length p.unsaved in
     let scan = subst (λ (x : Place). IsScanOf p.entry x) (sym c.self.view_is) c.requires.scan in
     let there : s.container < length p.entry.containers = subst (λ (x : Place). x.container < length p.entry.containers) (sym c.self.view_is) c.requires.there in
-    let past : blocks (get_or c.as_slice-2.result.now s.container blank).rows ≤ s.block = omega (arith, c.if-self-blocks_of.true, c.blocks_of.ensures) in
-    subst (λ (x : Place). steps_left p.entry u (at_place s.epoch s.places.items (s.container + 1) 0 c.take-opened.new.self s.taken) < steps_left p.entry u x) c.self.view_is
-    (done_fewer p.entry u s.epoch s.places.items s.container s.block s.opened c.take-opened.new.self s.taken c.entry-shape.result.now c.as_slice-2.result.now c.entry-shape.ensures.entry c.as_slice-2.ensures there past scan)
+    subst (λ (x : Place). steps_left p.entry u (at_place s.epoch s.places.items s.bounds.items s.stamps (s.container + 1) 0 c.take-opened.new.self s.taken) < steps_left p.entry u x) c.self.view_is
+    (done_fewer p.entry u s.epoch s.places.items s.bounds.items s.stamps s.container s.block s.opened c.take-opened.new.self s.taken c.entry-shape.result.now c.as_slice-2.result.now c.entry-shape.ensures.entry c.as_slice-2.ensures there scan)
 
 pub read_block-requires-clause-opening : goal.read_block-requires-clause-opening
 read_block-requires-clause-opening g c =
-    opening_here c.args.store.now.stored.entry c.entry-shape.result.now c.as_slice-2.result.now c.self.inside.container c.as_slice.result.now c.as_slice-3.result.now c.in-Ok.opened
-    c.entry-shape.ensures.entry c.as_slice-2.ensures (c.as_slice-3.ensures.value ∙ sym c.as_slice.ensures.value) c.in-Ok.ensures.opening
+    opening_here c.args.store.now.stored.entry c.entry-shape.result.now c.as_slice-2.result.now c.self.inside.container c.as_slice.result.now c.as_slice-4.result.now c.in-Ok.opened
+    c.entry-shape.ensures.entry c.as_slice-2.ensures (c.as_slice-4.ensures.value ∙ sym c.as_slice.ensures.value) c.in-Ok.ensures.opening
 
 pub returns-in-Err-read_block-clause-unblamed : goal.returns-in-Err-read_block-clause-unblamed
 returns-in-Err-read_block-clause-unblamed g c = λ m told left are.
@@ -58,9 +63,9 @@ returns-in-Err-read_block-clause-unblamed g c = λ m told left are.
     let has = handed p s.container s.places.items c.as_slice.result.now s.opened c.take-opened.result m (g.D.Disk.holds c.args.disk.now) c.in-Ok.opened c.take-opened.ensures.value c.as_slice.ensures.value told was.at_hand c.in-Ok.ensures.held in
     let entry = get_or c.as_slice-2.result.now s.container blank in
     let shape = c.entry-shape.result.now in
-    let blames = subst (λ (ps : List (Option ℕ)). (bes : Beside) → HasOpened entry (length shape.columns) bes ps (g.D.Disk.holds c.args.disk.now) c.in-Ok.opened → BlamesContainer (encodings_of shape) entry (g.D.Disk.holds c.args.disk.now) c.in-Err-read_block.fault) c.as_slice-3.ensures.value
-    (subst (λ (h : Option Contents). (bes : Beside) → HasOpened entry (length shape.columns) bes c.as_slice-3.result.now h c.in-Ok.opened → BlamesContainer (encodings_of shape) entry h c.in-Err-read_block.fault) c.at_hand.ensures.kept c.in-Err-read_block.ensures.blamed) in
-    block_unblamed m (g.D.Disk.holds c.args.disk.now) p s.epoch s.places.items s.container s.block s.opened c.in-Ok.opened s.taken shape c.as_slice-2.result.now left c.in-Err-read_block.fault told
+    let blames = subst (λ (ps : List (Option ℕ)). (bes : Beside) → HasOpened entry (length shape.columns) bes ps (g.D.Disk.holds c.args.disk.now) c.in-Ok.opened → BlamesContainer (encodings_of shape) entry (g.D.Disk.holds c.args.disk.now) c.in-Err-read_block.fault) c.as_slice-4.ensures.value
+    (subst (λ (h : Option Contents). (bes : Beside) → HasOpened entry (length shape.columns) bes c.as_slice-4.result.now h c.in-Ok.opened → BlamesContainer (encodings_of shape) entry h c.in-Err-read_block.fault) c.at_hand.ensures.kept c.in-Err-read_block.ensures.blamed) in
+    block_unblamed m (g.D.Disk.holds c.args.disk.now) p s.epoch s.places.items s.bounds.items s.stamps s.container s.block s.opened c.in-Ok.opened s.taken shape c.as_slice-2.result.now left c.in-Err-read_block.fault told
     c.entry-shape.ensures.entry c.as_slice-2.ensures there has blames was
 
 pub returns-in-Err-read_block-clause-moved : goal.returns-in-Err-read_block-clause-moved
@@ -72,26 +77,43 @@ returns-clause-scan g c =
     let p = c.args.store.now.stored in
     let scan = subst (λ (x : Place). IsScanOf p.entry x) (sym c.self.view_is) c.requires.scan in
     let there : s.container < length p.entry.containers = subst (λ (x : Place). x.container < length p.entry.containers) (sym c.self.view_is) c.requires.there in
-    let below : s.block < blocks (get_or c.as_slice-2.result.now s.container blank).rows = omega (arith, c.if-self-blocks_of.false, c.blocks_of.ensures) in
+    let below : c.next_needed-block.result < blocks (get_or c.as_slice-2.result.now s.container blank).rows = omega (arith, c.if-block-count.false, c.blocks_of-count.ensures) in
     let opening = subst (λ (ps : List (Option ℕ)). IsSomeAnd (slice_get p.entry.containers s.container) (λ k. IsOpening k.rows ps c.in-Ok.opened)) c.as_slice.ensures.value c.in-Ok.ensures.opening in
-    next_scan p.entry s.epoch s.places.items s.container s.block s.opened c.in-Ok.opened s.taken c.entry-shape.result.now c.as_slice-2.result.now c.entry-shape.ensures.entry c.as_slice-2.ensures there below opening scan
+    next_scan p.entry s.epoch s.places.items s.bounds.items s.stamps s.container s.block c.next_needed-block.result s.opened c.in-Ok.opened s.taken c.entry-shape.result.now c.as_slice-2.result.now c.entry-shape.ensures.entry c.as_slice-2.ensures there below opening scan
 
 pub returns-clause-gives : goal.returns-clause-gives
 returns-clause-gives g c = λ m told left are.
     let s = c.self.inside in
     let p = c.args.store.now.stored in
+    let block = c.next_needed-block.result in
     let was = subst (λ (x : Place). AreLeft m p x left) (sym c.self.view_is) are in
     let there : s.container < length p.entry.containers = subst (λ (x : Place). x.container < length p.entry.containers) (sym c.self.view_is) c.requires.there in
-    let below : s.block < blocks (get_or c.as_slice-2.result.now s.container blank).rows = omega (arith, c.if-self-blocks_of.false, c.blocks_of.ensures) in
+    let scan = subst (λ (x : Place). IsScanOf p.entry x) (sym c.self.view_is) c.requires.scan in
+    let below : block < blocks (get_or c.as_slice-2.result.now s.container blank).rows = omega (arith, c.if-block-count.false, c.blocks_of-count.ensures) in
+    let from : s.block ≤ block = c.next_needed-block.ensures.first (omega (arith, c.if-block-count.false)) in
     let has = handed p s.container s.places.items c.as_slice.result.now s.opened c.take-opened.result m (g.D.Disk.holds c.args.disk.now) c.in-Ok.opened c.take-opened.ensures.value c.as_slice.ensures.value told was.at_hand c.in-Ok.ensures.held in
+    let opening = subst (λ (ps : List (Option ℕ)). IsSomeAnd (slice_get p.entry.containers s.container) (λ k. IsOpening k.rows ps c.in-Ok.opened)) c.as_slice.ensures.value c.in-Ok.ensures.opening in
+    let misses = subst (λ (w : List Bound). (j : ℕ) → s.block ≤ j → j < block → IsPassed w c.in-Ok.opened.indexes j) c.as_slice-3.ensures.value c.next_needed-block.ensures.passed in
     let entry = get_or c.as_slice-2.result.now s.container blank in
     let shape = c.entry-shape.result.now in
     let shown = c.in-Ok-read_block.batch in
-    let found = subst (λ (ps : List (Option ℕ)). (bes : Beside) → HasOpened entry (length shape.columns) bes ps (g.D.Disk.holds c.args.disk.now) c.in-Ok.opened → OfBlock (ShowsRows s.epoch ps (mark_in bes) (1024 * s.block) shown) (g.D.Disk.holds c.args.disk.now) (encodings_of shape) entry s.block) c.as_slice-3.ensures.value
-    (subst (λ (h : Option Contents). (bes : Beside) → HasOpened entry (length shape.columns) bes c.as_slice-3.result.now h c.in-Ok.opened → OfBlock (ShowsRows s.epoch c.as_slice-3.result.now (mark_in bes) (1024 * s.block) shown) h (encodings_of shape) entry s.block) c.at_hand.ensures.kept c.in-Ok-read_block.ensures.found) in
-    subst (λ (x : Place). Gives m p x (at_place s.epoch s.places.items s.container (s.block + 1) (Some c.in-Ok.opened) s.taken) left (Some shown)) c.self.view_is
-    (block_gives m (g.D.Disk.holds c.args.disk.now) p s.epoch s.places.items s.container s.block s.opened c.in-Ok.opened s.taken shown shape c.as_slice-2.result.now left told
-    c.entry-shape.ensures.entry c.as_slice-2.ensures there below has found was)
+    let found = subst (λ (ps : List (Option ℕ)). (bes : Beside) → HasOpened entry (length shape.columns) bes ps (g.D.Disk.holds c.args.disk.now) c.in-Ok.opened → OfBlock (ShowsRows s.epoch ps s.stamps (mark_in bes) (1024 * block) shown) (g.D.Disk.holds c.args.disk.now) (encodings_of shape) entry block) c.as_slice-4.ensures.value
+    (subst (λ (h : Option Contents). (bes : Beside) → HasOpened entry (length shape.columns) bes c.as_slice-4.result.now h c.in-Ok.opened → OfBlock (ShowsRows s.epoch c.as_slice-4.result.now s.stamps (mark_in bes) (1024 * block) shown) h (encodings_of shape) entry block) c.at_hand.ensures.kept c.in-Ok-read_block.ensures.found) in
+    subst (λ (x : Place). Gives m p x (at_place s.epoch s.places.items s.bounds.items s.stamps s.container (block + 1) (Some c.in-Ok.opened) s.taken) left (Some shown)) c.self.view_is
+    (block_gives c.values_lie_between.ensures m (g.D.Disk.holds c.args.disk.now) p s.epoch s.places.items s.bounds.items s.stamps s.container s.block block s.opened c.in-Ok.opened s.taken shown shape c.as_slice-2.result.now left told
+    c.entry-shape.ensures.entry c.as_slice-2.ensures there from below scan.own has opening misses found was)
+
+pub returns-clause-fewer : goal.returns-clause-fewer
+returns-clause-fewer g c =
+    let s = c.self.inside in
+    let p = c.args.store.now.stored in
+    let u = length p.unsaved in
+    let block = c.next_needed-block.result in
+    let there : s.container < length p.entry.containers = subst (λ (x : Place). x.container < length p.entry.containers) (sym c.self.view_is) c.requires.there in
+    let below : block < blocks (get_or c.as_slice-2.result.now s.container blank).rows = omega (arith, c.if-block-count.false, c.blocks_of-count.ensures) in
+    let from : s.block ≤ block = c.next_needed-block.ensures.first (omega (arith, c.if-block-count.false)) in
+    subst (λ (x : Place). steps_left p.entry u (at_place s.epoch s.places.items s.bounds.items s.stamps s.container (block + 1) (Some c.in-Ok.opened) s.taken) < steps_left p.entry u x) c.self.view_is
+    (next_fewer p.entry u s.epoch s.places.items s.bounds.items s.stamps s.container s.block block s.opened c.in-Ok.opened s.taken c.entry-shape.result.now c.as_slice-2.result.now c.entry-shape.ensures.entry c.as_slice-2.ensures there from below)
 
 pub returns-clause-moved : goal.returns-clause-moved
 returns-clause-moved g c = moved_join g.D.Disk c.at_hand.ensures.moved c.read_block.ensures.moved

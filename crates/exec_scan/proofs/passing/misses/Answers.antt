@@ -1,0 +1,7 @@
+use Rattle.exec_scan.proofs.Passed.{misses_here}
+use Rattle.exec_scan.proofs.passing.misses.Goals as goal
+
+pub returns-in-Some : goal.returns-in-Some
+returns-in-Some c = λ hit.
+    misses_here c.args.bound.now c.args.indexes.now c.args.block c.in-Some-Some.field-0.now c.in-Some-Some.at c.as_slice.result.now c.in-Some.entry.now c.in-Some-Some.ensures.lookup.0 c.in-Some-Some.ensures.lookup.1 c.in-Some-Some.field-0-is
+    c.as_slice.ensures c.in-Some.ensures.lookup.0 c.in-Some.ensures.lookup.1 (c.misses.ensures hit)
