@@ -27,7 +27,7 @@ use Rattle.folder_model.specs.Projections.{HasHistory, HasRows, IsHistoryOf, ord
 use Rattle.folder_model.specs.Tables.{AreDatabase, StandForTables}
 use Rattle.sound_laws.proofs.Changes.{all_within, found_all, names_differ}
 use Rattle.row_matching.specs.Matching.{AreMatches, AreMatchesIn, committed_matches}
-use Rattle.row_matching.specs.Seeing.{AreFound, ArePlaces, IsSource, seen_row, seen_rows}
+use Rattle.row_matching.specs.Seeing.{AreFound, ArePlaces, IsSource, matches, seen_row, seen_rows}
 use Rattle.row_matching.proofs.Lessens.{less_is_less}
 use Rattle.row_matching.proofs.Placed.{made_again}
 
@@ -70,7 +70,7 @@ visible_on epoch columns (s ∷ rows) = by (is_visible epoch s) (visible_on epoc
     by true rest = ap (λ (xs : List Stamped). on_columns columns s ∷ xs) rest
     by false rest = rest
 
-again : (columns places : List ℕ) (count : ℕ) (rows : List Stamped) → ArePlaces columns count places → All (λ s. length s.row ≡ count) rows → map (seen_row places) (map (on_columns columns) rows) ≡ map asked_of rows
+again : (columns : List ℕ) (places : List (Option ℕ)) (count : ℕ) (rows : List Stamped) → ArePlaces columns count places → All (λ s. length s.row ≡ count) rows → map (seen_row places) (map (on_columns columns) rows) ≡ map asked_of rows
 again columns places count [] are wide = refl
 again columns places count (s ∷ rows) are wide =
     let long : length s.row ≡ count = All-head (λ x. length x.row ≡ count) s rows wide in
@@ -84,7 +84,7 @@ zip_long (c ∷ columns) [] all = absurd all
 zip_long (c ∷ columns) (v ∷ row) all = ap suc (zip_long columns row all.1)
 
 -- a projection shows the committed rows of its table
-shows : (mark epoch count : ℕ) (columns places : List ℕ) (rows table : List Stamped) → mark ≤ epoch → ArePlaces columns count places → All (λ s. length s.row ≡ count) table → SameBag (retained mark rows) (map (on_columns columns) (retained mark table))
+shows : (mark epoch count : ℕ) (columns : List ℕ) (places : List (Option ℕ)) (rows table : List Stamped) → mark ≤ epoch → ArePlaces columns count places → All (λ s. length s.row ≡ count) table → SameBag (retained mark rows) (map (on_columns columns) (retained mark table))
     → SameBag (seen_rows epoch places rows) (map asked_of (filter (is_visible epoch) table))
 shows mark epoch count columns places rows table le are wide history =
     let stored : filter (is_visible epoch) (retained mark rows) ≡ filter (is_visible epoch) rows = filter_twice (is_visible epoch) (is_retained mark) rows (λ s is. seen_is_retained mark epoch s le is) in
@@ -157,7 +157,7 @@ on_fresh false on p = absurd (cc)
 abbrev pub OneList : Type 0
 OneList = (m : Contents) (p : Projected) (xs ys : List Stamped) → Stores m p xs → Stores m p ys → xs ≡ ys
 
-matches_in : OneList → (m : Contents) (d : Database) (mark : ℕ) (changes : List Changes) (keep : List Expr) (u : Table) (p : Projected) (count : ℕ) (places : List ℕ) (rows : List Stamped) (committed : List Asked) (pending : List (List Value)) → mark ≤ d.last
+matches_in : OneList → (m : Contents) (d : Database) (mark : ℕ) (changes : List Changes) (keep : List Expr) (u : Table) (p : Projected) (count : ℕ) (places : List (Option ℕ)) (rows : List Stamped) (committed : List Asked) (pending : List (List Value)) → mark ≤ d.last
     → IsSoundTable d u → Within (pending_deletes u.name changes) u.rows → count ≡ length u.columns → HasRows m mark u.rows p → IsSource count places p → Stores m p rows
     → AreFound keep d.last places rows changes u.name committed pending → AreMatchesIn keep d.last changes u committed pending
 matches_in one m d mark changes keep u p count places rows committed pending le sound within many has source stores found =
@@ -169,11 +169,10 @@ matches_in one m d mark changes keep u p count places rows committed pending le 
     let deletes = pending_deletes u.name changes in
     let seen = map asked_of (filter (is_visible d.last) u.rows) in
     let (others, apart) = deletes_apart d.last deletes u.rows sound.epochs within in
-    let left : SameBag found.left others = found.less others (bag_trans (seen_rows d.last places rows) seen (deletes ++ others) shown apart) in
+    let left : SameBag committed (filter (matches keep) others) = found.committed_are others (bag_trans (seen_rows d.last places rows) seen (deletes ++ others) shown apart) in
     let view : SameBag (less deletes seen) others = less_is_less deletes seen others apart in
-    let both : SameBag found.left (less deletes seen) = bag_trans found.left others (less deletes seen) left (bag_sym (less deletes seen) others view) in
     record {
-      committed_are = subst (λ (xs : List Asked). SameBag xs (committed_matches keep d.last changes u)) (sym found.committed_are) (bag_filter (λ a. is_kept keep a.row) found.left (less deletes seen) both);
+      committed_are = bag_trans committed (filter (matches keep) others) (committed_matches keep d.last changes u) left (bag_filter (matches keep) others (less deletes seen) (bag_sym (less deletes seen) others view));
       pending_are = subst (SameBag pending) found.pending_are (bag_refl pending);
     }
 
@@ -201,7 +200,7 @@ at_place m mark (x ∷ ts) (xs ∷ pss) (u ∷ us) zero place t ps p (here, more
     )
 at_place m mark (x ∷ ts) (xs ∷ pss) (u ∷ us) (suc i) place t ps p (here, more) table parts part = at_place m mark ts pss us i place t ps p more table parts part
 
-pub matches_are : OneList → (m : Contents) (c : Catalogue) (stores : List (List Projected)) (d : Database) (changes : List Changes) (keep : List Expr) (i place : ℕ) (t : kept.Table) (ps : List Projected) (p : Projected) (places : List ℕ) (rows : List Stamped) (committed : List Asked) (pending : List (List Value))
+pub matches_are : OneList → (m : Contents) (c : Catalogue) (stores : List (List Projected)) (d : Database) (changes : List Changes) (keep : List Expr) (i place : ℕ) (t : kept.Table) (ps : List Projected) (p : Projected) (places : List (Option ℕ)) (rows : List Stamped) (committed : List Asked) (pending : List (List Value))
     → AreDatabase m c stores d → IsSoundDatabase d → IsSoundSession d changes → slice_get c.tables i ≡ Some t → slice_get stores i ≡ Some ps → slice_get ps place ≡ Some p → IsSource (length t.columns) places p → Stores m p rows
     → AreFound keep c.last places rows changes t.name committed pending → AreMatches keep d changes i committed pending
 matches_are one m c stores d changes keep i place t ps p places rows committed pending are sound session table parts part source stored found =
@@ -215,7 +214,7 @@ matches_are one m c stores d changes keep i place t ps p places rows committed p
     (all_at (λ v. Within (pending_deletes v.name changes) v.rows) d.tables i u within there) (sym (ap (λ (cs : List Column). length cs) columns)) has source stored mine)
 
 -- the projection that is read stores rows
-pub source_stores : (m : Contents) (c : Catalogue) (stores : List (List Projected)) (d : Database) (i place count : ℕ) (t : kept.Table) (ps : List Projected) (p : Projected) (places : List ℕ) → AreDatabase m c stores d → slice_get c.tables i ≡ Some t → slice_get stores i ≡ Some ps → slice_get ps place ≡ Some p
+pub source_stores : (m : Contents) (c : Catalogue) (stores : List (List Projected)) (d : Database) (i place count : ℕ) (t : kept.Table) (ps : List Projected) (p : Projected) (places : List (Option ℕ)) → AreDatabase m c stores d → slice_get c.tables i ≡ Some t → slice_get stores i ≡ Some ps → slice_get ps place ≡ Some p
     → IsSource count places p → (rows : List Stamped) × Stores m p rows
 source_stores m c stores d i place count t ps p places are table parts part source =
     let (u, there, name, columns, has) = at_place m c.ahm c.tables stores d.tables i place t ps p are.tables table parts part in

@@ -1,9 +1,9 @@
 pub mod Pendings
-pub mod Shown
+pub mod Copied
 pub mod Lessens
+pub mod Others
 pub mod Placed
 pub mod Bags
-pub mod Unblamed
 pub mod Answered
 pub mod Matches
 pub mod Alike

@@ -11,15 +11,12 @@ ghost use Rattle.db_model.specs.Database.{Database};
 ghost use Rattle.db_model.specs.State.{pending_deletes, pending_rows};
 ghost use Rattle.exec_scan.specs.Scanning.{IsUnblamed};
 ghost use Rattle.row_matching.specs.Matching.{AreMatches, CanMatch};
-ghost use Rattle.row_matching.specs.Seeing.{AreFound};
 
-use crate::keeping::{kept_asked, kept_rows, other_rows};
-use crate::lessening::without;
-use crate::seeing::{are_rows, seen_rows};
-use crate::sources::source_of;
+use crate::keeping::{kept_rows, other_rows};
+use crate::sifting::committed_rows;
+use crate::sources::{Source, source_of};
 use col_disk::{Disk, StoreFault};
-use col_value::{Asked, Row, Stamped};
-use proj_store::vectors_are_those_of_the_disk;
+use col_value::{Asked, Row};
 use sql_bound::Expr;
 use std::alloc::{AllocError, Global};
 use stored_rows::one_list_of_rows;
@@ -80,30 +77,6 @@ fn pending_rows<'a>(changes: &'a Session, name: &[u8]) -> &'a [Row]
     }
 }
 
-/// What matches of the rows that a projection stores, visible at an epoch, and of what the session has changed.
-fn find_matches(
-    alloc: Global,
-    keep: &[Expr],
-    rows: &[Stamped],
-    epoch: u64,
-    places: &[usize],
-    changes: &Session,
-    name: &[u8],
-) -> Result<Matched, AllocError>
-    requires { All (λ e. is_narrow [] e ≡ true) keep.now }
-    ensures found { IfOk result (λ r. AreFound keep.now epoch places.now rows.now changes.now name.now r.committed.items r.pending.items) }
-    ensures valid { IfOk result (λ r. All (λ a. IsRow a.row) r.committed.items × All IsRow r.pending.items) }
-{
-    let seen = seen_rows(alloc, rows, epoch, places)?;
-    let left = without(alloc, seen, pending_deletes(changes, name))?;
-    if !are_rows(left.as_slice()) {
-        return Err(AllocError);
-    }
-    let committed = kept_asked(alloc, keep, left.as_slice())?;
-    let pending = kept_rows(alloc, keep, pending_rows(changes, name))?;
-    Ok(Matched { committed, pending })
-}
-
 /// The pending rows of the table of a name on which some condition isn't true: those that a DELETE and an UPDATE leave as they are.
 pub fn rows_left(
     alloc: Global,
@@ -137,7 +110,6 @@ pub fn match_rows<D: Disk>(
     ensures cause { HasCause StoreFault.Disk (D.faults disk.old) (D.faults disk.new) result }
 {
     one_list_of_rows();
-    vectors_are_those_of_the_disk();
     let Some(entry) = tables.root().tables.as_slice().get(table) else {
         return Err(StoreFault::Memory);
     };
@@ -149,25 +121,18 @@ pub fn match_rows<D: Disk>(
         Ok(source) => source,
         Err(AllocError) => return Err(StoreFault::Memory),
     };
-    let Some(store) = parts.get(source.place) else {
+    let Source { place, places } = source;
+    let Some(store) = parts.get(place) else {
         return Err(StoreFault::Memory);
     };
-    let rows = match store.stamped(alloc, disk) {
-        Ok(rows) => rows,
+    let name = entry.name.as_slice();
+    let gone = pending_deletes(changes, name);
+    let committed = match committed_rows(alloc, store, tables.last(), places, keep, gone, disk) {
+        Ok(committed) => committed,
         Err(fault) => return Err(fault),
     };
-    let name = entry.name.as_slice();
-    let places = source.places.as_slice();
-    match find_matches(
-        alloc,
-        keep,
-        rows.as_slice(),
-        tables.last(),
-        places,
-        changes,
-        name,
-    ) {
-        Ok(matched) => Ok(matched),
+    match kept_rows(alloc, keep, pending_rows(changes, name)) {
+        Ok(pending) => Ok(Matched { committed, pending }),
         Err(AllocError) => Err(StoreFault::Memory),
     }
 }

@@ -13,7 +13,7 @@ use std::alloc::{AllocError, Global};
 #[derive(Drop)]
 pub struct Source {
     pub place: usize,
-    pub places: Vec<usize>,
+    pub places: Vec<Option<usize>>,
 }
 
 /// Where a projection has a column of its table.
@@ -33,13 +33,13 @@ fn places_of(
     alloc: Global,
     columns: &[ProjColumn],
     count: usize,
-) -> Result<Option<Vec<usize>>, AllocError>
+) -> Result<Option<Vec<Option<usize>>>, AllocError>
     ensures { IfOk result (λ o. IfSome o (λ v. ArePlaces (map (λ c. c.ordinal) columns.now) count v.items)) }
 {
     let mut out = Vec::new(alloc);
     for column in 0..count {
         match place_in(columns, column) {
-            Some(place) => out.push(place)?,
+            Some(place) => out.push(Some(place))?,
             None => return Ok(None),
         }
     }
@@ -51,7 +51,7 @@ fn places_in(
     alloc: Global,
     part: &ProjStore,
     count: usize,
-) -> Result<Option<Vec<usize>>, AllocError>
+) -> Result<Option<Vec<Option<usize>>>, AllocError>
     ensures { IfOk result (λ o. IfSome o (λ v. IsSource count v.items part.now.stored)) }
 {
     let entry = part.entry();

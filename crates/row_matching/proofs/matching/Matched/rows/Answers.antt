@@ -1,6 +1,6 @@
 use Rattle.std.proofs.Common.{◌≡◌, ◌<◌, ◌++◌, ◌∷◌, [], rules, List, length, get_or}
 use Rattle.col_value.specs.declared.value.Value.{Value}
-use Rattle.row_matching.proofs.Shown.{moved_on}
+use Rattle.row_matching.proofs.Copied.{moved_on}
 use Rattle.row_matching.proofs.matching.Matched.rows.Goals as goal
 
 pub loop-row-preserved : goal.loop-row-preserved
