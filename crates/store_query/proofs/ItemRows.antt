@@ -1,11 +1,12 @@
 -- What is read of a store.
-use Rattle.std.proofs.Common.{◌≡◌, ℕ, ◌+◌, ◌++◌, List, [], ◌∷◌, length, map, Option, Some, None, refl, sym, ap, ◌∙◌, subst}
+use Rattle.std.proofs.Common.{◌≡◌, ℕ, ◌+◌, ◌<◌, ◌++◌, ◌⊎◌, Bool, true, false, List, [], ◌∷◌, length, map, Option, Some, None, refl, sym, ap, ◌∙◌, inl, inr, arith, subst}
 use Rattle.std.specs.Prelude.{IsSomeAnd}
 use Rattle.std.specs.List.{All, AllZip, slice_get}
 use Rattle.std.specs.Option.{option_map_or}
-use Rattle.std.proofs.lemmas.List.{nil_from_length}
-use Rattle.std.proofs.lemmas.List.Elements.{All-cons, All-nil}
+use Rattle.std.proofs.lemmas.List.{append-nil, nil_from_length}
+use Rattle.std.proofs.lemmas.List.Elements.{All-cons, All-head, All-nil, All-weaker}
 use Rattle.common_laws.specs.Bags.{SameBag}
+use Rattle.common_laws.proofs.BagLaws.{bag_append, bag_refl, bag_sym, bag_trans, count_append}
 use Rattle.common_laws.specs.Maps.{Contents}
 use Rattle.col_disk.specs.declared.disk.Disk.{Ghosts}
 use Rattle.col_disk.specs.declared.disk.StoreFault.{StoreFault}
@@ -18,6 +19,10 @@ use Rattle.row_history.specs.History.{visible}
 use Rattle.sql_tree.specs.declared.query.At.{At}
 use Rattle.sql_bound.specs.declared.query.FromItem.{FromItem}
 use Rattle.sql_bound.specs.declared.query.BoundQuery.{BoundQuery}
+use Rattle.sql_bound.specs.Outputs.{is_kept}
+use Rattle.row_bounds.specs.Bounds.{within}
+use Rattle.row_bounds.specs.declared.bound.Bound.{Bound}
+use Rattle.row_bounds.proofs.Fronts.{front_within}
 use Rattle.db_model.specs.Database.{Database, Table}
 use Rattle.db_model.specs.State.{Changes, without}
 use Rattle.stored_rows.specs.Stored.{Projected, Stores}
@@ -29,7 +34,7 @@ use Rattle.query_cover.proofs.Placed.{shows_same}
 use Rattle.query_run.specs.Runs.{HasTaken}
 use Rattle.query_run.specs.declared.run.Run.{Run}
 use Rattle.wanted_rows.specs.Wanted.{tally}
-use Rattle.store_query.specs.Feeding.{HasRead, TakesItem, TakesLess, TakesRows}
+use Rattle.store_query.specs.Feeding.{HasEnough, HasRead, IsBeyond, IsOut, TakesItem, TakesLess, TakesRows}
 use Rattle.store_query.specs.Lessening.{asked, cleared, deletes_of, HasChanges, IsLess}
 use Rattle.store_query.specs.Placing.{ArePlacesOf}
 use Rattle.store_query.specs.Faults.{of_store, IsUnblamed}
@@ -102,12 +107,58 @@ table_at d f over = by (slice_get d.tables f.table) refl over
     by None is none = absurd none
     by (Some t) is wide = (t, is, wide)
 
+-- ---- rows that were passed over
+
+-- Some rows are those that came and those that were passed over. Without the gone ones they are what is left of those that came, and those
+-- that were passed over, where none is gone or none was passed over.
+less_passed : (gone rows came less passed : List (List Value)) → SameBag rows (came ++ passed) → IsLess gone came less → (gone ≡ []) ⊎ (passed ≡ []) → IsLess gone rows (less ++ passed)
+less_passed gone rows came less passed parts lessens (inl none) = λ rest bag.
+    let whole : SameBag rows rest = subst (λ (xs : List (List Value)). SameBag rows (xs ++ rest)) none bag in
+    let own : SameBag came (gone ++ came) = subst (λ (xs : List (List Value)). SameBag came (xs ++ came)) (sym none) (bag_refl came) in
+    let same : SameBag less came = lessens came own in
+    bag_trans (less ++ passed) rows rest (bag_sym rows (less ++ passed) (bag_trans rows (came ++ passed) (less ++ passed) parts (bag_append came passed less passed (bag_sym less came same) (bag_refl passed)))) whole
+less_passed gone rows came less passed parts lessens (inr none) = λ rest bag.
+    let all : came ++ passed ≡ came = ap (λ (xs : List (List Value)). came ++ xs) none ∙ append-nil came in
+    let kept : less ++ passed ≡ less = ap (λ (xs : List (List Value)). less ++ xs) none ∙ append-nil less in
+    let same : SameBag rows came = subst (SameBag rows) all parts in
+    subst (λ (xs : List (List Value)). SameBag xs rest) (sym kept) (lessens rest (bag_trans came rows (gone ++ rest) (bag_sym rows came same) bag))
+
+behind_passed : (less passed more : List (List Value)) → SameBag ((less ++ passed) ++ more) ((less ++ more) ++ passed)
+behind_passed less passed more = record {
+  counts = λ p. omega (arith, count_append p (less ++ passed) more, count_append p less passed, count_append p (less ++ more) passed, count_append p less more);
+}
+
+-- without bounds no row lies out of them
+none_beyond : (bounds : List Bound) (columns : ℕ) (passed : List (List Value)) → bounds ≡ [] → All (IsBeyond bounds columns) passed → passed ≡ []
+none_beyond bounds columns [] none beyond = refl
+none_beyond bounds columns (row ∷ passed) none beyond =
+    let here : within bounds row ≡ false = (All-head (IsBeyond bounds columns) row passed beyond).1 in
+    let in_none : within bounds row ≡ true = ap (λ (bs : List Bound). within bs row) none in
+    absurd (cc)
+
+-- on a row that lies out of the bounds of the conditions no tuple is kept
+beyond_out : (q : BoundQuery) (bounds : List Bound) (columns : ℕ) (row : List Value) → All (λ b. b.column < columns) bounds → ((row : List Value) → is_kept q.keep row ≡ true → within bounds row ≡ true) → IsBeyond bounds columns row → IsOut q row
+beyond_out q bounds columns row own kept (long, beyond) = λ rest. by rest (is_kept q.keep (row ++ rest)) refl
+  where
+    by : (rest : List Value) (b : Bool) → is_kept q.keep (row ++ rest) ≡ b → is_kept q.keep (row ++ rest) ≡ false
+    by rest false is = is
+    by rest true is =
+        let front : within bounds row ≡ true = front_within bounds row rest (subst (λ (n : ℕ). All (λ b. b.column < n) bounds) (sym long) own) (kept (row ++ rest) is) in
+        absurd (cc)
+
+-- the bounds of the rows that a run takes of a FROM item, where these are to be taken out
+pub record AreBounds (q : BoundQuery) (columns : ℕ) (deletes : List Asked) (bounds : List Bound) : Type 0 where
+  pub own : All (λ b. b.column < columns) bounds
+  pub kept : (row : List Value) → is_kept q.keep row ≡ true → within bounds row ≡ true
+  pub whole : (deletes ≡ []) ⊎ (bounds ≡ [])
+
 -- so it is where the rows go to a run of the query
-pub item_taken : (m : Contents) (s : Seen) (changes : List Changes) (at : At) (q : BoundQuery) (f : FromItem) (d : Database) (p : Projected) (epoch : ℕ) (places : List (Option ℕ)) (first : Asked → ℕ) (old mid new : Run) → IsTaken s q f p
+pub item_taken : (m : Contents) (s : Seen) (changes : List Changes) (at : At) (q : BoundQuery) (f : FromItem) (d : Database) (p : Projected) (epoch : ℕ) (places : List (Option ℕ)) (bounds : List Bound) (first : Asked → ℕ) (old mid new : Run) → IsTaken s q f p
     → ArePlacesOf q f.first f.columns (ordinals p.entry) places → epoch ≡ epoch_of at s.catalogue.last → ((a : Asked) → first a ≡ tally a (map (λ x. asked (cleared places x.row)) (deletes_of at s.catalogue.tables changes f)))
-    → ((rows : List Stamped) → Stores m p rows → TakesLess q first (map (placed places) (visible epoch rows)) old mid) → TakesRows q (pending_of at s.catalogue.tables changes f) mid new → IsRead m s changes at d → IsOver d.tables f
-    → TakesItem at changes q d f old new
-item_taken m s changes at q f d p epoch places first old mid new taken are epoch_is first_is takes pending read over = λ more has. by more (table_at d f over) has
+    → AreBounds q f.columns (deletes_of at s.catalogue.tables changes f) bounds
+    → ((rows : List Stamped) → Stores m p rows → TakesLess q bounds (length places) first (map (placed places) (visible epoch rows)) old mid) → TakesRows q (pending_of at s.catalogue.tables changes f) mid new
+    → IsRead m s changes at d → IsOver d.tables f → TakesItem at changes q d f old new
+item_taken m s changes at q f d p epoch places bounds first old mid new taken are epoch_is first_is bounds_are takes pending read over = λ more has. by more (table_at d f over) has
   where
     gone : List (List Value)
     gone = map (λ (a : Asked). cleared places a.row) (deletes_of at s.catalogue.tables changes f)
@@ -118,16 +169,34 @@ item_taken m s changes at q f d p epoch places first old mid new taken are epoch
     counted : (a : Asked) → first a ≡ tally a (map asked gone)
     counted a = first_is a ∙ ap (tally a) (sym (gone_counted places (deletes_of at s.catalogue.tables changes f)))
 
+    nothing : (passed : List (List Value)) → All (IsBeyond bounds (length places)) passed → (deletes_of at s.catalogue.tables changes f ≡ []) ⊎ (bounds ≡ []) → (gone ≡ []) ⊎ (passed ≡ [])
+    nothing passed beyond (inl none) = inl (ap (map (λ (a : Asked). cleared places a.row)) none)
+    nothing passed beyond (inr none) = inr (none_beyond bounds (length places) passed none beyond)
+
     by : (more : List (List (List Value))) → (t : Table) × (slice_get d.tables f.table ≡ Some t) × (f.columns ≡ length t.columns) → HasTaken q more [] old
-        → (rows : List (List Value)) × IsSeen at changes q d f rows × HasTaken q more rows new
+        → (rows : List (List Value)) × IsSeen at changes q d f rows × HasEnough q more rows new
     by more (t, is, wide) has =
         let serves = taken_serves m s q f d t p taken read.are is in
-        let less = takes serves.history.stored serves.history.are more has in
-        let seen : AreSeen q f.first f.columns (less.0 ++ behind) (rows_of at d changes t) =
-        over_seen m s changes at q f d p epoch places (less.0 ++ behind) t taken read are epoch_is is wide serves (less.0, less.1 gone counted, refl) in (
-          less.0 ++ behind,
-          λ there. subst (λ (o : Option Table). AreSeen q f.first f.columns (less.0 ++ behind) (option_map_or (rows_of at d changes) o no_rows)) (sym is) seen,
-          pending more less.0 less.2,
+        let stored = serves.history.stored in
+        let took = takes stored serves.history.are more has in
+        let came = took.0 in
+        let less = took.1 in
+        let passes = took.2 in
+        let passed = passes.passed in
+        let lessens : IsLess gone (map (placed places) (visible epoch stored)) (less ++ passed) =
+        less_passed gone (map (placed places) (visible epoch stored)) came less passed passes.parts (took.3 gone counted) (nothing passed passes.beyond bounds_are.whole) in
+        let seen : AreSeen q f.first f.columns ((less ++ passed) ++ behind) (rows_of at d changes t) =
+        over_seen m s changes at q f d p epoch places ((less ++ passed) ++ behind) t taken read are epoch_is is wide serves (less ++ passed, lessens, refl) in
+        let own : All (λ b. b.column < length places) bounds = subst (λ (n : ℕ). All (λ b. b.column < n) bounds) (sym are.long) bounds_are.own in (
+          (less ++ passed) ++ behind,
+          λ there. subst (λ (o : Option Table). AreSeen q f.first f.columns ((less ++ passed) ++ behind) (option_map_or (rows_of at d changes) o no_rows)) (sym is) seen,
+          record {
+            came = less ++ behind;
+            passed = passed;
+            parts = behind_passed less passed behind;
+            out = All-weaker (IsBeyond bounds (length places)) (IsOut q) (λ row beyond. beyond_out q bounds (length places) row own bounds_are.kept beyond) passed passes.beyond;
+            taken = pending more less took.4;
+          },
         )
 
 -- no file of the projection is to blame
@@ -170,7 +239,7 @@ items_read at changes q d first others given more old new same seen none takes =
       rows = took.0;
       more = more;
       seen = (took.1, seen);
-      taken = took.2;
+      enough = took.2;
     }
 
 -- a query without a FROM item reads nothing
@@ -180,14 +249,14 @@ nothing_read at d changes q items is none = ap (map (item_rows at d changes)) (s
 -- what a run took and holds is, for the query, what the FROM items have
 pub run_seen : {D : Type 0} (disk : Ghosts D) (s : Seen) (now : D) (changes : List Changes) (at : At) (q : BoundQuery) (d : Database) (items : List FromItem) (r : Run) → items ≡ q.sources
     → ((m : Contents) → disk.holds now ≡ Some m → (e : Database) → IsRead m s changes at e → All (IsOver e.tables) items → HasRead at changes q e items r) → CanRead disk s now changes at q d
-    → (rows : List (List Value)) × (more : List (List (List Value))) × AreSeenFrom q 0 q.sources (rows ∷ more) (source_rows at d changes q) × HasTaken q more rows r
+    → (rows : List (List Value)) × (more : List (List (List Value))) × AreSeenFrom q 0 q.sources (rows ∷ more) (source_rows at d changes q) × HasEnough q more rows r
 run_seen disk s now changes at q d items r is reads can =
     let over = subst (λ (fs : List FromItem). All (IsOver d.tables) fs) (sym is) (each_over 0 d.tables q.sources can.over) in
     let has = reads can.stands.files can.stands.quiet.told_is d (read_of disk s now changes at q d can) over in (
       has.rows,
       has.more,
       seen_from at changes q d 0 q.sources (has.rows ∷ has.more) can.over (subst (λ (fs : List FromItem). AllZip (IsSeen at changes q d) fs (has.rows ∷ has.more)) is has.seen),
-      has.taken,
+      has.enough,
     )
 
 store_unblamed : (fault : StoreFault) → scan.IsUnblamed fault → IsUnblamed (of_store fault)

@@ -1,8 +1,8 @@
 -- The faults of a store and of a query, as faults of a SELECT.
 use Rattle.col_disk.specs.declared.disk.StoreFault.{StoreFault}
 use Rattle.col_disk.specs.declared.disk.StoreFault.TheVariants as store
-use Rattle.plain_query.specs.declared.fault.QueryFault.{QueryFault}
-use Rattle.plain_query.specs.declared.fault.QueryFault.TheVariants as query
+use Rattle.query_run.specs.declared.fault.QueryFault.{QueryFault}
+use Rattle.query_run.specs.declared.fault.QueryFault.TheVariants as query
 use Rattle.store_query.specs.declared.fault.SelectFault.{SelectFault}
 use Rattle.store_query.specs.declared.fault.SelectFault.TheVariants as select
 

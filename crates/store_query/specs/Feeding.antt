@@ -1,11 +1,15 @@
 -- Rows that go to a run of a query, one by one.
-use Rattle.std.specs.Prelude.{◌≡◌, ℕ, ◌+◌, ◌++◌, List, [], ◌∷◌, map}
+use Rattle.std.specs.Prelude.{◌≡◌, ℕ, ◌+◌, ◌++◌, false, List, [], ◌∷◌, length, map}
 use Rattle.std.specs.List.{All, AllZip}
+use Rattle.common_laws.specs.Bags.{SameBag}
 use Rattle.col_value.specs.declared.row.Asked.{Asked}
 use Rattle.col_value.specs.declared.value.Value.{Value}
 use Rattle.sql_tree.specs.declared.query.At.{At}
 use Rattle.sql_bound.specs.declared.query.FromItem.{FromItem}
 use Rattle.sql_bound.specs.declared.query.BoundQuery.{BoundQuery}
+use Rattle.sql_bound.specs.Outputs.{is_kept}
+use Rattle.row_bounds.specs.Bounds.{within}
+use Rattle.row_bounds.specs.declared.bound.Bound.{Bound}
 use Rattle.db_model.specs.Database.{Database}
 use Rattle.db_model.specs.State.{Changes}
 use Rattle.query_run.specs.Runs.{HasTaken}
@@ -30,17 +34,40 @@ pub record HasFed (q : BoundQuery) (more : List (List (List Value))) (first : As
 abbrev pub Feeds : BoundQuery → List (List Value) → (Asked → ℕ) → Run → (Asked → ℕ) → Run → Type 0
 Feeds q rows need old less new = (more : List (List (List Value))) (first : Asked → ℕ) (came : List (List Value)) → HasFed q more first came need old → HasFed q more first (came ++ rows) less new
 
--- a run to which no row has come takes the rows without those of which so many are to be taken out
-abbrev pub TakesLess : BoundQuery → (Asked → ℕ) → List (List Value) → Run → Run → Type 0
-TakesLess q need rows old new = (more : List (List (List Value))) → HasTaken q more [] old → (less : List (List Value)) × AreGone need rows less × HasTaken q more less new
+-- a row of so many values lies out of bounds
+abbrev pub IsBeyond : List Bound → ℕ → List Value → Type 0
+IsBeyond bounds columns row = (length row ≡ columns) × (within bounds row ≡ false)
 
--- it takes what are for the query the rows of a FROM item
+-- of some rows these came; the others were passed over, and each of them has so many values and lies out of the bounds
+pub record Passes (bounds : List Bound) (columns : ℕ) (rows came : List (List Value)) : Type 0 where
+  pub passed : List (List Value)
+  pub parts : SameBag rows (came ++ passed)
+  pub beyond : All (IsBeyond bounds columns) passed
+
+-- a run to which no row has come takes those of the rows that come, without those of which so many are to be taken out
+abbrev pub TakesLess : BoundQuery → List Bound → ℕ → (Asked → ℕ) → List (List Value) → Run → Run → Type 0
+TakesLess q bounds columns need rows old new =
+    (more : List (List (List Value))) → HasTaken q more [] old → (came : List (List Value)) × (less : List (List Value)) × Passes bounds columns rows came × AreGone need came less × HasTaken q more less new
+
+-- no tuple that begins with the row is kept
+abbrev pub IsOut : BoundQuery → List Value → Type 0
+IsOut q row = (rest : List Value) → is_kept q.keep (row ++ rest) ≡ false
+
+-- a run took these rows but for some on which no tuple is kept
+pub record HasEnough (q : BoundQuery) (more : List (List (List Value))) (rows : List (List Value)) (r : Run) : Type 0 where
+  pub came : List (List Value)
+  pub passed : List (List Value)
+  pub parts : SameBag rows (came ++ passed)
+  pub out : All (IsOut q) passed
+  pub taken : HasTaken q more came r
+
+-- it takes enough of what are for the query the rows of a FROM item
 abbrev pub TakesItem : At → List Changes → BoundQuery → Database → FromItem → Run → Run → Type 0
-TakesItem at changes q d f old new = (more : List (List (List Value))) → HasTaken q more [] old → (rows : List (List Value)) × IsSeen at changes q d f rows × HasTaken q more rows new
+TakesItem at changes q d f old new = (more : List (List (List Value))) → HasTaken q more [] old → (rows : List (List Value)) × IsSeen at changes q d f rows × HasEnough q more rows new
 
--- what a run took, and what it holds, are for the query the rows of these FROM items
+-- what are for the query the rows of these FROM items: of the first one a run took enough, and it holds those of the others
 pub record HasRead (at : At) (changes : List Changes) (q : BoundQuery) (d : Database) (items : List FromItem) (r : Run) : Type 0 where
   pub rows : List (List Value)
   pub more : List (List (List Value))
   pub seen : AllZip (IsSeen at changes q d) items (rows ∷ more)
-  pub taken : HasTaken q more rows r
+  pub enough : HasEnough q more rows r

@@ -1,6 +1,6 @@
 //! Rows that go to a run of the query, one by one.
 
-ghost use Rattle.std.specs.Prelude.{◌≡◌, ◌∷◌, List, [], Some, map, IfOk, IfErr, OnOk};
+ghost use Rattle.std.specs.Prelude.{◌≡◌, ◌∷◌, List, [], Some, length, map, IfOk, IfErr, OnOk};
 ghost use Rattle.std.specs.List.{All};
 ghost use Rattle.common_laws.specs.Causes.{HasCause};
 ghost use Rattle.common_laws.specs.Maps.{Contents};
@@ -9,7 +9,7 @@ ghost use Rattle.col_value.specs.Order.{IsRow};
 ghost use Rattle.col_value.specs.declared.row.Stamped.{Stamped};
 ghost use Rattle.row_history.specs.History.{visible};
 ghost use Rattle.stored_rows.specs.Stored.{Stores};
-ghost use Rattle.plain_query.specs.Bounded.{IsBoundedQuery};
+ghost use Rattle.query_laws.specs.Bounded.{IsBoundedQuery};
 ghost use Rattle.query_cover.specs.Seen.{placed};
 ghost use Rattle.query_run.specs.Runs.{IsRunOf};
 ghost use Rattle.exec_scan.specs.Scanning.{AreOwn, IsUnblamed};
@@ -22,6 +22,7 @@ use col_value::{Row, Value};
 use exec_scan::{Batch, Scan};
 use proj_store::ProjStore;
 use query_run::Run;
+use row_bounds::Bound;
 use sql_bound::BoundQuery;
 use std::alloc::{AllocError, Global};
 use wanted_rows::Wants;
@@ -79,7 +80,7 @@ fn feed_batch(
 ) -> Result<(), AllocError>
     requires bounded { IsBoundedQuery query.now }
     requires run { IsRunOf query.now run.old }
-    ensures fed { OnOk result (Feeds query.now batch.now (need_in wants.old.counts) run.old (need_in wants.new.counts) run.new) }
+    ensures fed { OnOk result (Feeds query.now batch.now.rows (need_in wants.old.counts) run.old (need_in wants.new.counts) run.new) }
     ensures run { OnOk result (IsRunOf query.now run.new) }
 {
     for i in 0..batch.len() {
@@ -89,13 +90,14 @@ fn feed_batch(
 }
 
 /// The same with the rows of a projection that are visible at an epoch, made for the table's columns: for each of these `places` has its
-/// place in the projection, if it is needed. No more than a batch of them is held.
+/// place in the projection, if it is needed. Rows that lie out of the bounds may be passed over. No more than a batch of them is held.
 pub fn feed_scan<D: Disk>(
     alloc: Global,
     query: &BoundQuery,
     store: &ProjStore,
     epoch: u64,
     places: Vec<Option<usize>>,
+    bounds: Vec<Bound>,
     wants: Wants,
     run: &mut Run,
     disk: &mut D,
@@ -103,7 +105,7 @@ pub fn feed_scan<D: Disk>(
     requires bounded { IsBoundedQuery query.now }
     requires own { AreOwn store.now.stored.entry places.items }
     requires run { IsRunOf query.now run.old }
-    ensures fed { OnOk result ((m : Contents) → D.holds disk.old ≡ Some m → (rows : List Stamped) → Stores m store.now.stored rows → TakesLess query.now (need_in wants.counts) (map (placed places.items) (visible epoch rows)) run.old run.new) }
+    ensures fed { OnOk result ((m : Contents) → D.holds disk.old ≡ Some m → (rows : List Stamped) → Stores m store.now.stored rows → TakesLess query.now bounds.items (length places.items) (need_in wants.counts) (map (placed places.items) (visible epoch rows)) run.old run.new) }
     ensures run { OnOk result (IsRunOf query.now run.new) }
     ensures unblamed { IfErr result (λ fault. (m : Contents) → D.holds disk.old ≡ Some m → (rows : List Stamped) → Stores m store.now.stored rows → IsUnblamed fault) }
     ensures kept { D.holds disk.new ≡ D.holds disk.old }
@@ -111,7 +113,7 @@ pub fn feed_scan<D: Disk>(
     ensures cause { HasCause StoreFault.Disk (D.faults disk.old) (D.faults disk.new) result }
 {
     let mut wants = wants;
-    let mut scan = Scan::new(epoch, places);
+    let mut scan = Scan::new(epoch, places, bounds, false);
     loop {
         let batch = match scan.next(alloc, store, disk) {
             Ok(Some(batch)) => batch,

@@ -1,14 +1,17 @@
 //! The rows of the FROM items.
 
-ghost use Rattle.std.specs.Prelude.{◌≡◌, ◌∷◌, Some, map, IfOk, IfErr, OnOk};
+ghost use Rattle.std.specs.Prelude.{◌≡◌, ◌<◌, ◌⊎◌, ◌∷◌, true, List as Items, [], Some, map, IfOk, IfErr, OnOk};
 ghost use Rattle.std.specs.List.{All, AllZip};
 ghost use Rattle.std.specs.Option.{IfSome};
 ghost use Rattle.common_laws.specs.Causes.{HasCause};
 ghost use Rattle.common_laws.specs.Maps.{Contents};
 ghost use Rattle.col_disk.specs.Moved.{Moved, NoName};
 ghost use Rattle.col_value.specs.Order.{IsRow};
+ghost use Rattle.col_value.specs.declared.value.Value.{Value as Item};
+ghost use Rattle.sql_bound.specs.Outputs.{is_kept};
+ghost use Rattle.row_bounds.specs.Bounds.{within};
 ghost use Rattle.db_model.specs.Database.{Database};
-ghost use Rattle.plain_query.specs.Bounded.{IsBoundedQuery};
+ghost use Rattle.query_laws.specs.Bounded.{IsBoundedQuery};
 ghost use Rattle.query_run.specs.Runs.{IsRunOf};
 ghost use Rattle.exec_scan.specs.Scanning.{IsUnblamed};
 ghost use Rattle.store_query.specs.Feeding.{HasRead, TakesItem};
@@ -21,11 +24,12 @@ use crate::lessening::{deletes_of, wants_of, without_deletes};
 use crate::pending::{add_rows, pending_of};
 use crate::places::places_of;
 use col_disk::{Disk, StoreFault};
-use col_value::{List, Row};
+use col_value::{Asked, List, Row};
 use exec_scan::scan_rows;
 use plan_choice::choose;
 use proj_store::ProjStore;
 use query_run::Run;
+use row_bounds::{Bound, bounds_of};
 use sql_bound::{BoundQuery, FromItem};
 use sql_tree::At;
 use std::alloc::{AllocError, Global};
@@ -127,8 +131,27 @@ fn rows_of_item<D: Disk>(
     }
 }
 
-/// Gives a run the rows that a query reads of a FROM item's table, of which none but a batch is held: those of the chosen projection, but
-/// for those that the session deletes, and then its pending ones.
+/// The bounds in which the rows of a FROM item have to lie. There are none where the session deletes rows of its table, since each of these
+/// has to come to be taken out.
+fn bounds_for(
+    alloc: Global,
+    query: &BoundQuery,
+    item: FromItem,
+    deletes: &[Asked],
+) -> Result<Vec<Bound>, AllocError>
+    ensures own { IfOk result (λ v. All (λ b. b.column < item.columns) v.items) }
+    ensures kept { IfOk result (λ v. (row : Items Item) → is_kept query.now.keep row ≡ true → within v.items row ≡ true) }
+    ensures whole { IfOk result (λ v. (deletes.now ≡ []) ⊎ (v.items ≡ [])) }
+{
+    if deletes.is_empty() {
+        return bounds_of(alloc, query.keep.as_slice(), item.columns);
+    }
+    Ok(Vec::new(alloc))
+}
+
+/// Gives a run what a query reads of a FROM item's table, of which none but a batch is held: the rows of the chosen projection, but for those
+/// that lie out of the bounds of the conditions, as far as blocks of them can be passed over, and for those that the session deletes; and
+/// then its pending ones.
 fn feed_item<D: Disk>(
     alloc: Global,
     tables: &TableStore,
@@ -161,8 +184,12 @@ fn feed_item<D: Disk>(
         Ok(wants) => wants,
         Err(AllocError) => return Err(StoreFault::Memory),
     };
+    let bounds = match bounds_for(alloc, query, item, deletes) {
+        Ok(bounds) => bounds,
+        Err(AllocError) => return Err(StoreFault::Memory),
+    };
     let epoch = epoch_of(at, tables.last());
-    match feed_scan(alloc, query, store, epoch, places, wants, run, disk) {
+    match feed_scan(alloc, query, store, epoch, places, bounds, wants, run, disk) {
         Ok(()) => {}
         Err(fault) => return Err(fault),
     }

@@ -1,18 +1,17 @@
-use Rattle.std.proofs.Common.{◌∙◌, List, refl, sym, ap, subst}
+use Rattle.std.proofs.Common.{◌∙◌, refl, sym, subst}
 use Rattle.std.specs.Prelude.{Option}
 use Rattle.col_disk.proofs.Moving.{moved_join, moved_none}
-use Rattle.col_value.specs.declared.value.Value.{Value}
+use Rattle.exec_scan.specs.Batches.{Shown}
 use Rattle.exec_scan.specs.Scanning.{Gives, IsScanOf, Place}
 use Rattle.wanted_rows.specs.Wanted.{need_in}
-use Rattle.store_query.proofs.Fed.{streamed_all, streamed_more, streamed_none}
+use Rattle.store_query.proofs.Fed.{asks_on, asks_start, streamed_all, streamed_more, streamed_none}
 use Rattle.store_query.proofs.feeding.feed_scan.Goals as goal
 
 pub loop-batch-init : goal.loop-batch-init
 loop-batch-init g c = record {
-  streamed = λ m told rows stores. streamed_none c.args.query.now m c.args.store.now.stored c.args.epoch c.args.places.items c.new-scan.result rows (need_in c.args.wants.counts) c.args.run.now c.new-scan.ensures stores;
+  streamed = λ m told rows stores. streamed_none c.args.query.now m c.args.store.now.stored c.args.epoch c.args.places.items c.args.bounds.items c.new-scan.result rows (need_in c.args.wants.counts) c.args.run.now c.new-scan.ensures stores;
   scan_of = subst (λ (s : Place). IsScanOf c.args.store.now.stored.entry s) (sym c.new-scan.ensures) (record { own = c.requires.own; opening = tt; closed = λ none. refl });
-  epoch_is = ap (λ (s : Place). s.epoch) c.new-scan.ensures;
-  places_are = ap (λ (s : Place). s.places) c.new-scan.ensures;
+  asks = asks_start c.args.epoch c.args.places.items c.args.bounds.items c.new-scan.result c.new-scan.ensures;
   run = c.requires.run;
   kept = refl;
   moved = moved_none g.D.Disk c.args.disk.now;
@@ -21,8 +20,8 @@ loop-batch-init g c = record {
 pub returns-in-Ok-None-clause-fed : goal.returns-in-Ok-None-clause-fed
 returns-in-Ok-None-clause-fed g c = λ m told rows stores.
     let p = c.args.store.now.stored in
-    streamed_all c.args.query.now m p c.args.epoch c.args.places.items c.loop-batch.scan rows (need_in c.args.wants.counts) (need_in c.loop-batch.wants.counts) c.args.run.now c.loop-batch.run
-    (λ left are. subst (λ (o : Option (List (List Value))). Gives m p c.loop-batch.scan c.next.new.self left o) c.in-Ok-None.field-0-is
+    streamed_all c.args.query.now m p c.args.epoch c.args.places.items c.args.bounds.items c.loop-batch.scan rows (need_in c.args.wants.counts) (need_in c.loop-batch.wants.counts) c.args.run.now c.loop-batch.run
+    (λ left are. subst (λ (o : Option Shown). Gives m p c.loop-batch.scan c.next.new.self left o) c.in-Ok-None.field-0-is
     (c.in-Ok-None.ensures.gives m (c.loop-batch.invariant.kept ∙ told) left are)) (c.loop-batch.invariant.streamed m told rows stores)
 
 pub returns-in-Ok-None-clause-moved : goal.returns-in-Ok-None-clause-moved
@@ -30,7 +29,7 @@ returns-in-Ok-None-clause-moved g c = moved_join g.D.Disk c.loop-batch.invariant
 
 pub returns-in-Err-clause-unblamed : goal.returns-in-Err-clause-unblamed
 returns-in-Err-clause-unblamed g c = λ m told rows stores.
-    let was = (c.loop-batch.invariant.streamed m told rows stores).gathered in
+    let was = c.loop-batch.invariant.streamed m told rows stores in
     c.in-Err.ensures.unblamed m (c.loop-batch.invariant.kept ∙ told) was.rest was.left
 
 pub returns-in-Err-clause-moved : goal.returns-in-Err-clause-moved
@@ -43,13 +42,12 @@ pub loop-batch-preserved : goal.loop-batch-preserved
 loop-batch-preserved g c =
     let p = c.args.store.now.stored in
     record {
-      streamed = λ m told rows stores. streamed_more c.args.query.now m p c.args.epoch c.args.places.items c.loop-batch.scan c.next.new.self c.in-Ok-Some.batch rows (need_in c.args.wants.counts) (need_in c.loop-batch.wants.counts)
-          (need_in c.feed_batch.new.wants.counts) c.args.run.now c.loop-batch.run c.feed_batch.new.run c.loop-batch.invariant.epoch_is c.loop-batch.invariant.places_are
-          (λ left are. subst (λ (o : Option (List (List Value))). Gives m p c.loop-batch.scan c.next.new.self left o) c.in-Ok-Some.field-0-is
+      streamed = λ m told rows stores. streamed_more c.args.query.now m p c.args.epoch c.args.places.items c.args.bounds.items c.loop-batch.scan c.next.new.self c.in-Ok-Some.batch rows (need_in c.args.wants.counts) (need_in c.loop-batch.wants.counts)
+          (need_in c.feed_batch.new.wants.counts) c.args.run.now c.loop-batch.run c.feed_batch.new.run c.loop-batch.invariant.asks
+          (λ left are. subst (λ (o : Option Shown). Gives m p c.loop-batch.scan c.next.new.self left o) c.in-Ok-Some.field-0-is
           (c.in-Ok-Some.ensures.gives m (c.loop-batch.invariant.kept ∙ told) left are)) c.in-Ok.ensures.fed (c.loop-batch.invariant.streamed m told rows stores);
       scan_of = c.in-Ok-Some.ensures.scan;
-      epoch_is = c.in-Ok-Some.ensures.same.0 ∙ c.loop-batch.invariant.epoch_is;
-      places_are = c.in-Ok-Some.ensures.same.1 ∙ c.loop-batch.invariant.places_are;
+      asks = asks_on c.args.epoch c.args.places.items c.args.bounds.items c.loop-batch.scan c.next.new.self c.in-Ok-Some.ensures.same c.loop-batch.invariant.asks;
       run = c.in-Ok.ensures.run;
       kept = c.next.ensures.kept ∙ c.loop-batch.invariant.kept;
       moved = moved_join g.D.Disk c.loop-batch.invariant.moved c.next.ensures.moved;

@@ -7,16 +7,15 @@ use Rattle.stored_rows.specs.Stored.{Stores}
 use Rattle.exec_scan.specs.Scanning.{IsScanOf, steps_left}
 use Rattle.query_run.specs.Runs.{IsRunOf}
 use Rattle.wanted_rows.specs.Wanted.{need_in}
-use Rattle.store_query.proofs.Fed.{Streamed}
+use Rattle.store_query.proofs.Fed.{Asks, Streamed}
 use Rattle.store_query.proofs.feeding.feed_scan.Given as goal
 
 abbrev pub invariant-loop-batch : goal.invariant-loop-batch
 invariant-loop-batch g l = record {
   streamed : (m : Contents) → g.D.Disk.holds l.fn.disk ≡ Some m → (rows : List Stamped) → Stores m l.store.stored rows
-      → Streamed l.query m l.store.stored l.epoch l.fn.places.items l.scan rows (need_in l.fn.wants.counts) (need_in l.wants.counts) l.fn.run l.run;
+      → Streamed l.query m l.store.stored l.epoch l.fn.places.items l.fn.bounds.items l.scan rows (need_in l.fn.wants.counts) (need_in l.wants.counts) l.fn.run l.run;
   scan_of : IsScanOf l.store.stored.entry l.scan;
-  epoch_is : l.scan.epoch ≡ l.epoch;
-  places_are : l.scan.places ≡ l.fn.places.items;
+  asks : Asks l.epoch l.fn.places.items l.fn.bounds.items l.scan;
   run : IsRunOf l.query l.run;
   kept : g.D.Disk.holds l.disk ≡ g.D.Disk.holds l.fn.disk;
   moved : Moved g.D.Disk NoName NoName l.fn.disk l.disk;

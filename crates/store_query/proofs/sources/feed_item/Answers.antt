@@ -1,4 +1,4 @@
-use Rattle.std.proofs.Common.{◌≡◌, ◌∙◌, ℕ, List, ap, map, subst}
+use Rattle.std.proofs.Common.{◌≡◌, ◌∙◌, ◌⊎◌, ℕ, List, [], ap, map, subst}
 use Rattle.std.specs.Prelude.{Option}
 use Rattle.col_disk.proofs.Moving.{moved_none}
 use Rattle.col_value.specs.declared.row.Asked.{Asked}
@@ -8,10 +8,10 @@ use Rattle.catalog_types.specs.declared.catalogue.Projection.{Projection}
 use Rattle.folder_model.specs.Projections.{ordinals}
 use Rattle.wanted_rows.specs.Wanted.{need_in, tally}
 use Rattle.store_query.specs.Feeding.{TakesRows}
-use Rattle.store_query.specs.Lessening.{asked, cleared}
+use Rattle.store_query.specs.Lessening.{asked, cleared, deletes_of}
 use Rattle.store_query.specs.Placing.{ArePlacesOf}
 use Rattle.store_query.specs.Reading.{epoch_of}
-use Rattle.store_query.proofs.ItemRows.{item_taken, item_unblamed}
+use Rattle.store_query.proofs.ItemRows.{item_taken, item_unblamed, AreBounds}
 use Rattle.store_query.proofs.sources.feed_item.Goals as goal
 
 pub returns-in_default-clause-moved : goal.returns-in_default-clause-moved
@@ -22,6 +22,9 @@ returns-in-Err-clause-moved g c = moved_none g.D.Disk c.args.disk.now
 
 pub returns-in-Err-wants_of-clause-moved : goal.returns-in-Err-wants_of-clause-moved
 returns-in-Err-wants_of-clause-moved g c = moved_none g.D.Disk c.args.disk.now
+
+pub returns-in-Err-bounds_for-clause-moved : goal.returns-in-Err-bounds_for-clause-moved
+returns-in-Err-bounds_for-clause-moved g c = moved_none g.D.Disk c.args.disk.now
 
 pub returns-in-Err-feed_scan-clause-unblamed : goal.returns-in-Err-feed_scan-clause-unblamed
 returns-in-Err-feed_scan-clause-unblamed g c = λ m told d read over.
@@ -38,8 +41,15 @@ returns-in-Ok-feed_rows-clause-taken g c = λ m told d read over.
     let are : ArePlacesOf q f.first f.columns (ordinals p.entry) places = subst (λ (ks : List ProjColumn). ArePlacesOf q f.first f.columns (map (λ k. k.ordinal) ks) places) columns c.in-Ok.ensures.places in
     let first : (a : Asked) → need_in c.in-Ok-wants_of.wants.counts a ≡ tally a (map (λ x. asked (cleared places x.row)) c.deletes_of-deletes.result.now) =
     subst (λ (ps : List (Option ℕ)). (a : Asked) → need_in c.in-Ok-wants_of.wants.counts a ≡ tally a (map (λ x. asked (cleared ps x.row)) c.deletes_of-deletes.result.now)) c.as_slice.ensures.value c.in-Ok-wants_of.ensures in
-    item_taken m s c.args.changes.now c.args.at q f d p c.epoch_of-epoch.result places (need_in c.in-Ok-wants_of.wants.counts) c.args.run.now c.feed_scan.new.run c.feed_rows.new.run c.in-Some.ensures are
+    let bounds : AreBounds q f.columns (deletes_of c.args.at s.catalogue.tables c.args.changes.now f) c.in-Ok-bounds_for.bounds.items =
+    record {
+      own = c.in-Ok-bounds_for.ensures.own;
+      kept = c.in-Ok-bounds_for.ensures.kept;
+      whole = subst (λ (ds : List Asked). (ds ≡ []) ⊎ (c.in-Ok-bounds_for.bounds.items ≡ [])) c.deletes_of-deletes.ensures c.in-Ok-bounds_for.ensures.whole;
+    } in
+    item_taken m s c.args.changes.now c.args.at q f d p c.epoch_of-epoch.result places c.in-Ok-bounds_for.bounds.items (need_in c.in-Ok-wants_of.wants.counts) c.args.run.now c.feed_scan.new.run c.feed_rows.new.run c.in-Some.ensures are
     (c.epoch_of-epoch.ensures ∙ ap (epoch_of c.args.at) c.last.ensures)
     (λ a. first a ∙ ap (λ (ds : List Asked). tally a (map (λ x. asked (cleared places x.row)) ds)) c.deletes_of-deletes.ensures)
+    bounds
     (c.in-Ok-feed_scan.ensures.fed m told)
     (subst (λ (rows : List (List Value)). TakesRows q rows c.feed_scan.new.run c.feed_rows.new.run) c.pending_of.ensures.rows c.in-Ok-feed_rows.ensures.rows) read over
