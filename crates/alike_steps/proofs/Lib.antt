@@ -1,0 +1,11 @@
+pub mod Zipped
+pub mod Tables
+pub mod Rows
+pub mod Shaped
+pub mod Changed
+pub mod Committed
+pub mod Told
+pub mod Moved
+pub mod Stayed
+pub mod Stepped
+pub mod Ran

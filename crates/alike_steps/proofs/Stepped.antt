@@ -1,0 +1,302 @@
+-- A step over alike states.
+use Rattle.std.proofs.Common.{◌≡◌, ℕ, ◌+◌, Bool, true, false, List, [], length, refl, sym, ap, ap₂, ◌∙◌, subst}
+use Rattle.std.specs.Prelude.{Option, Some, None, codes, is_some}
+use Rattle.col_value.specs.declared.column.Column.{Column}
+use Rattle.col_value.specs.declared.value.Value.{Value}
+use Rattle.sql_words.specs.Symbols.{symbols_of}
+use Rattle.sql_tree.specs.declared.query.At.{At}
+use Rattle.sql_tree.specs.declared.query.Query.{Query}
+use Rattle.sql_tree.specs.declared.refusal.Refusal.{Refusal}
+use Rattle.sql_tree.specs.declared.statement.Function.{Function}
+use Rattle.sql_tree.specs.declared.statement.Statement.{Statement}
+use Rattle.sql_tree.specs.Spells.{Spells}
+use Rattle.sql_bound.specs.declared.query.BoundQuery.{BoundQuery}
+use Rattle.sql_binding.specs.Firsts.{first_of, refused_where}
+use Rattle.sql_binding.specs.Inserts.{inserted_rows}
+use Rattle.db_model.specs.Alike.{AreAlikeStates}
+use Rattle.db_model.specs.Answers.{epoch_line}
+use Rattle.db_model.specs.Database.{Table}
+use Rattle.db_model.specs.Events.{changes_committed, changes_dropped, on_table, projection_created, projection_dropped, rows_deleted, rows_loaded, rows_pending, rows_updated, table_created, table_dropped}
+use Rattle.db_model.specs.Leaving.{CallLeaves, CopyLeaves, Leaves}
+use Rattle.db_model.specs.Loading.{Files, Load, Loads}
+use Rattle.db_model.specs.Numbers.{are_spent}
+use Rattle.db_model.specs.Printing.{CallPrints, CopyPrints, Prints, copy_text, counted_line}
+use Rattle.db_model.specs.Refusals.{CallRefuses, CopyRefuses, FileRefuses, LoadRefuses, Refuses, SumRefuses, is_large_file, joining_limit, load_refusal, locked, query_refusal_in}
+use Rattle.db_model.specs.Refusing.{commit_refusal, epoch_refusal}
+use Rattle.db_model.specs.Sound.{IsSound}
+use Rattle.db_model.specs.State.{State}
+use Rattle.db_model.specs.Step.{Decides, Effect, Reads, RefusesForm}
+use Rattle.db_model.specs.Views.{bound_in, inputs, table_found}
+use Rattle.alike_laws.proofs.Refused.{commit_alike, joining_alike, load_alike, locked_alike, put_alike}
+use Rattle.one_text.specs.OneText.{QueriesHaveOneCause, QueriesHaveOneText}
+use Rattle.one_text.specs.Scripts.{IsQuiet}
+use Rattle.one_text.proofs.Numbered.{IsOther, Others, others_read}
+use Rattle.one_text.proofs.OneLoad.{load_once, rows_loaded_once}
+use Rattle.one_text.proofs.OneQuery.{first_none, refusal_same}
+use Rattle.one_text.proofs.OneStep.{OneReading, decided_once, read_once}
+use Rattle.alike_steps.specs.Steps.{AlikeStatesStepAlike, IsStepless, MoveoutsStepAlike, UnrefusedStepsAlike}
+use Rattle.alike_steps.proofs.Changed.{SettingsSeeABag, delete_counts, delete_same, deleted_alike, insert_same, pending_alike, update_counts, update_same, updated_alike}
+use Rattle.alike_steps.proofs.Committed.{can_commit, can_load, commit_texts, committed_zip, copy_texts}
+use Rattle.alike_steps.proofs.Moved.{all_alike}
+use Rattle.alike_steps.proofs.Stayed.{text_stays}
+use Rattle.alike_steps.proofs.Shaped.{create_same, created_alike, drawn_alike, drop_same, dropped_alike, left_alike, shape_same, shaped_alike, unshape_same, unshaped_alike}
+use Rattle.alike_steps.proofs.Tables.{AreAlikeFound, found_both}
+use Rattle.alike_steps.proofs.Told.{explain_same, good_same}
+use Rattle.alike_steps.proofs.Zipped.{BothThere}
+
+abbrev Cause : Type 0
+Cause = Option Refusal
+
+-- what is known of queries and of what an UPDATE sets, in whatever order the rows stand
+pub record HaveOneMeaning : Type 0 where
+  pub cause : QueriesHaveOneCause
+  pub text : QueriesHaveOneText
+  pub settings : SettingsSeeABag
+
+module _ (a b : State) (alike : AreAlikeStates a b) (sound : IsSound a) where
+  abbrev Found : ℕ × Table → ℕ × Table → Type 0
+  Found = AreAlikeFound a.database.ahm
+
+  named : (name : List ℕ) → BothThere Found (table_found name a.database.tables) (table_found name b.database.tables)
+  named name = found_both a.database.ahm name a.database.tables b.database.tables alike.database.tables
+
+  -- ---- COPY
+
+  -- the same load, read into the columns of either table
+  there : (e f : ℕ × Table) (bytes : List ℕ) (load : Load) → Found e f → Loads f.1.columns bytes load → Loads e.1.columns bytes load
+  there e f bytes load both loads = subst (λ (cs : List Column). Loads cs bytes load) (sym both.table.columns) loads
+
+  load_same : (name : List ℕ) (load : Load) → load_refusal a name load ≡ load_refusal b name load
+  load_same name (Load.Wrong line field) = refl
+  load_same name (Load.Rows rows) =
+      ap₂ (λ (o p : Cause). first_of o (first_of p (commit_refusal (rows_pending name rows a)))) (joining_alike a b name (length rows) alike.sessions alike.current)
+      (locked_alike a b name false alike.sessions alike.current)
+      ∙ ap (λ (o : Cause). first_of (joining_limit b name (length rows)) (first_of (locked b name false) o)) (load_alike a b name rows alike.sessions alike.current alike.database.last)
+
+  load_refused : (e f : ℕ × Table) (bytes : List ℕ) (large : Bool) (why also : Cause) → Found e f → LoadRefuses a e bytes large why → LoadRefuses b f bytes large also → why ≡ also
+  load_refused e f bytes true why also both first second = first ∙ sym second
+  load_refused e f bytes false why also both (load, loads, why_is) (other, others, also_is) =
+      why_is ∙ load_same e.1.name load
+      ∙ ap₂ (λ (n : List ℕ) (x : Load). load_refusal b n x) both.table.name (load_once e.1.columns bytes load other loads (there e f bytes other both others)) ∙ sym also_is
+
+  file_refused : (e f : ℕ × Table) (held : Option (List ℕ)) (why also : Cause) → Found e f → FileRefuses a e held why → FileRefuses b f held also → why ≡ also
+  file_refused e f None why also both first second = first ∙ sym second
+  file_refused e f (Some bytes) why also both first second = load_refused e f bytes (is_large_file bytes) why also both first second
+
+  copy_refused : (table : List ℕ) (o p : Option (ℕ × Table)) (held : Option (List ℕ)) (why also : Cause) → BothThere Found o p → CopyRefuses a table o held why → CopyRefuses b table p held also → why ≡ also
+  copy_refused table None None held why also both first second = first ∙ sym second
+  copy_refused table None (Some f) held why also both first second = absurd both
+  copy_refused table (Some e) None held why also both first second = absurd both
+  copy_refused table (Some e) (Some f) held why also both first second = file_refused e f held why also both first second
+
+  copy_printed : (o p : Option (ℕ × Table)) (held : Option (List ℕ)) (x y : List ℕ) → BothThere Found o p → CopyPrints a o held x → CopyPrints b p held y → x ≡ y
+  copy_printed None p held x y both first second = absurd first
+  copy_printed (Some e) None held x y both first second = absurd both
+  copy_printed (Some e) (Some f) None x y both first second = absurd first
+  copy_printed (Some e) (Some f) (Some bytes) x y both (rs, rows, x_is) (qs, others, y_is) =
+      x_is ∙ copy_texts (rows_pending e.1.name rs a) (rows_pending e.1.name rs b) (length rs) (pending_alike a b alike sound.database.mark e.1.name rs)
+      ∙ ap₂ (λ (n : List ℕ) (xs : List (List Value)). copy_text (rows_pending n xs b) (length xs)) both.table.name (rows_loaded_once e.1.columns bytes rs qs rows (there e f bytes (Load.Rows qs) both others))
+      ∙ sym y_is
+
+  copy_left : (o p : Option (ℕ × Table)) (held : Option (List ℕ)) (x y : State) → BothThere Found o p → CopyLeaves a o held x → CopyLeaves b p held y → AreAlikeStates x y
+  copy_left None p held x y both first second = absurd first
+  copy_left (Some e) None held x y both first second = absurd both
+  copy_left (Some e) (Some f) None x y both first second = absurd first
+  copy_left (Some e) (Some f) (Some bytes) x y both (rs, rows, x_is) (qs, others, y_is) =
+      left_alike (rows_loaded e.1.name rs a) (rows_loaded e.1.name rs b) x y x_is
+      (y_is
+      ∙ sym
+      (ap₂ (λ (n : List ℕ) (xs : List (List Value)). rows_loaded n xs b) both.table.name (rows_loaded_once e.1.columns bytes rs qs rows (there e f bytes (Load.Rows qs) both others))))
+      (committed_zip (rows_pending e.1.name rs a) (rows_pending e.1.name rs b) (pending_alike a b alike sound.database.mark e.1.name rs) (can_load a e.1.name rs sound))
+
+  -- ---- functions
+
+  call_refused : (f : Function) (why also : Cause) → IsOther (Statement.Call f) → CallRefuses a f why → CallRefuses b f also → why ≡ also
+  call_refused Function.Lge why also quiet first second = first ∙ sym second
+  call_refused Function.Ahm why also quiet first second = first ∙ sym second
+  call_refused Function.Current why also quiet first second = first ∙ sym second
+  call_refused Function.MakeAhmNow why also quiet first second = absurd first
+  call_refused (Function.SetAhm n) why also quiet first second = absurd first
+  call_refused Function.Moveout why also quiet first second = absurd (quiet.no_moveout refl)
+  call_refused Function.Mergeout why also quiet first second = absurd first
+  call_refused (Function.Purge table) why also quiet first second = absurd first
+  call_refused (Function.Refresh table) why also quiet first second = absurd first
+  call_refused Function.StartRefresh why also quiet first second = absurd first
+
+  call_printed : (f : Function) (p q : List ℕ) → CallPrints a f p → CallPrints b f q → p ≡ q
+  call_printed Function.Lge p q first second = first ∙ ap (λ (n : ℕ). counted_line (codes "LGE ") n) (good_same a b alike) ∙ sym second
+  call_printed Function.Ahm p q first second = first ∙ ap (λ (n : ℕ). counted_line (codes "AHM ") n) alike.database.ahm ∙ sym second
+  call_printed Function.Current p q first second = first ∙ ap (λ (n : ℕ). epoch_line (n + 1)) alike.database.last ∙ sym second
+  call_printed Function.MakeAhmNow p q first second = absurd first
+  call_printed (Function.SetAhm n) p q first second = absurd first
+  call_printed Function.Moveout p q first second = first ∙ sym second
+  call_printed Function.Mergeout p q first second = absurd first
+  call_printed (Function.Purge table) p q first second = absurd first
+  call_printed (Function.Refresh table) p q first second = absurd first
+  call_printed Function.StartRefresh p q first second = absurd first
+
+  call_left : (f : Function) (x y : State) → CallLeaves a f x → CallLeaves b f y → AreAlikeStates x y
+  call_left Function.Lge x y first second = left_alike a b x y first second alike
+  call_left Function.Ahm x y first second = left_alike a b x y first second alike
+  call_left Function.Current x y first second = left_alike a b x y first second alike
+  call_left Function.MakeAhmNow x y first second = absurd first
+  call_left (Function.SetAhm n) x y first second = absurd first
+  call_left Function.Moveout x y first second = all_alike a b x y alike first second
+  call_left Function.Mergeout x y first second = absurd first
+  call_left (Function.Purge table) x y first second = absurd first
+  call_left (Function.Refresh table) x y first second = absurd first
+  call_left Function.StartRefresh x y first second = absurd first
+
+  -- ---- all statements
+
+  refused : HaveOneMeaning → (files : Files) (s : Statement) (why also : Cause) → are_spent a ≡ are_spent b → IsOther s → Refuses a files s why → Refuses b files s also → why ≡ also
+  refused one files (Statement.CreateTable name columns) why also spent quiet first second = first ∙ create_same a b alike name columns spent ∙ sym second
+  refused one files (Statement.CreateProjection p) why also spent quiet first second = first ∙ shape_same a b alike p spent ∙ sym second
+  refused one files (Statement.DropTable name) why also spent quiet first second = first ∙ drop_same a b alike name spent ∙ sym second
+  refused one files (Statement.DropProjection name) why also spent quiet first second = first ∙ unshape_same a b alike name spent ∙ sym second
+  refused one files (Statement.Insert i) why also spent quiet first second = first ∙ insert_same a b alike sound.database.mark i ∙ sym second
+  refused one files (Statement.Delete d) why also spent quiet first second = first ∙ delete_same a b alike sound.database.mark d ∙ sym second
+  refused one files (Statement.Update u) why also spent quiet first second = first ∙ update_same a b alike sound.database.mark one.settings u ∙ sym second
+  refused one files (Statement.Copy table file) why also spent quiet first second =
+      copy_refused table (table_found table a.database.tables) (table_found table b.database.tables) (files file) why also (named table) first second
+  refused one files Statement.Commit why also spent quiet first second = first ∙ commit_alike a b alike.sessions alike.current alike.database.last ∙ sym second
+  refused one files Statement.Rollback why also spent quiet first second = first ∙ sym second
+  refused one files (Statement.Select at q) why also spent quiet first second = one.cause a b files at q why also alike sound.database.mark first second
+  refused one files (Statement.Explain q) why also spent quiet first second = first ∙ refusal_same a b q alike ∙ sym second
+  refused one files (Statement.Call f) why also spent quiet first second = call_refused f why also quiet first second
+  refused one files (Statement.Session n) why also spent quiet first second = first ∙ sym second
+  refused one files Statement.Step why also spent quiet first second = absurd (quiet.no_step refl)
+
+  none_before : (before : Cause) (q : BoundQuery) (rows : List (List (List Value))) → SumRefuses before q rows None → before ≡ None
+  none_before None q rows is = refl
+  none_before (Some refusal) q rows is = absurd (cc)
+
+  -- where a SELECT isn't refused its epoch isn't before the mark
+  in_time : (files : Files) (at : At) (q : Query) → Refuses a files (Statement.Select at q) None → epoch_refusal a.database.ahm a.database.last at ≡ None
+  in_time files at q is =
+      first_none (query_refusal_in a q) (epoch_refusal a.database.ahm a.database.last at)
+      (none_before (first_of (query_refusal_in a q) (epoch_refusal a.database.ahm a.database.last at)) (bound_in a q) (inputs at a q) is)
+
+  printed : HaveOneMeaning → (files : Files) (s : Statement) (p q : List ℕ) → Refuses a files s None → Prints a files s p → Prints b files s q → p ≡ q
+  printed one files (Statement.CreateTable name columns) p q free first second = first ∙ sym second
+  printed one files (Statement.CreateProjection projection) p q free first second = first ∙ sym second
+  printed one files (Statement.DropTable name) p q free first second = first ∙ sym second
+  printed one files (Statement.DropProjection name) p q free first second = first ∙ sym second
+  printed one files (Statement.Insert i) p q free first second = first ∙ sym second
+  printed one files (Statement.Delete d) p q free first second = first ∙ ap (λ (n : ℕ). counted_line (codes "DELETE ") n) (delete_counts a b alike sound.database.mark d) ∙ sym second
+  printed one files (Statement.Update u) p q free first second = first ∙ ap (λ (n : ℕ). counted_line (codes "UPDATE ") n) (update_counts a b alike sound.database.mark u) ∙ sym second
+  printed one files (Statement.Copy table file) p q free first second =
+      copy_printed (table_found table a.database.tables) (table_found table b.database.tables) (files file) p q (named table) first second
+  printed one files Statement.Commit p q free first second = first ∙ commit_texts a b alike ∙ sym second
+  printed one files Statement.Rollback p q free first second = first ∙ sym second
+  printed one files (Statement.Select at query) p q free first second = one.text a b files at query p q alike sound.database.mark (in_time files at query free) first second
+  printed one files (Statement.Explain query) p q free first second = first ∙ explain_same a b query alike ∙ sym second
+  printed one files (Statement.Call f) p q free first second = call_printed f p q first second
+  printed one files (Statement.Session n) p q free first second = first ∙ sym second
+  printed one files Statement.Step p q free first second = first ∙ sym second
+
+  left : (files : Files) (s : Statement) (x y : State) → (s ≡ Statement.Step → ⊥) → Leaves a files s x → Leaves b files s y → AreAlikeStates x y
+  left files (Statement.CreateTable name columns) x y other first second =
+      drawn_alike a b (table_created name columns a) (table_created name columns b) x y first second (created_alike a b alike name columns)
+  left files (Statement.CreateProjection p) x y other first second = drawn_alike a b (projection_created p a) (projection_created p b) x y first second (shaped_alike a b alike p)
+  left files (Statement.DropTable name) x y other first second = drawn_alike a b (table_dropped name a) (table_dropped name b) x y first second (dropped_alike a b alike name)
+  left files (Statement.DropProjection name) x y other first second = drawn_alike a b (projection_dropped name a) (projection_dropped name b) x y first second (unshaped_alike a b alike name)
+  left files (Statement.Insert i) x y other first second =
+      left_alike (rows_pending i.table (inserted_rows i) a) (rows_pending i.table (inserted_rows i) b) x y first second (pending_alike a b alike sound.database.mark i.table (inserted_rows i))
+  left files (Statement.Delete d) x y other first second =
+      left_alike (on_table d.table (rows_deleted d a) a) (on_table d.table (rows_deleted d b) b) x y first second (deleted_alike a b alike sound.database.mark d)
+  left files (Statement.Update u) x y other first second =
+      left_alike (on_table u.table (rows_updated u a) a) (on_table u.table (rows_updated u b) b) x y first second (updated_alike a b alike sound.database.mark u)
+  left files (Statement.Copy table file) x y other first second =
+      copy_left (table_found table a.database.tables) (table_found table b.database.tables) (files file) x y (named table) first second
+  left files Statement.Commit x y other first second = left_alike (changes_committed a) (changes_committed b) x y first second (committed_zip a b alike (can_commit a sound))
+  left files Statement.Rollback x y other first second =
+      left_alike (changes_dropped a) (changes_dropped b) x y first second
+      (record { database = alike.database; sessions = put_alike a b [] [] alike.sessions alike.current tt; current = alike.current; asked = alike.asked })
+  left files (Statement.Select at q) x y other first second = left_alike a b x y first second alike
+  left files (Statement.Explain q) x y other first second = left_alike a b x y first second alike
+  left files (Statement.Call f) x y other first second = call_left f x y first second
+  left files (Statement.Session n) x y other first second =
+      left_alike (record a { current = n }) (record b { current = n }) x y first second (record { database = alike.database; sessions = alike.sessions; current = refl; asked = alike.asked })
+  left files Statement.Step x y other first second = absurd (other refl)
+
+  -- ---- texts
+
+  decided : HaveOneMeaning → (serves : Statement → Bool) (files : Files) (text : List ℕ) (read : Option Statement) (why also : Cause) → are_spent a ≡ are_spent b → IsQuiet text → Reads text read
+      → Decides serves a files text read why → Decides serves b files text read also → why ≡ also
+  decided one serves files text None why also spent quiet reads first second = decided_once serves a files text None why also reads first second (λ moveout. absurd (quiet.no_moveout moveout))
+  decided one serves files text (Some s) why also spent quiet reads first second = by (serves s) first second
+    where
+      by : (served : Bool) → RefusesForm a files s served why → RefusesForm b files s served also → why ≡ also
+      by true here other = refused one files s why also spent (others_read text (Some s) quiet reads) here other
+      by false here other = here ∙ sym other
+
+  -- what isn't refused is of a form that is served
+  free_of : (files : Files) (s : Statement) (served : Bool) → RefusesForm a files s served None → Refuses a files s None
+  free_of files s true is = is
+  free_of files s false is = absurd (cc)
+
+  effected : HaveOneMeaning → (serves : Statement → Bool) (files : Files) (text : List ℕ) (read : Option Statement) (why : Cause) (p q : List ℕ) (x y : State) → Others read
+      → Decides serves a files text read why → Effect a files read why p x → Effect b files read why q y → (p ≡ q) × AreAlikeStates x y
+  effected one serves files text read (Some refusal) p q x y quiet is (first, leaves) (second, leaves_too) =
+      (first ∙ sym second, left_alike a b x y (text_stays a read x quiet leaves) (text_stays b read y quiet leaves_too) alike)
+  effected one serves files text (Some s) None p q x y quiet is (first, leaves) (second, leaves_too) =
+      (printed one files s p q (free_of files s (serves s) is) first second, left files s x y quiet.no_step leaves leaves_too)
+  effected one serves files text None None p q x y quiet is first second = absurd first
+
+  -- what isn't refused, a moveout of all too
+  went : HaveOneMeaning → (serves : Statement → Bool) (files : Files) (text : List ℕ) (read : Option Statement) (p q : List ℕ) (x y : State) → IsStepless text → Reads text read
+      → Decides serves a files text read None → Effect a files read None p x → Effect b files read None q y → (p ≡ q) × AreAlikeStates x y
+  went one serves files text None p q x y stepless reads is first second = absurd first
+  went one serves files text (Some s) p q x y stepless reads is (first, leaves) (second, leaves_too) = (
+    printed one files s p q (free_of files s (serves s) is) first second,
+    left files s x y (λ step. stepless (subst (λ (t : Statement). Spells (symbols_of text) t) step reads)) leaves leaves_too,
+  )
+
+pub steps_alike : OneReading → HaveOneMeaning → AlikeStatesStepAlike
+steps_alike reading one serves a b files text p q why also m n alike sound quiet spent first second =
+    let same : first.read ≡ second.read = read_once reading text first.read second.read first.reads second.reads in
+    let quiet_read : Others second.read = others_read text second.read quiet second.reads in
+    let here : Decides serves a files text second.read why = subst (λ (r : Option Statement). Decides serves a files text r why) same first.decided in
+    let cause : why ≡ also = decided a b alike sound one serves files text second.read why also spent quiet second.reads here second.decided in
+    let effect : Effect a files second.read also p m =
+    subst (λ (r : Cause). Effect a files second.read r p m) cause (subst (λ (r : Option Statement). Effect a files r why p m) same first.effect) in
+    let both =
+    effected a b alike sound one serves files text second.read also p q m n quiet_read (subst (λ (r : Cause). Decides serves a files text second.read r) cause here) effect second.effect in
+    (both.0, cause, both.1)
+
+pub unrefused_alike : OneReading → HaveOneMeaning → UnrefusedStepsAlike
+unrefused_alike reading one serves a b files text p q m n alike sound stepless first second =
+    let same : first.read ≡ second.read = read_once reading text first.read second.read first.reads second.reads in
+    went a b alike sound one serves files text second.read p q m n stepless second.reads (subst (λ (r : Option Statement). Decides serves a files text r None) same first.decided)
+    (subst (λ (r : Option Statement). Effect a files r None p m) same first.effect) second.effect
+
+-- ---- a moveout of all
+
+abbrev moveout : Statement
+moveout = Statement.Call Function.Moveout
+
+one_fate : (x y : Bool) (why also : Cause) → why ≡ refused_where x Refusal.NumbersSpent → also ≡ refused_where y Refusal.NumbersSpent → is_some why ≡ is_some also → why ≡ also
+one_fate true true why also why_is also_is fate = why_is ∙ sym also_is
+one_fate true false why also why_is also_is fate = absurd (cc)
+one_fate false true why also why_is also_is fate = absurd (cc)
+one_fate false false why also why_is also_is fate = why_is ∙ sym also_is
+
+moveout_refused : (a b : State) (files : Files) (served : Bool) (why also : Cause) → is_some why ≡ is_some also → RefusesForm a files moveout served why → RefusesForm b files moveout served also → why ≡ also
+moveout_refused a b files true why also fate (x, new, moved, why_is) (y, other, also_moved, also_is) = one_fate x y why also why_is also_is fate
+moveout_refused a b files false why also fate first second = first ∙ sym second
+
+moveout_effected : (a b : State) (files : Files) (why : Cause) (p q : List ℕ) (x y : State) → AreAlikeStates a b → Effect a files (Some moveout) why p x → Effect b files (Some moveout) why q y → (p ≡ q) × (why ≡ None → AreAlikeStates x y)
+moveout_effected a b files (Some refusal) p q x y alike (first, leaves) (second, leaves_too) = (first ∙ sym second, λ none. absurd (cc))
+moveout_effected a b files None p q x y alike (first, leaves) (second, leaves_too) = (first ∙ sym second, λ none. all_alike a b x y alike leaves leaves_too)
+
+pub moveouts_alike : OneReading → MoveoutsStepAlike
+moveouts_alike reading serves a b files text p q why also m n alike spelled fate first second =
+    let here : first.read ≡ Some moveout = read_once reading text first.read (Some moveout) first.reads spelled in
+    let there : second.read ≡ Some moveout = read_once reading text second.read (Some moveout) second.reads spelled in
+    let cause : why ≡ also =
+    moveout_refused a b files (serves moveout) why also fate (subst (λ (r : Option Statement). Decides serves a files text r why) here first.decided)
+    (subst (λ (r : Option Statement). Decides serves b files text r also) there second.decided) in
+    let effect : Effect a files (Some moveout) also p m = subst (λ (r : Cause). Effect a files (Some moveout) r p m) cause (subst (λ (r : Option Statement). Effect a files r why p m) here first.effect) in
+    let both = moveout_effected a b files also p q m n alike effect (subst (λ (r : Option Statement). Effect b files r also q n) there second.effect) in
+    (both.0, cause, λ none. both.1 (sym cause ∙ none))
