@@ -1,0 +1,9 @@
+pub mod Spelled
+pub mod Sums
+pub mod Listed
+pub mod Moves
+pub mod Loaded
+pub mod Answered
+pub mod Stepped
+pub mod Ran
+pub mod Unlined
