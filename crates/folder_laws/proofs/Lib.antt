@@ -1,0 +1,4 @@
+pub mod Whole
+pub mod Alike
+pub mod Begun
+pub mod Open

@@ -1,0 +1,38 @@
+-- The laws that the next run over a folder has one text.
+use Rattle.std.specs.Prelude.{ℕ, ◌≡◌, List, Bool, false}
+use Rattle.std.specs.List.{All}
+use Rattle.common_laws.specs.Maps.{Contents}
+use Rattle.sql_words.specs.Texts.{statement_texts}
+use Rattle.db_model.specs.Alike.{AreAlikeStates}
+use Rattle.db_model.specs.Database.{Database}
+use Rattle.db_model.specs.Run.{Run, Setting}
+use Rattle.db_model.specs.State.{State, opened_with}
+use Rattle.one_text.specs.Scripts.{IsQuiet}
+use Rattle.alike_steps.specs.Runs.{HaveNumbersLeft}
+use Rattle.alike_steps.specs.Steps.{IsStepless}
+use Rattle.folder_model.specs.Reopening.{Reopens}
+
+-- a state with which a run over a folder begins: over a database that it reopens to, with some numbers of the storage
+pub record IsOpening (m : Contents) (start : State) : Type 0 where
+  pub database : Database
+  pub reopens : Reopens m database
+  pub next : ℕ
+  pub parts : ℕ
+  pub same : start ≡ opened_with next parts database
+
+-- Two runs over one folder of a script that asks the mover for nothing print the same, some statement is refused in both or in none, and
+-- they leave alike states.
+abbrev pub FoldersRunAlike : Type 0
+FoldersRunAlike =
+    (m : Contents) (setting : Setting) (start begin : State) (script printed other : List ℕ) (refused also : Bool) (new left : State)
+    → IsOpening m start → IsOpening m begin → setting.steps ≡ 0 → All IsQuiet (statement_texts script) → HaveNumbersLeft new left
+    → Run setting start script printed refused new → Run setting begin script other also left
+    → (printed ≡ other) × (refused ≡ also) × AreAlikeStates new left
+
+-- So do scripts in which moveouts of all stand, where no statement is refused in either run.
+abbrev pub FoldersGoThrough : Type 0
+FoldersGoThrough =
+    (m : Contents) (setting : Setting) (start begin : State) (script printed other : List ℕ) (new left : State)
+    → IsOpening m start → IsOpening m begin → setting.steps ≡ 0 → All IsStepless (statement_texts script)
+    → Run setting start script printed false new → Run setting begin script other false left
+    → (printed ≡ other) × (HaveNumbersLeft new left → AreAlikeStates new left)
