@@ -103,4 +103,5 @@ def main():
     print(len(script) - 2, "statements")
 
 
-main()
+if __name__ == "__main__":
+    main()
