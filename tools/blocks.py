@@ -18,6 +18,9 @@ CONDITIONS = [
     "w = 'yew' AND n = 50", "w > 'pine' AND n < 3", "w < 'b' AND k < 40", "w = ''", "w = 'zzz'", "w BETWEEN 'a' AND 'b' AND n = 0", "f = TRUE AND k > 4980", "NOT f AND k < 20",
     "f AND n = 13", "k = 9223372036854775807", "k > - 5 AND k < 4", "k < 9223372036854775807 * 9223372036854775807 AND k > 4997", "k = 3 OR k = 4000", "k IN (5, 1030, 4999)", "k <> 1 AND k < 4",
     "k + 1 = 3000", "k = n", "n = k AND k < 100",
+    "k < 3 OR k = 6 OR k BETWEEN 1023 AND 1026", "k <= 2 OR k > 4998", "k = 1030 OR n = -3", "k = 3 OR w = 'zzz' OR k + 0 = 4000", "(k > 10 AND k < 13) OR (k > 4000 AND k < 4003)",
+    "(k = 5 AND n > 3) OR (n > 97 AND k < 9)", "n IN (98, 99, NULL) AND k < 600", "n = 98 OR n IS NULL AND k < 50", "w IN ('yew', 'ash') AND k IN (9, 17, 4990)", "w = 'yew' AND k < 30 OR w > 'pine' AND k > 4980",
+    "k < 4 OR 4998 < k", "NOT (k > 3 OR n > 5)", "k = NULL OR k = 77",
 ]
 
 

@@ -2,3 +2,4 @@ pub mod Ends
 pub mod Comparisons
 pub mod Parts
 pub mod Fronts
+pub mod Hulls

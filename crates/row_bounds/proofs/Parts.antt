@@ -20,11 +20,11 @@ both_true None None e = absurd cc
 both_true None (Some false) e = absurd cc
 both_true None (Some true) e = absurd cc
 
-truth_told : (o : Option Bool) → is_true (truth o) ≡ true → o ≡ Some true
+pub truth_told : (o : Option Bool) → is_true (truth o) ≡ true → o ≡ Some true
 truth_told None e = absurd cc
 truth_told (Some b) e = ap Some e
 
-told_true : (w : Wide) → truth_in w ≡ Some true → is_true w ≡ true
+pub told_true : (w : Wide) → truth_in w ≡ Some true → is_true w ≡ true
 told_true wide.Null e = absurd cc
 told_true (wide.Bool true) e = refl
 told_true (wide.Bool false) e = absurd cc

@@ -1,7 +1,7 @@
 //! The bounds that conditions set.
 
 ghost use Rattle.std.specs.Prelude.{◌≡◌, ◌<◌, true, List, IfOk, OnOk};
-ghost use Rattle.std.specs.List.{All, slice_index_or};
+ghost use Rattle.std.specs.List.{All, list_any, slice_index_or};
 ghost use Rattle.std.specs.Option.{IfSome};
 ghost use Rattle.col_value.specs.declared.value.Value.{Value as Item};
 ghost use Rattle.col_value.specs.declared.value.Value.TheVariants.{Null};
@@ -12,13 +12,14 @@ ghost use Rattle.sql_bound.specs.Values.{compared, is_true, of_row, value_of};
 ghost use Rattle.row_bounds.specs.Bounds.{lies_in, within};
 
 use crate::bound::Bound;
+use crate::hull::hulls;
 use col_value::{Value, Wide};
 use sql_bound::Expr;
 use sql_tree::Cmp;
 use std::alloc::{AllocError, Global};
 
 /// The bounds that conditions set to the values of a row's first columns, of which there are so many. A condition that compares a column
-/// with a literal sets one, and so does each part of an AND.
+/// with a literal sets one, and so does each part of an AND; an OR sets those from the least to the greatest value of all its parts.
 pub fn bounds_of(alloc: Global, keep: &[Expr], columns: usize) -> Result<Vec<Bound>, AllocError>
     ensures own { IfOk result (λ v. All (λ b. b.column < columns) v.items) }
     ensures kept { IfOk result (λ v. (row : List Item) → is_kept keep.now row ≡ true → within v.items row ≡ true) }
@@ -43,6 +44,7 @@ fn add_bounds(
     match e {
         Expr::Compare(a, cmp, b) => add_compared(alloc, a.get(), *cmp, b.get(), columns, out),
         Expr::And(parts) => add_all(alloc, parts.as_slice(), columns, out),
+        Expr::Or(parts) => add_some(alloc, parts.as_slice(), columns, out),
         Expr::Lit(_)
         | Expr::Col(_)
         | Expr::Key(_)
@@ -51,8 +53,7 @@ fn add_bounds(
         | Expr::Sum(_)
         | Expr::Product(_)
         | Expr::IsNull(_)
-        | Expr::Not(_)
-        | Expr::Or(_) => Ok(()),
+        | Expr::Not(_) => Ok(()),
     }
 }
 
@@ -72,6 +73,31 @@ fn add_all(
         add_bounds(alloc, part, columns, out)?;
     }
     Ok(())
+}
+
+/// Adds the bounds of a row on which one of some conditions is true.
+#[cycle(adding)]
+fn add_some(
+    alloc: Global,
+    parts: &[Expr],
+    columns: usize,
+    out: &mut Vec<Bound>,
+) -> Result<(), AllocError>
+    requires own { All (λ b. b.column < columns) out.old.items }
+    ensures own { OnOk result (All (λ b. b.column < columns) out.new.items) }
+    ensures kept { OnOk result ((row : List Item) → list_any (λ e. is_true (value_of (of_row row) e)) parts.now ≡ true → within out.old.items row ≡ true → within out.new.items row ≡ true) }
+{
+    let [first, later @ ..] = parts else {
+        return Ok(());
+    };
+    let mut shared = Vec::new(alloc);
+    add_bounds(alloc, first, columns, &mut shared)?;
+    for part in later {
+        let mut others = Vec::new(alloc);
+        add_bounds(alloc, part, columns, &mut others)?;
+        shared = hulls(alloc, shared, others.as_slice())?;
+    }
+    out.append(&mut shared)
 }
 
 /// Adds the bound that a comparison sets to one of the first columns, if it sets one.

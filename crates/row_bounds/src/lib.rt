@@ -7,6 +7,7 @@
 
 mod bound;
 mod finding;
+mod hull;
 mod laws;
 
 pub use bound::Bound;

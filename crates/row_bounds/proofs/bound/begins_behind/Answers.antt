@@ -1,8 +1,7 @@
-use Rattle.std.proofs.Common.{◌≡◌, true, ◌∙◌, ap, sym, rules}
-use Rattle.std.specs.Ordering.{is_lt}
+use Rattle.std.proofs.Common.{true, ◌∙◌, ap}
 use Rattle.col_value.specs.Order.{value_cmp}
 use Rattle.std.specs.Option.{option_map_or}
-use Rattle.std.specs.Prelude.{Bool, Option}
+use Rattle.std.specs.Prelude.{Option}
 use Rattle.std.specs.Ordering.{is_le}
 use Rattle.col_value.specs.declared.value.Value.{Value}
 use Rattle.row_bounds.proofs.Ends.{stands_below, told_lt}

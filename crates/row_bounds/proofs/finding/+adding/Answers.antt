@@ -1,11 +1,36 @@
-use Rattle.std.proofs.Common.{◌∙◌, List, ap}
+use Rattle.std.proofs.Common.{◌≡◌, ◌<◌, ◌+◌, [], ◌∙◌, List, length, get_or, ap, rules}
+use Rattle.std.specs.List.{list_any}
 use Rattle.std.proofs.lemmas.Result.{on_ok_weaker}
 use Rattle.sql_bound.specs.declared.expr.Expr.{Expr}
 use Rattle.sql_bound.specs.Outputs.{is_kept}
+use Rattle.sql_bound.specs.Values.{is_true, of_row, value_of}
 use Rattle.row_bounds.proofs.Parts.{and_holds}
+use Rattle.row_bounds.specs.declared.bound.Bound.{Bound}
+use Rattle.row_bounds.specs.Bounds.{within}
+use Rattle.row_bounds.proofs.Hulls.{later_at, or_holds, shares_more}
 use Rattle.row_bounds.proofs.finding.+adding.Goals as goal
 
 pub add_bounds-returns-in-And-clause-kept : goal.add_bounds-returns-in-And-clause-kept
 add_bounds-returns-in-And-clause-kept t c =
     on_ok_weaker c.add_all.result
     (λ more row is. more row (ap (λ (ps : List Expr). is_kept ps row) c.as_slice.ensures ∙ and_holds row c.args.e.now c.in-And.parts c.in-And.is is)) c.add_all.ensures.kept
+
+pub add_bounds-returns-in-Or-clause-kept : goal.add_bounds-returns-in-Or-clause-kept
+add_bounds-returns-in-Or-clause-kept t c =
+    on_ok_weaker c.add_some.result
+    (λ more row is. more row (ap (list_any (λ (e : Expr). is_true (value_of (of_row row) e))) c.as_slice-in-Or.ensures ∙ or_holds row c.args.e.now c.in-Or.parts c.in-Or.is is)) c.add_some.ensures.kept
+
+pub add_some-loop-part-preserved : goal.add_some-loop-part-preserved
+add_some-loop-part-preserved t c =
+    let i = c.loop-part.part-index + 1 in
+    let shared = c.loop-part.shared.items in
+    let others = c.add_bounds-in-loop-part.new.out.items in
+    let lt : i < length c.args.parts.now = search rules in
+    let is : c.part-item.result ≡ get_or c.args.parts.now i c.part-item.result = later_at c.args.parts.now c.loop-part.part-index c.part-item.result lt c.part-item.is in
+    let none : c.new-others.result.items ≡ [] = c.new-others.ensures.items in
+    let told : c.as_slice.result.now ≡ others = c.as_slice.ensures.value in (
+      c.in_ok-shared.ensures.own c.args.columns c.loop-part.invariant.0,
+      shares_more c.args.parts.now i c.part-item.result shared others c.in_ok-shared.shared.items lt is c.loop-part.invariant.1
+          (λ row holds. c.in_ok-add_bounds-2.ensures.kept row holds (ap (λ (bs : List Bound). within bs row) none)) c.in_ok-shared.ensures.first
+          (λ row w. c.in_ok-shared.ensures.second row (ap (λ (bs : List Bound). within bs row) told ∙ w)),
+    )
