@@ -17,7 +17,7 @@ use Rattle.ros_container.specs.Encodings.{encoding_at}
 use Rattle.ros_container.specs.Files.{body_of, index_of}
 use Rattle.ros_container.specs.Held.{HoldsContainer}
 use Rattle.ros_container.specs.Rows.{column_values, epoch_values, stored_values}
-use Rattle.ros_container.proofs.Writing.{stored_column, stored_epochs, epochs_auto}
+use Rattle.ros_container.proofs.Stored.{stored_column, stored_epochs, epochs_auto}
 use Rattle.container_blocks.specs.Blocks.{rows_in, AreBlock}
 use Rattle.container_blocks.specs.Parts.{ArePart}
 

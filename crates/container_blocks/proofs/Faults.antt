@@ -21,7 +21,7 @@ use Rattle.ros_container.specs.Encodings.{encoding_at}
 use Rattle.ros_container.specs.Files.{body_of, index_of}
 use Rattle.ros_container.specs.Held.{BlamesContainer}
 use Rattle.ros_container.specs.Rows.{IsEpochOf}
-use Rattle.ros_container.proofs.Writing.{epochs_auto}
+use Rattle.ros_container.proofs.Stored.{epochs_auto}
 use Rattle.container_blocks.specs.Blocks.{IsIndexOf, HasIndex}
 use Rattle.container_blocks.specs.Parts.{ArePart}
 use Rattle.container_blocks.proofs.OneBlock.{part_of}

@@ -8,7 +8,7 @@ use Rattle.col_value.specs.declared.row.Asked.{Asked}
 use Rattle.col_value.specs.declared.value.Value.{Value}
 use Rattle.col_value.specs.declared.value.Value.TheVariants as value
 use Rattle.ros_container.specs.Rows.{epoch_values, stored_values}
-use Rattle.ros_container.proofs.Writing.{stored_epochs}
+use Rattle.ros_container.proofs.Stored.{stored_epochs}
 use Rattle.container_blocks.specs.Blocks.{rows_in, AreEpochs}
 use Rattle.container_blocks.specs.Parts.{ArePart}
 use Rattle.container_blocks.proofs.Columns.{part_block}

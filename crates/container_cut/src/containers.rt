@@ -16,7 +16,7 @@ ghost use Rattle.container_cut.specs.Listed.{IsBelow};
 ghost use Rattle.container_cut.specs.Cutting.{Between, CutsContainers};
 ghost use Rattle.container_cut.specs.Blamed.{BlamesOne, BlamesProjection};
 
-use crate::rows::rows_upto;
+use crate::rows::{refs, rows_upto};
 use catalog_types::{Container, Projection};
 use col_disk::{Disk, StoreFault};
 use col_value::Asked;
@@ -169,7 +169,11 @@ fn cut_inserts<D: Disk>(
         Ok(left) => left,
         Err(AllocError) => return Err(StoreFault::Memory),
     };
-    match write_stamped(alloc, disk, shape, left, container.level, next) {
+    let kept = match refs(alloc, left.as_slice()) {
+        Ok(kept) => kept,
+        Err(AllocError) => return Err(StoreFault::Memory),
+    };
+    match write_stamped(alloc, disk, shape, kept, container.level, next) {
         Ok(written) => within(written, most),
         Err(fault) => Err(StoreFault::from(fault)),
     }

@@ -1,11 +1,13 @@
 //! Rows up to an epoch.
 
-ghost use Rattle.std.specs.Prelude.{◌≡◌, IfOk};
+ghost use Rattle.std.specs.Prelude.{◌≡◌, map, IfOk};
 ghost use Rattle.del_vector.specs.Marks.{epoch_at};
 ghost use Rattle.row_history.specs.History.{stamped, cut_row, cut_rows};
 ghost use Rattle.stored_rows.specs.Held.{stamped_from};
+ghost use Rattle.container_writer.specs.Ordered.{stamped_of};
 
 use col_value::{Asked, Stamped};
+use container_writer::StampedRef;
 use del_vector::DelVector;
 use std::alloc::{AllocError, Global};
 
@@ -64,4 +66,19 @@ pub fn rows_upto(
     ensures { IfOk result (λ v. v.items ≡ cut_rows epoch (stamped_from 0 (epoch_at marks.now.marks) rows.items)) }
 {
     cut_rows(alloc, with_marks(alloc, rows, marks)?, epoch)
+}
+
+/// The rows where they stand.
+pub fn refs(alloc: Global, rows: &[Stamped]) -> Result<Vec<StampedRef<'_>>, AllocError>
+    ensures { IfOk result (λ v. map stamped_of v.items ≡ rows.now) }
+{
+    let mut out = Vec::with_capacity(alloc, rows.len())?;
+    for stamped in rows {
+        out.push(StampedRef {
+            row: &stamped.row,
+            ins: stamped.ins,
+            del: stamped.del,
+        })?;
+    }
+    Ok(out)
 }

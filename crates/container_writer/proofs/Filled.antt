@@ -23,8 +23,9 @@ use Rattle.del_vector.specs.declared.mark.Mark.{Mark}
 use Rattle.del_vector.specs.Marks.{epoch_at}
 use Rattle.stored_rows.specs.Held.{HoldsVector, stamped_from, greatest_epoch}
 use Rattle.stored_rows.specs.Listed.{vector_file}
-use Rattle.container_writer.specs.declared.ordering.Keyed.{Keyed}
-use Rattle.container_writer.specs.Ordered.{restamp, del_at}
+use Rattle.container_writer.specs.declared.refs.Keyed.{Keyed}
+use Rattle.container_writer.specs.declared.refs.StampedRef.{StampedRef}
+use Rattle.container_writer.specs.Ordered.{asked_of, del_at, restamp, stamped_of}
 use Rattle.container_writer.specs.Writing.{listed, HoldsOne, HoldsBag, DataFrom, IsNumbered, with_vector}
 use Rattle.container_writer.proofs.Marks.{as_written}
 
@@ -59,31 +60,31 @@ rows_stay m n es columns base number k rows wide at behind changed held =
     let is = f.2 in
     changed_kept (Named (vector_file number)) NoName m n q (λ same. omega (arith, wide, at, behind, within, is, same)) (λ x. x) changed) held
 
-pub one_held : {D : Type 0} (disk : Ghosts D) {mid new : D} (es : List Encoding) (columns base number : ℕ) (entry k : Container) (rows : List Asked) (marks : List Mark)
-    → length es ≡ columns → number ≡ base + file_count columns → entry.base ≡ base → entry.rows ≡ length rows → AreWithin entry rows → k ≡ with_vector number marks entry
-    → ((m : Contents) → disk.holds mid ≡ Some m → (j : Container) → j.base ≡ base → j.rows ≡ length rows → AreWithin j rows → HoldsContainer m es j rows)
+pub one_held : {D : Type 0} (disk : Ghosts D) {mid new : D} (es : List Encoding) (columns base number count : ℕ) (entry k : Container) (rows : List Asked) (marks : List Mark)
+    → length es ≡ columns → number ≡ base + file_count columns → entry.base ≡ base → entry.rows ≡ count → AreWithin entry rows → k ≡ with_vector number marks entry
+    → ((m : Contents) → disk.holds mid ≡ Some m → (j : Container) → j.base ≡ base → j.rows ≡ count → AreWithin j rows → HoldsContainer m es j rows)
     → ((m : Contents) → disk.holds new ≡ Some m → HoldsVector m k marks) → Moved disk (Named (vector_file number)) NoName mid new
     → (m : Contents) → disk.holds new ≡ Some m → HoldsOne m es k (stamped_from 0 (epoch_at marks) rows)
-one_held disk es columns base number entry k rows marks wide behind at long within is held vector moved m told =
+one_held disk es columns base number count entry k rows marks wide behind at long within is held vector moved m told =
     let before = told_before disk m told moved in
     let k_base : k.base ≡ base = ap (λ (j : Container). j.base) is ∙ at in
-    let k_rows : k.rows ≡ length rows = ap (λ (j : Container). j.rows) is ∙ long in
+    let k_rows : k.rows ≡ count = ap (λ (j : Container). j.rows) is ∙ long in
     let k_within : AreWithin k rows = subst (λ (j : Container). AreWithin j rows) (sym is) within in
     let here : HoldsContainer before.0 es k rows = held before.0 before.1 k k_base k_rows k_within in
     (marks, vector m told, (rows, rows_stay before.0 m es columns base number k rows wide k_base behind before.2 here, refl))
 
 -- ---- rows
 
-pub bag_of_none : (m : Contents) (es : List Encoding) (rows : List Stamped) → rows ≡ [] → HoldsBag m es (listed None) rows
-bag_of_none m es rows is = ([], refl, subst (λ (xs : List Stamped). SameBag xs []) (sym is) (bag_refl []))
+pub bag_of_none : (m : Contents) (es : List Encoding) (rows : List StampedRef) → rows ≡ [] → HoldsBag m es (listed None) (map stamped_of rows)
+bag_of_none m es rows is = ([], refl, subst (λ (xs : List StampedRef). SameBag (map stamped_of xs) []) (sym is) (bag_refl []))
 
-pub bag_of_one : (m : Contents) (es : List Encoding) (k : Container) (rows : List Stamped) (sorted : List Keyed) (asked : List Asked) (marks : List Mark) → asked ≡ map (λ r. r.asked) sorted
-    → ((i : ℕ) → epoch_at marks i ≡ del_at sorted i) → SameBag rows (map restamp sorted) → HoldsOne m es k (stamped_from 0 (epoch_at marks) asked) → HoldsBag m es (listed (Some k)) rows
-bag_of_one m es k rows sorted asked marks asked_is deleted same (own, vector, marked) =
-    let held : List Stamped = stamped_from 0 (epoch_at marks) asked in (
+pub bag_of_one : (m : Contents) (es : List Encoding) (k : Container) (rows : List Stamped) (sorted : List Keyed) (marks : List Mark) → ((i : ℕ) → epoch_at marks i ≡ del_at sorted i)
+    → SameBag rows (map restamp sorted) → HoldsOne m es k (stamped_from 0 (epoch_at marks) (map asked_of sorted)) → HoldsBag m es (listed (Some k)) rows
+bag_of_one m es k rows sorted marks deleted same (own, vector, marked) =
+    let held : List Stamped = stamped_from 0 (epoch_at marks) (map asked_of sorted) in (
       held,
       (own, held, [], vector, marked, refl, sym (append-nil held)),
-      subst (SameBag rows) (sym (as_written sorted asked marks asked_is deleted)) same,
+      subst (SameBag rows) (sym (as_written sorted marks deleted)) same,
     )
 
 pub nothing_there : {X : Type 0} (xs : List X) → length xs ≡ 0 → xs ≡ []
@@ -125,10 +126,9 @@ pub both_ok : {T E : Type 0} (P Q R : T → Type 0) (r : Result T E) → ((t : T
 both_ok P Q R (Ok t) f p q = f t p q
 both_ok P Q R (Err e) f p q = tt
 
-pub some_written : (rows : List Stamped) (sorted : List Keyed) (asked : List Asked) → SameBag rows (map restamp sorted) → asked ≡ map (λ k. k.asked) sorted → 0 < length rows → 0 < length asked
-some_written rows sorted asked same is some =
-    let first = bag_length rows (map restamp sorted) same in
+pub some_written : (rows : List StampedRef) (sorted : List Keyed) → SameBag (map stamped_of rows) (map restamp sorted) → 0 < length rows → 0 < length sorted
+some_written rows sorted same some =
+    let first = bag_length (map stamped_of rows) (map restamp sorted) same in
     let second = length-map sorted restamp in
-    let third = length-map sorted (λ k. k.asked) in
-    let last = ap (λ (xs : List Asked). length xs) is in
-    omega (arith, first, second, third, last, some)
+    let third = length-map rows stamped_of in
+    omega (arith, first, second, third, some)

@@ -1,4 +1,5 @@
-pub mod Orders
+pub mod ByColumn
 pub mod Epochs
-pub mod Marks
 pub mod Filled
+pub mod Marks
+pub mod Orders

@@ -5,17 +5,16 @@ use Rattle.std.specs.List.{All}
 use Rattle.std.proofs.lemmas.Bool.{cases_Bool, eqb-true, eq-eqb, ltb-true}
 use Rattle.std.proofs.lemmas.List.{take_more, length-take, length-take-le, take_all}
 use Rattle.std.proofs.lemmas.List.Elements.{All-cons, All-head, All-tail, All-weaker}
-use Rattle.col_value.specs.declared.row.Asked.{Asked}
 use Rattle.col_value.specs.declared.row.Stamped.{Stamped}
 use Rattle.row_history.specs.History.{stamped}
 use Rattle.del_vector.specs.declared.mark.Mark.{Mark}
 use Rattle.del_vector.specs.Marks.{epoch_at, with_mark}
 use Rattle.stored_rows.specs.Held.{stamped_from}
-use Rattle.container_writer.specs.declared.ordering.Keyed.{Keyed}
-use Rattle.container_writer.specs.Ordered.{restamp, del_at}
+use Rattle.container_writer.specs.declared.refs.Keyed.{Keyed}
+use Rattle.container_writer.specs.Ordered.{asked_of, del_at, restamp}
 
 -- the delete epochs of rows with one more
-last_del : (rows : List Keyed) (k : Keyed) (p : ℕ) → p ≡ length rows → del_at (rows ++ k ∷ []) p ≡ k.del
+last_del : (rows : List Keyed) (k : Keyed) (p : ℕ) → p ≡ length rows → del_at (rows ++ k ∷ []) p ≡ k.stamped.del
 last_del [] k zero at = refl
 last_del [] k (suc p) at = absurd (omega (arith, at))
 last_del (r ∷ rows) k zero at = absurd (omega (arith, at))
@@ -27,7 +26,7 @@ other_del [] k (suc p) other = refl
 other_del (r ∷ rows) k zero other = refl
 other_del (r ∷ rows) k (suc p) other = other_del rows k p (λ at. other (ap suc at))
 
-del_next : (rows : List Keyed) (i : ℕ) (k : Keyed) (p : ℕ) → i < length rows → k ≡ get_or rows i k → del_at (take (i + 1) rows) p ≡ cond (eqb i p) k.del (del_at (take i rows) p)
+del_next : (rows : List Keyed) (i : ℕ) (k : Keyed) (p : ℕ) → i < length rows → k ≡ get_or rows i k → del_at (take (i + 1) rows) p ≡ cond (eqb i p) k.stamped.del (del_at (take i rows) p)
 del_next rows i k p lt is =
     ap (λ (ks : List Keyed). del_at ks p) (take_more rows i k lt ∙ ap (λ (x : Keyed). take i rows ++ x ∷ []) (sym is))
     ∙ elim (cases_Bool (eqb i p)) [
@@ -86,12 +85,12 @@ marks_none rows marks is = subst (AreMarksOf rows 0) (sym is) (record { deleted 
 pub no_mark : (rows : List Keyed) (i p : ℕ) (marks : List Mark) → i ≤ p → AreMarksOf rows i marks → epoch_at marks p ≡ None
 no_mark rows i p marks le are = are.deleted p ∙ past (take i rows) p (let short = length-take i rows in omega (arith, le, short))
 
-pub marks_skip : (rows : List Keyed) (i : ℕ) (k : Keyed) (marks : List Mark) → i < length rows → k ≡ get_or rows i k → k.del ≡ None → AreMarksOf rows i marks → AreMarksOf rows (i + 1) marks
+pub marks_skip : (rows : List Keyed) (i : ℕ) (k : Keyed) (marks : List Mark) → i < length rows → k ≡ get_or rows i k → k.stamped.del ≡ None → AreMarksOf rows i marks → AreMarksOf rows (i + 1) marks
 marks_skip rows i k marks lt is none are = record {
   deleted = λ p. same p ∙ sym (del_next rows i k p lt is);
   within = All-weaker (λ e. e.position < i) (λ e. e.position < i + 1) (λ e h. omega (arith, h)) marks are.within;
 } where
-  same : (p : ℕ) → epoch_at marks p ≡ cond (eqb i p) k.del (del_at (take i rows) p)
+  same : (p : ℕ) → epoch_at marks p ≡ cond (eqb i p) k.stamped.del (del_at (take i rows) p)
   same p =
       elim (cases_Bool (eqb i p)) [
         | inl t ↦ rw t (no_mark rows i p marks (let at = eqb-true i p t in omega (arith, at)) are ∙ sym none)
@@ -106,7 +105,7 @@ all_with P n (m ∷ ms) p all =
       | inr f ↦ rw f (All-cons P n (m ∷ ms) p all)
     ]
 
-pub marks_add : (rows : List Keyed) (i : ℕ) (k : Keyed) (e : ℕ) (marks new : List Mark) → i < length rows → k ≡ get_or rows i k → k.del ≡ Some e → new ≡ with_mark (record { position = i; epoch = e }) marks
+pub marks_add : (rows : List Keyed) (i : ℕ) (k : Keyed) (e : ℕ) (marks new : List Mark) → i < length rows → k ≡ get_or rows i k → k.stamped.del ≡ Some e → new ≡ with_mark (record { position = i; epoch = e }) marks
     → AreMarksOf rows i marks → AreMarksOf rows (i + 1) new
 marks_add rows i k e marks new lt is some new_is are = subst (AreMarksOf rows (i + 1)) (sym new_is) (record {
   deleted = λ p.
@@ -128,9 +127,9 @@ first_at f k o is = let same : k + 0 ≡ k = omega arith in sym (ap f same) ∙ 
 rest_at : (f : ℕ → Option ℕ) (k : ℕ) (r : Keyed) (rows : List Keyed) → ((i : ℕ) → f (k + i) ≡ del_at (r ∷ rows) i) → (i : ℕ) → f ((k + 1) + i) ≡ del_at rows i
 rest_at f k r rows is i = let same : (k + 1) + i ≡ k + suc i = omega arith in ap f same ∙ is (suc i)
 
-restamped : (k : ℕ) (f : ℕ → Option ℕ) (rows : List Keyed) → ((i : ℕ) → f (k + i) ≡ del_at rows i) → stamped_from k f (map (λ r. r.asked) rows) ≡ map restamp rows
+restamped : (k : ℕ) (f : ℕ → Option ℕ) (rows : List Keyed) → ((i : ℕ) → f (k + i) ≡ del_at rows i) → stamped_from k f (map asked_of rows) ≡ map restamp rows
 restamped k f [] is = refl
-restamped k f (r ∷ rows) is = ap₂ (λ (d : Option ℕ) (ts : List Stamped). stamped d r.asked ∷ ts) (first_at f k r.del (is 0)) (restamped (k + 1) f rows (rest_at f k r rows is))
+restamped k f (r ∷ rows) is = ap₂ (λ (d : Option ℕ) (ts : List Stamped). stamped d (asked_of r) ∷ ts) (first_at f k r.stamped.del (is 0)) (restamped (k + 1) f rows (rest_at f k r rows is))
 
-pub as_written : (rows : List Keyed) (asked : List Asked) (marks : List Mark) → asked ≡ map (λ r. r.asked) rows → ((i : ℕ) → epoch_at marks i ≡ del_at rows i) → stamped_from 0 (epoch_at marks) asked ≡ map restamp rows
-as_written rows asked marks is deleted = ap (stamped_from 0 (epoch_at marks)) is ∙ restamped 0 (epoch_at marks) rows (λ i. let same : 0 + i ≡ i = omega arith in ap (epoch_at marks) same ∙ deleted i)
+pub as_written : (rows : List Keyed) (marks : List Mark) → ((i : ℕ) → epoch_at marks i ≡ del_at rows i) → stamped_from 0 (epoch_at marks) (map asked_of rows) ≡ map restamp rows
+as_written rows marks deleted = restamped 0 (epoch_at marks) rows (λ i. let same : 0 + i ≡ i = omega arith in ap (epoch_at marks) same ∙ deleted i)

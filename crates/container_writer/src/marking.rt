@@ -5,7 +5,7 @@ ghost use Rattle.std.specs.List.{All};
 ghost use Rattle.del_vector.specs.Marks.{epoch_at, with_mark};
 ghost use Rattle.container_writer.specs.Ordered.{del_at};
 
-use crate::ordering::Keyed;
+use crate::refs::Keyed;
 use del_vector::DelVector;
 use std::alloc::{AllocError, Global};
 
@@ -26,7 +26,7 @@ pub fn vector_of(alloc: Global, rows: &[Keyed]) -> Result<DelVector, AllocError>
 {
     let mut vector = DelVector::new(alloc);
     for (i, row) in rows.iter().enumerate() {
-        match row.del {
+        match row.stamped.del {
             Some(0) => return Err(AllocError),
             Some(epoch) => add_mark(&mut vector, i as u64, epoch)?,
             None => {}

@@ -8,18 +8,19 @@ ghost use Rattle.catalog_types.specs.Numbers.{file_count, container_count};
 ghost use Rattle.col_disk.specs.Moved.{Moved, NoName};
 ghost use Rattle.del_vector.specs.Marks.{epoch_at};
 ghost use Rattle.ros_container.specs.Encodings.{encodings_of};
-ghost use Rattle.ros_container.specs.Rows.{AreWithin};
+ghost use Rattle.ros_container.specs.Rows.{AreWide, AreWithin};
 ghost use Rattle.stored_rows.specs.Held.{stamped_from};
+ghost use Rattle.container_writer.specs.Ordered.{asked_of, stamped_of};
 ghost use Rattle.container_writer.specs.Writing.{listed, HoldsBag, HoldsOne, DataFrom, AreNumbered};
 
+use crate::columns::write_rows;
 use crate::marking::vector_of;
-use crate::ordering::{Keyed, ordered};
+use crate::ordering::ordered;
+use crate::refs::{Keyed, StampedRef};
 use crate::vectors::write_vector;
 use catalog_types::{Container, Projection};
 use col_disk::{Disk, DiskFault};
-use col_value::{Asked, Stamped};
 use del_vector::DelVector;
-use ros_container::{are_rows, write_rows};
 use std::alloc::{AllocError, Global};
 
 // Numbers are drawn below this one.
@@ -32,41 +33,34 @@ pub struct Written {
     pub next: u64,
 }
 
-fn asked_of(alloc: Global, rows: Vec<Keyed>) -> Result<Vec<Asked>, AllocError>
-    ensures { IfOk result (λ v. v.items ≡ map (λ k. k.asked) rows.items) }
-{
-    rows.into_iter().map(|row| row.asked).collect(alloc)
-}
-
 #[tactic(auto, using(crate::proofs::Epochs::lesser_more))]
-fn least_epoch(rows: &[Asked]) -> u64
-    ensures { All (λ a. result ≤ a.ins) rows.now }
+fn least_epoch(rows: &[Keyed]) -> u64
+    ensures { All (λ k. result ≤ k.stamped.ins) rows.now }
 {
     let mut least = u64::MAX;
-    for asked in rows {
-        least = least.min(asked.ins);
+    for row in rows {
+        least = least.min(row.stamped.ins);
     }
     least
 }
 
 #[tactic(auto, using(crate::proofs::Epochs::greater_more))]
-fn greatest_epoch(rows: &[Asked]) -> u64
-    ensures { All (λ a. a.ins ≤ result) rows.now }
+fn greatest_epoch(rows: &[Keyed]) -> u64
+    ensures { All (λ k. k.stamped.ins ≤ result) rows.now }
 {
     let mut greatest: u64 = 0;
-    for asked in rows {
-        greatest = greatest.max(asked.ins);
+    for row in rows {
+        greatest = greatest.max(row.stamped.ins);
     }
     greatest
 }
 
-#[tactic(auto, using(crate::proofs::Epochs::all_within))]
 /// The entry of a container of these rows, none of them deleted.
-fn entry_of(base: u64, rows: &[Asked], level: u32) -> Container
+fn entry_of(base: u64, rows: &[Keyed], level: u32) -> Container
     ensures base { result.base ≡ base }
     ensures rows { result.rows ≡ length rows.now }
     ensures level { result.level ≡ level }
-    ensures within { AreWithin result rows.now }
+    ensures within { AreWithin result (map asked_of rows.now) }
 {
     Container {
         base,
@@ -105,7 +99,7 @@ fn write_marked<D: Disk>(
     alloc: Global,
     disk: &mut D,
     shape: &Projection,
-    rows: &[Asked],
+    rows: &[Keyed],
     marks: &DelVector,
     level: u32,
     base: u64,
@@ -113,17 +107,15 @@ fn write_marked<D: Disk>(
     requires some { 0 < length rows.now }
     requires most { length shape.now.columns ≤ 64 }
     requires numbers { base < 2 ^ 61 }
+    requires wide { AreWide (length shape.now.columns) (map asked_of rows.now) }
     requires within { All (λ e. e.position < length rows.now) marks.now.marks }
     ensures base { IfOk result (λ k. k.base ≡ base) }
     ensures vector { IfOk result (λ k. IfSome k.marks (λ n. n ≡ base + file_count (length shape.now.columns))) }
     ensures level { IfOk result (λ k. k.level ≡ level) }
-    ensures held { IfOk result (λ k. (m : Contents) → D.holds disk.new ≡ Some m → HoldsOne m (encodings_of shape.now) k (stamped_from 0 (epoch_at marks.now.marks) rows.now)) }
+    ensures held { IfOk result (λ k. (m : Contents) → D.holds disk.new ≡ Some m → HoldsOne m (encodings_of shape.now) k (stamped_from 0 (epoch_at marks.now.marks) (map asked_of rows.now))) }
     ensures moved { Moved ⟦<D as Disk>⟧ (DataFrom base) NoName disk.old disk.new }
     ensures cause { HasCause DiskFault.Failed (D.faults disk.old) (D.faults disk.new) result }
 {
-    if !are_rows(shape, rows) {
-        return Err(DiskFault::Memory);
-    }
     match write_rows(alloc, disk, base, shape, rows) {
         Ok(()) => {}
         Err(fault) => return Err(fault),
@@ -140,14 +132,14 @@ pub fn write_stamped<D: Disk>(
     alloc: Global,
     disk: &mut D,
     shape: &Projection,
-    rows: Vec<Stamped>,
+    rows: Vec<StampedRef<'_>>,
     level: u32,
     next: u64,
 ) -> Result<Written, DiskFault>
-    ensures held { IfOk result (λ w. (m : Contents) → D.holds disk.new ≡ Some m → HoldsBag m (encodings_of shape.now) (listed w.container) rows.items) }
+    ensures held { IfOk result (λ w. (m : Contents) → D.holds disk.new ≡ Some m → HoldsBag m (encodings_of shape.now) (listed w.container) (map stamped_of rows.entry.items)) }
     ensures numbers { IfOk result (λ w. AreNumbered (length shape.now.columns) next w.next w.container) }
     ensures upto { IfOk result (λ w. w.next ≤ next + 2 * (length shape.now.columns + 1) + 1) }
-    ensures none { IfOk result (λ w. (w.container ≡ None) ↔ (rows.items ≡ [])) }
+    ensures none { IfOk result (λ w. (w.container ≡ None) ↔ (rows.entry.items ≡ [])) }
     ensures level { IfOk result (λ w. IfSome w.container (λ k. k.level ≡ level)) }
     ensures moved { Moved ⟦<D as Disk>⟧ (DataFrom next) NoName disk.old disk.new }
     ensures cause { HasCause DiskFault.Failed (D.faults disk.old) (D.faults disk.new) result }
@@ -170,11 +162,7 @@ pub fn write_stamped<D: Disk>(
         Ok(marks) => marks,
         Err(AllocError) => return Err(DiskFault::Memory),
     };
-    let asked = match asked_of(alloc, sorted) {
-        Ok(asked) => asked,
-        Err(AllocError) => return Err(DiskFault::Memory),
-    };
-    match write_marked(alloc, disk, shape, asked.as_slice(), &marks, level, next) {
+    match write_marked(alloc, disk, shape, sorted.as_slice(), &marks, level, next) {
         Ok(container) => Ok(Written {
             next: behind(&container, columns),
             container: Some(container),

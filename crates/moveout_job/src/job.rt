@@ -5,6 +5,7 @@ ghost use Rattle.common_laws.specs.Causes.{HasCause};
 ghost use Rattle.col_disk.specs.Moved.{Moved, NoName};
 ghost use Rattle.proj_store.specs.Sound.{IsLoadable};
 ghost use Rattle.write_store.specs.Memory.{stamp};
+ghost use Rattle.container_writer.specs.Ordered.{stamped_of};
 ghost use Rattle.container_writer.specs.Writing.{DataFrom};
 ghost use Rattle.moveout_job.specs.OnDisk.{IsMovedOut, IsListedBelow, MovesOut};
 
@@ -12,8 +13,7 @@ use crate::entry::moved_entry;
 use crate::remarking::mark_each;
 use catalog_types::Projection;
 use col_disk::{Disk, DiskFault};
-use col_value::Stamped;
-use container_writer::write_stamped;
+use container_writer::{StampedRef, write_stamped};
 use proj_store::ProjStore;
 use std::alloc::{AllocError, Global};
 use write_store::Held;
@@ -25,12 +25,17 @@ pub struct MovedOut {
     pub next: u64,
 }
 
-fn copies(alloc: Global, rows: &[Held]) -> Result<Vec<Stamped>, AllocError>
-    ensures { IfOk result (λ v. v.items ≡ map stamp rows.now) }
+/// The rows in memory where they stand.
+fn refs(alloc: Global, rows: &[Held]) -> Result<Vec<StampedRef<'_>>, AllocError>
+    ensures { IfOk result (λ v. map stamped_of v.items ≡ map stamp rows.now) }
 {
     let mut out = Vec::with_capacity(alloc, rows.len())?;
-    for row in rows {
-        out.push(row.copy(alloc)?)?;
+    for held in rows {
+        out.push(StampedRef {
+            row: &held.inserted.row,
+            ins: held.inserted.ins,
+            del: held.del,
+        })?;
     }
     Ok(out)
 }
@@ -53,7 +58,7 @@ pub fn moveout<D: Disk>(
     ensures moved { Moved ⟦<D as Disk>⟧ (DataFrom next) NoName disk.old disk.new }
     ensures cause { HasCause DiskFault.Failed (D.faults disk.old) (D.faults disk.new) result }
 {
-    let rows = match copies(alloc, p.unsaved()) {
+    let rows = match refs(alloc, p.unsaved()) {
         Ok(rows) => rows,
         Err(AllocError) => return Err(DiskFault::Memory),
     };

@@ -19,7 +19,7 @@ use Rattle.ros_container.specs.Encodings.{encoding_at}
 use Rattle.ros_container.specs.Files.{body_of, index_of}
 use Rattle.ros_container.specs.Held.{HoldsContainer, BlamesContainer, HoldsNoRows}
 use Rattle.ros_container.specs.Rows.{column_values, epoch_values, AreWithin, IsWithin, IsEpochOf}
-use Rattle.ros_container.proofs.Writing.{epochs_auto}
+use Rattle.ros_container.proofs.Stored.{epochs_auto}
 
 -- a column's file that is to blame is one of the container's
 pub blames_column : (encodings : List Encoding) (i : ℕ) (k : Container) (holds : Option Contents) (fault : StoreFault) → i < length encodings + 1

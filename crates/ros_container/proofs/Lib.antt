@@ -1,8 +1,6 @@
-pub mod Orders
 pub mod Kept
-pub mod Writing
+pub mod Stored
 pub mod Columns
 pub mod SameRows
 pub mod Blames
 pub mod Reading
-pub mod Values

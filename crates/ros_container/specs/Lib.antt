@@ -1,5 +1,4 @@
 pub mod Rows
-pub mod Order
 pub mod Files
 pub mod Encodings
 pub mod Held

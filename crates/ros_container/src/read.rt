@@ -14,7 +14,7 @@ ghost use Rattle.ros_container.specs.Held.{HoldsContainer, BlamesContainer, Hold
 ghost use Rattle.ros_container.specs.Rows.{epoch_values, AreRows, AreWide, AreWithin};
 
 use crate::files::{body_of, index_of};
-use crate::fitting::encoding_of;
+use crate::encodings::encoding_of;
 use crate::transpose::{blank_rows, with_values};
 use catalog_types::{Container, Projection};
 use col_disk::{Disk, StoreFault};

@@ -1,8 +1,9 @@
 use Rattle.col_disk.proofs.Moving.{moved_none, moved_still, moved_join}
 use Rattle.ros_container.specs.Encodings.{encodings_of}
-use Rattle.container_writer.specs.Writing.{listed}
+use Rattle.container_writer.specs.Writing.{listed, HoldsBag}
+use Rattle.container_writer.specs.Ordered.{stamped_of}
 use Rattle.container_writer.specs.declared.writing.Written.{Written}
-use Rattle.std.proofs.Common.{[], ◌∷◌}
+use Rattle.std.proofs.Common.{◌≡◌, [], ◌∷◌, map, rules, subst}
 use Rattle.container_cut.specs.Cutting.{Between, CutsContainers}
 use Rattle.container_cut.proofs.Faults.{if_same}
 use Rattle.container_cut.proofs.Joins.{inserts_between}
@@ -20,6 +21,9 @@ returns-in-Err-rows_of-clause-moved g c = moved_still g.D.Disk (moved_join g.D.D
 pub returns-in-Err-rows_upto-clause-moved : goal.returns-in-Err-rows_upto-clause-moved
 returns-in-Err-rows_upto-clause-moved g c = moved_still g.D.Disk (moved_join g.D.Disk c.vector_of.ensures.moved c.rows_of.ensures.moved)
 
+pub returns-in-Err-refs-clause-moved : goal.returns-in-Err-refs-clause-moved
+returns-in-Err-refs-clause-moved g c = moved_still g.D.Disk (moved_join g.D.Disk c.vector_of.ensures.moved c.rows_of.ensures.moved)
+
 pub returns-in-Ok-write_stamped-clause-cut : goal.returns-in-Ok-write_stamped-clause-cut
 returns-in-Ok-write_stamped-clause-cut g c =
     let es = encodings_of c.args.shape.now in
@@ -28,9 +32,11 @@ returns-in-Ok-write_stamped-clause-cut g c =
     let mid = g.D.Disk.holds c.vector_of.new.disk in
     let now = g.D.Disk.holds c.write_stamped.new.disk in
     let written = c.in-Ok-write_stamped.written in
+    let same : map stamped_of c.in-Ok-refs.kept.items ≡ c.in-Ok-rows_upto.left.items = search rules in
     if_same c.within.result written (λ (w : Written). Between (CutsContainers es c.args.epoch (k ∷ []) (listed w.container)) found now) c.within.ensures.same
     (inserts_between c.one_container.ensures es c.args.epoch k (listed written.container) c.in-Ok.marks.marks c.in-Ok-rows_of.rows.items c.in-Ok-rows_upto.left.items found mid now
-    c.in-Ok.ensures.found c.vector_of.ensures.kept c.in-Ok-rows_of.ensures.found c.in-Ok-rows_upto.ensures c.in-Ok-write_stamped.ensures.held)
+    c.in-Ok.ensures.found c.vector_of.ensures.kept c.in-Ok-rows_of.ensures.found c.in-Ok-rows_upto.ensures
+    (λ n after. subst (HoldsBag n es (listed written.container)) same (c.in-Ok-write_stamped.ensures.held n after)))
 
 pub returns-in-Ok-write_stamped-clause-moved : goal.returns-in-Ok-write_stamped-clause-moved
 returns-in-Ok-write_stamped-clause-moved g c =

@@ -1,6 +1,10 @@
 use Rattle.std.proofs.Common.{◌≡◌, ◌++◌, map}
-use Rattle.container_writer.specs.Ordered.{restamp}
+use Rattle.ros_container.specs.Rows.{AreWide}
+use Rattle.container_writer.specs.Ordered.{asked_of, restamp, stamped_of}
 use Rattle.container_writer.proofs.ordering.with_keys.Given as goal
 
 abbrev pub invariant-loop-stamped : goal.invariant-loop-stamped
-invariant-loop-stamped l = map restamp l.out.items ++ l.stamped-iterator.rest.items ≡ l.fn.rows.items
+invariant-loop-stamped l = record {
+  same : map restamp l.out.items ++ map stamped_of l.stamped-iterator.rest.items ≡ map stamped_of l.fn.rows.items;
+  wide : AreWide l.columns (map asked_of l.out.items);
+}

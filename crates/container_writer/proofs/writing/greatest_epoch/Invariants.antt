@@ -2,5 +2,5 @@ use Rattle.std.proofs.Common.{◌≤◌, take}
 use Rattle.std.specs.List.{All}
 use Rattle.container_writer.proofs.writing.greatest_epoch.Given as goal
 
-abbrev pub invariant-loop-asked : goal.invariant-loop-asked
-invariant-loop-asked l = All (λ a. a.ins ≤ l.greatest) (take l.asked-index l.rows)
+abbrev pub invariant-loop-row : goal.invariant-loop-row
+invariant-loop-row l = All (λ k. k.stamped.ins ≤ l.greatest) (take l.row-index l.rows)

@@ -1,9 +1,11 @@
-use Rattle.std.proofs.Common.{◌≡◌, ◌<◌, ◌∙◌, List, ap, length, map, rules}
+use Rattle.std.proofs.Common.{◌≡◌, ◌<◌, ◌∙◌, List, ap, length, map, rules, subst, sym}
 use Rattle.col_disk.proofs.Moving.{moved_none}
-use Rattle.col_value.specs.declared.row.Asked.{Asked}
+use Rattle.del_vector.specs.Marks.{epoch_at}
 use Rattle.ros_container.specs.Encodings.{encodings_of}
-use Rattle.container_writer.specs.declared.ordering.Keyed.{Keyed}
-use Rattle.container_writer.specs.Ordered.{del_at}
+use Rattle.stored_rows.specs.Held.{stamped_from}
+use Rattle.container_writer.specs.declared.refs.Keyed.{Keyed}
+use Rattle.container_writer.specs.Ordered.{asked_of, del_at, stamped_of}
+use Rattle.container_writer.specs.Writing.{HoldsOne}
 use Rattle.container_writer.proofs.Filled.{some_written, bag_of_one}
 use Rattle.container_writer.proofs.writing.write_stamped.Goals as goal
 
@@ -19,19 +21,17 @@ returns-in-Err-clause-moved g c = moved_none g.D.Disk c.args.disk.now
 pub returns-in-Err-vector_of-clause-moved : goal.returns-in-Err-vector_of-clause-moved
 returns-in-Err-vector_of-clause-moved g c = moved_none g.D.Disk c.args.disk.now
 
-pub returns-in-Err-asked_of-clause-moved : goal.returns-in-Err-asked_of-clause-moved
-returns-in-Err-asked_of-clause-moved g c = moved_none g.D.Disk c.args.disk.now
-
 pub write_marked-requires-clause-some : goal.write_marked-requires-clause-some
 write_marked-requires-clause-some g c =
-    let asked : c.as_slice-2.result.now ≡ map {B = Asked} (λ k. k.asked) c.in-Ok.sorted.items = search rules in
+    let sorted : c.as_slice-2.result.now ≡ c.in-Ok.sorted.items = search rules in
     let some : 0 < length c.args.rows.items = search rules in
-    some_written c.args.rows.items c.in-Ok.sorted.items c.as_slice-2.result.now c.in-Ok.ensures.same asked some
+    subst (λ (ks : List Keyed). 0 < length ks) (sym sorted) (some_written c.args.rows.items c.in-Ok.sorted.items c.in-Ok.ensures.same some)
 
 pub returns-in-Ok-write_marked-clause-held : goal.returns-in-Ok-write_marked-clause-held
 returns-in-Ok-write_marked-clause-held g c =
-    let asked : c.as_slice-2.result.now ≡ map {B = Asked} (λ k. k.asked) c.in-Ok.sorted.items = search rules in
     let sorted : c.as_slice.result.now ≡ c.in-Ok.sorted.items = search rules in
+    let again : c.as_slice-2.result.now ≡ c.in-Ok.sorted.items = search rules in
     λ m told.
-    bag_of_one m (encodings_of c.args.shape.now) c.in-Ok-write_marked.container c.args.rows.items c.in-Ok.sorted.items c.as_slice-2.result.now c.in-Ok-vector_of.marks.marks asked
-    (λ i. c.in-Ok-vector_of.ensures.deleted i ∙ ap (λ (ks : List Keyed). del_at ks i) sorted) c.in-Ok.ensures.same (c.in-Ok-write_marked.ensures.held m told)
+    bag_of_one m (encodings_of c.args.shape.now) c.in-Ok-write_marked.container (map stamped_of c.args.rows.items) c.in-Ok.sorted.items c.in-Ok-vector_of.marks.marks
+    (λ i. c.in-Ok-vector_of.ensures.deleted i ∙ ap (λ (ks : List Keyed). del_at ks i) sorted) c.in-Ok.ensures.same
+    (subst (λ (ks : List Keyed). HoldsOne m (encodings_of c.args.shape.now) c.in-Ok-write_marked.container (stamped_from 0 (epoch_at c.in-Ok-vector_of.marks.marks) (map asked_of ks))) again (c.in-Ok-write_marked.ensures.held m told))

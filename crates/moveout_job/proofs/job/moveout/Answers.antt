@@ -1,9 +1,10 @@
-use Rattle.std.proofs.Common.{◌≡◌, subst, length, rules}
+use Rattle.std.proofs.Common.{◌≡◌, length, map, rules, subst}
 use Rattle.std.specs.Prelude.{Some}
 use Rattle.common_laws.specs.Maps.{Contents}
 use Rattle.catalog_types.specs.declared.catalogue.Projection.{Projection}
 use Rattle.col_disk.proofs.Moving.{moved_none, moved_join}
 use Rattle.ros_container.specs.Encodings.{encodings_of}
+use Rattle.container_writer.specs.Ordered.{stamped_of}
 use Rattle.container_writer.specs.Writing.{listed, HoldsBag, AreNumbered}
 use Rattle.moveout_job.specs.OnDisk.{moved_to}
 use Rattle.moveout_job.proofs.Renewed.{later_data}
@@ -22,7 +23,7 @@ returns-in-Ok-moved_entry-clause-held g c =
     let p = c.args.p.now.stored in
     let js = c.in-Ok-mark_each.marked.containers.items in
     let made = c.in-Ok-write_stamped.written.container in
-    let rows = c.in-Ok.rows.items in
+    let rows = map stamped_of c.in-Ok.rows.items in
     let are : rows ≡ p.unsaved = search rules in
     let is : c.in-Ok-moved_entry.entry ≡ moved_to c.args.last js made p.entry = of_entry c.args.last js made c.entry-2.result.now p.entry c.in-Ok-moved_entry.entry c.in-Ok-moved_entry.ensures c.entry-2.ensures.entry in
     moves_out g.D.Disk c.args.last c.args.next c.in-Ok-mark_each.marked.next p c.in-Ok-moved_entry.entry js made rows is c.in-Ok-mark_each.ensures.held c.write_stamped.ensures.moved

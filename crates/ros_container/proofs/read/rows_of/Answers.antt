@@ -7,7 +7,7 @@ use Rattle.ros_container.specs.Encodings.{encodings_of}
 use Rattle.ros_container.specs.Files.{body_of, index_of}
 use Rattle.ros_container.specs.Rows.{IsEpochOf}
 use Rattle.ros_container.proofs.Blames.{blames_epochs}
-use Rattle.ros_container.proofs.Writing.{read_epochs}
+use Rattle.ros_container.proofs.Stored.{read_epochs}
 use Rattle.ros_container.proofs.read.rows_of.Goals as goal
 
 pub returns-in-Ok-Some-clause-found : goal.returns-in-Ok-Some-clause-found

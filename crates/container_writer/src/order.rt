@@ -1,15 +1,13 @@
 //! The order of a container's rows.
 
-ghost use Rattle.std.specs.Prelude.{◌≡◌, slice_index_or, IfOk};
-ghost use Rattle.std.specs.List.Sorted.{IsSorted};
-ghost use Rattle.common_laws.specs.Bags.{SameBag};
+ghost use Rattle.std.specs.Prelude.{◌≡◌, slice_index_or};
 ghost use Rattle.col_value.specs.Order.{value_cmp, row_cmp, projected};
 ghost use Rattle.col_value.specs.declared.value.Value.TheVariants.{Null};
-ghost use Rattle.ros_container.specs.Order.{container_cmp};
+ghost use Rattle.container_writer.specs.Ordered.{asked_of, container_cmp};
 
+use crate::refs::{Keyed, StampedRef};
 use catalog_types::Projection;
-use col_value::{Asked, Row, Value};
-use std::alloc::AllocError;
+use col_value::{Row, Value};
 use std::cmp::Ordering;
 
 /// The order of two rows by one column; a value that is not there is NULL.
@@ -38,26 +36,15 @@ fn order_on(a: &Row, b: &Row, columns: &[usize]) -> Ordering
 }
 
 /// The order of two rows in a container. It takes no memory.
-pub fn container_order(shape: &Projection, a: &Asked, b: &Asked) -> Ordering
-    ensures { result ≡ container_cmp shape.now a.now b.now }
+pub fn container_order(shape: &Projection, a: &Keyed, b: &Keyed) -> Ordering
+    ensures { result ≡ container_cmp shape.now (asked_of a.now) (asked_of b.now) }
 {
-    match order_on(&a.row, &b.row, shape.sort.as_slice()) {
-        Ordering::Equal => match a.row.order(&b.row) {
+    let (a, b) = (a.stamped, b.stamped);
+    match order_on(a.row, b.row, shape.sort.as_slice()) {
+        Ordering::Equal => match a.row.order(b.row) {
             Ordering::Equal => a.ins.cmp(&b.ins),
             order => order,
         },
         order => order,
     }
-}
-
-#[tactic(auto, using(common_laws::proofs::BagLaws::bag_of_permutation))]
-/// The same rows in the order of a container: by the sort columns, then by the other columns, then by epoch. A value
-/// that a row lacks is NULL there.
-pub fn sort_rows(shape: &Projection, rows: Vec<Asked>) -> Result<Vec<Asked>, AllocError>
-    ensures same { IfOk result (λ v. SameBag rows.items v.items) }
-    ensures ascending { IfOk result (λ v. IsSorted (container_cmp shape.now) v.items) }
-{
-    let mut rows = rows;
-    rows.sort_by(|a, b| container_order(shape, a, b))?;
-    Ok(rows)
 }

@@ -2,11 +2,9 @@
 use borrow.Author.Count.{below_more}
 use Rattle.std.proofs.Common.{◌≡◌, ℕ, ◌+◌, ◌<◌, Bool, true, false, List, length, get_or, refl, sym, subst, ap, ◌∙◌, arith}
 use Rattle.std.specs.Prelude.{◌==◌, Option, Some, Result, Ok, Err, OnOk, pos}
-use Rattle.std.proofs.Math.ListN.{get_or-eq_default}
 use Rattle.std.proofs.lemmas.List.{length-map}
 use Rattle.col_disk.specs.declared.disk.DiskFault.{DiskFault}
 use Rattle.col_value.specs.declared.value.Value.TheVariants as value
-use Rattle.std.proofs.lemmas.Bool.Decides.{nat_tests}
 use Rattle.catalog_types.specs.declared.catalogue.Container.{Container}
 use Rattle.common_laws.specs.Maps.{Contents}
 use Rattle.col_disk.proofs.Moving.{moved_join, moved_wider}
@@ -20,8 +18,9 @@ use Rattle.col_value.specs.declared.value.Value.{Value}
 use Rattle.ros_container.specs.Encodings.{encoding_at}
 use Rattle.ros_container.specs.Files.{body_of, index_of, IsFileOf}
 use Rattle.ros_container.specs.Held.{HoldsContainer}
-use Rattle.ros_container.specs.Rows.{column_values, epoch_values, stored_values, AreWide, AreWithin}
+use Rattle.ros_container.specs.Rows.{stored_values, AreWide, AreWithin}
 use Rattle.ros_container.proofs.Kept.{is_file, still_held}
+use Rattle.ros_container.proofs.Stored.{stored_column, stored_epochs, epochs_auto}
 
 -- the files of one column more moved
 pub moved_more : {D : Type 0} (disk : Ghosts D) (base columns i : ℕ) {old mid new : D} → i < columns + 1 → Moved disk (IsFileOf base columns) NoName old mid
@@ -37,30 +36,20 @@ held_more disk encoding base i rows values {mid} {new} moved before here =
     below_more (λ (j : ℕ). (m : Contents) → disk.holds new ≡ Some m → HoldsColumn (encoding j) (body_of base j) (index_of base j) rows m (values j)) i
     (λ j lt. still_held (encoding j) base i j rows (values j) (disk.holds mid) (disk.holds new) lt moved.contents (before j lt)) here
 
-pub stored_column : (columns i : ℕ) (rows : List Asked) → i < columns → stored_values columns i rows ≡ column_values i rows
-stored_column columns i rows lt = let differs : (i == columns) ≡ false = grind (arith, nat_tests) in rw differs refl
-
-pub stored_epochs : (columns : ℕ) (rows : List Asked) → stored_values columns columns rows ≡ epoch_values rows
-stored_epochs columns rows = let same : (columns == columns) ≡ true = grind (arith, nat_tests) in rw same refl
-
 -- the same column, told of an entry
 at_entry : (e d : Encoding) (base k_base i j rows k_rows : ℕ) (m : Contents) (vs ws : List Value) → e ≡ d → i ≡ j → k_base ≡ base → k_rows ≡ rows → vs ≡ ws
     → HoldsColumn e (body_of base i) (index_of base i) rows m vs → HoldsColumn d (body_of k_base j) (index_of k_base j) k_rows m ws
 at_entry e d base k_base i j rows k_rows m vs ws same_encoding same_place same_base same_rows same held = rw (← same_encoding, ← same_place, same_base, same_rows, ← same) held
 
--- the epochs are AUTO
-pub epochs_auto : (encodings : List Encoding) → encoding_at encodings (length encodings) ≡ Auto
-epochs_auto encodings = get_or-eq_default encodings Auto (omega arith)
-
 -- all columns are held
-pub all_held : (base columns : ℕ) (encodings : List Encoding) (m : Contents) (rows : List Asked) (k : Container) → length encodings ≡ columns
-    → ((j : ℕ) → j < columns + 1 → HoldsColumn (encoding_at encodings j) (body_of base j) (index_of base j) (length rows) m (stored_values columns j rows))
-    → AreWide columns rows → k.base ≡ base → k.rows ≡ length rows → AreWithin k rows → HoldsContainer m encodings k rows
-all_held base columns encodings m rows k long held wide same_base same_rows within =
+pub all_held : (base columns count : ℕ) (encodings : List Encoding) (m : Contents) (rows : List Asked) (k : Container) → length encodings ≡ columns
+    → ((j : ℕ) → j < columns + 1 → HoldsColumn (encoding_at encodings j) (body_of base j) (index_of base j) count m (stored_values columns j rows))
+    → AreWide columns rows → k.base ≡ base → k.rows ≡ count → AreWithin k rows → HoldsContainer m encodings k rows
+all_held base columns count encodings m rows k long held wide same_base same_rows within =
     let last : encoding_at encodings columns ≡ Auto = ap (encoding_at encodings) (sym long) ∙ epochs_auto encodings in
     record {
-      each = λ i lt. at_entry _ _ base k.base i i (length rows) k.rows m _ _ refl refl same_base same_rows (stored_column columns i rows (omega (arith, lt, long))) (held i (omega (arith, lt, long)));
-      epochs = at_entry _ _ base k.base columns (length encodings) (length rows) k.rows m _ _ last (sym long) same_base same_rows (stored_epochs columns rows) (held columns (omega arith));
+      each = λ i lt. at_entry _ _ base k.base i i count k.rows m _ _ refl refl same_base same_rows (stored_column columns i rows (omega (arith, lt, long))) (held i (omega (arith, lt, long)));
+      epochs = at_entry _ _ base k.base columns (length encodings) count k.rows m _ _ last (sym long) same_base same_rows (stored_epochs columns rows) (held columns (omega arith));
       wide = subst (λ (n : ℕ). AreWide n rows) (sym long) wide;
       within = within;
     }
@@ -73,15 +62,12 @@ stored_length columns i rows = there (i == columns) refl
     there true is = rw is (length-map rows (λ (a : Asked). value.Int (pos a.ins)))
     there false is = rw is (length-map rows (λ (a : Asked). get_or a.row i value.Null))
 
+-- what was made for a column is what a container holds of it
+pub stored_same : (n columns i : ℕ) (rows : List Asked) (vs ws : List Value) → vs ≡ ws → ws ≡ stored_values n i rows → n ≡ columns → vs ≡ stored_values columns i rows
+stored_same n columns i rows vs ws slice made same = slice ∙ made ∙ ap (λ (k : ℕ). stored_values k i rows) same
+
 -- the same column, by its own names
 pub held_of : (e d : Encoding) (body index b x count : ℕ) (vs ws : List Value) (holds : Option Contents) (result : Result (Unit {0}) DiskFault) → e ≡ d → body ≡ b → index ≡ x → vs ≡ ws → length ws ≡ count
     → OnOk result ((m : Contents) → holds ≡ Some m → HoldsColumn e body index (length vs) m vs) → OnOk result ((m : Contents) → holds ≡ Some m → HoldsColumn d b x count m ws)
 held_of e d body index b x count vs ws holds (Err fault) same_encoding same_body same_index same long held = tt
 held_of e d body index b x count vs ws holds (Ok done) same_encoding same_body same_index same long held = λ m told. rw (← same_encoding, ← same_body, ← same_index, ← long, ← same) (held m told)
-
--- the column behind the others is that of the epochs
-pub read_epochs : (encodings : List Encoding) (columns base count : ℕ) (holds : Option Contents) (vs : List Value) → length encodings ≡ columns
-    → ((m : Contents) → holds ≡ Some m → HoldsColumn (encoding_at encodings columns) (body_of base columns) (index_of base columns) count m vs)
-    → (m : Contents) → holds ≡ Some m → HoldsColumn Auto (body_of base (length encodings)) (index_of base (length encodings)) count m vs
-read_epochs encodings columns base count holds vs long held m told =
-    at_entry _ _ base base columns (length encodings) count count m vs vs (ap (encoding_at encodings) (sym long) ∙ epochs_auto encodings) (sym long) refl refl refl (held m told)

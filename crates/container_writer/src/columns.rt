@@ -1,0 +1,73 @@
+//! The files of a container's columns.
+
+ghost use Rattle.std.specs.Prelude.{◌≡◌, ◌≤◌, ◌<◌, ◌+◌, ◌*◌, ◌^◌, length, map, Some, OnOk};
+ghost use Rattle.common_laws.specs.Causes.{HasCause};
+ghost use Rattle.common_laws.specs.Maps.{Contents};
+ghost use Rattle.catalog_types.specs.declared.catalogue.Container.{Container};
+ghost use Rattle.col_disk.specs.Moved.{Moved, NoName, Named, Either};
+ghost use Rattle.col_file.specs.Held.{HoldsColumn};
+ghost use Rattle.ros_container.specs.Encodings.{encodings_of, encoding_at};
+ghost use Rattle.ros_container.specs.Files.{body_of, index_of, IsFileOf};
+ghost use Rattle.ros_container.specs.Held.{HoldsContainer};
+ghost use Rattle.ros_container.specs.Rows.{stored_values, AreWide, AreWithin};
+ghost use Rattle.container_writer.specs.Ordered.{asked_of};
+
+use crate::refs::Keyed;
+use crate::values::stored_values;
+use catalog_types::Projection;
+use col_disk::{Disk, DiskFault};
+use col_file::write_column;
+use ros_container::{body_of, encoding_of, index_of};
+use std::alloc::{AllocError, Global};
+
+/// Makes the two files of one column: a column of the projection, in its encoding, or behind them the epochs, which are AUTO.
+fn write_one<D: Disk>(
+    alloc: Global,
+    disk: &mut D,
+    base: u64,
+    shape: &Projection,
+    rows: &[Keyed],
+    column: usize,
+) -> Result<(), DiskFault>
+    requires numbers { base + 2 * length shape.now.columns + 1 < 2 ^ 62 }
+    requires column { column ≤ length shape.now.columns }
+    requires some { 0 < length rows.now }
+    ensures held { OnOk result ((m : Contents) → D.holds disk.new ≡ Some m → HoldsColumn (encoding_at (encodings_of shape.now) column) (body_of base column) (index_of base column) (length rows.now) m (stored_values (length shape.now.columns) column (map asked_of rows.now))) }
+    ensures moved { Moved ⟦<D as Disk>⟧ (Either (Named (body_of base column)) (Named (index_of base column))) NoName disk.old disk.new }
+    ensures cause { HasCause DiskFault.Failed (D.faults disk.old) (D.faults disk.new) result }
+{
+    let columns = shape.columns.as_slice().len();
+    let encoding = encoding_of(shape, column);
+    let values = match stored_values(alloc, columns, rows, column, encoding) {
+        Ok(values) => values,
+        Err(AllocError) => return Err(DiskFault::Memory),
+    };
+    let body = body_of(base, column);
+    let index = index_of(base, column);
+    write_column(alloc, disk, body, index, values.as_slice(), encoding)
+}
+
+/// Makes all files of a container of these rows, one column after the other.
+pub fn write_rows<D: Disk>(
+    alloc: Global,
+    disk: &mut D,
+    base: u64,
+    shape: &Projection,
+    rows: &[Keyed],
+) -> Result<(), DiskFault>
+    requires numbers { base + 2 * length shape.now.columns + 1 < 2 ^ 62 }
+    requires some { 0 < length rows.now }
+    requires wide { AreWide (length shape.now.columns) (map asked_of rows.now) }
+    ensures held { OnOk result ((m : Contents) → D.holds disk.new ≡ Some m → (k : Container) → k.base ≡ base → k.rows ≡ length rows.now → AreWithin k (map asked_of rows.now) → HoldsContainer m (encodings_of shape.now) k (map asked_of rows.now)) }
+    ensures moved { Moved ⟦<D as Disk>⟧ (IsFileOf base (length shape.now.columns)) NoName disk.old disk.new }
+    ensures cause { HasCause DiskFault.Failed (D.faults disk.old) (D.faults disk.new) result }
+{
+    let columns = shape.columns.as_slice().len();
+    for column in 0..columns + 1 {
+        match write_one(alloc, disk, base, shape, rows, column) {
+            Ok(()) => {}
+            Err(fault) => return Err(fault),
+        }
+    }
+    Ok(())
+}

@@ -1,0 +1,98 @@
+//! What a column of a container holds.
+
+ghost use Rattle.std.specs.Prelude.{◌≡◌, map, pos, slice_index_or, IfOk};
+ghost use Rattle.std.specs.List.{All};
+ghost use Rattle.block_choice.specs.Choice.{Takes};
+ghost use Rattle.col_value.specs.Order.{IsValue};
+ghost use Rattle.col_value.specs.declared.value.Value.TheVariants.{Int, Null};
+ghost use Rattle.ros_container.specs.Rows.{column_values, epoch_values, stored_values};
+ghost use Rattle.container_writer.specs.Ordered.{asked_of};
+
+use crate::refs::{Keyed, StampedRef};
+use block_choice::takes;
+use col_value::{Encoding, Row, Value};
+use std::alloc::{AllocError, Global};
+use value_bytes::is_value;
+
+/// The value, where a table may have it and a column of this encoding takes it.
+fn fitting(value: Value, encoding: Encoding) -> Result<Value, AllocError>
+    ensures same { IfOk result (λ v. v ≡ value) }
+    ensures value { IfOk result IsValue }
+    ensures taken { IfOk result (Takes encoding) }
+{
+    if is_value(&value) && takes(encoding, &value) {
+        Ok(value)
+    } else {
+        Err(AllocError)
+    }
+}
+
+/// The value of a row in a column; one that is not there is NULL.
+fn value_of(alloc: Global, row: &Row, column: usize) -> Result<Value, AllocError>
+    ensures { IfOk result (λ v. v ≡ slice_index_or row.now column Null) }
+{
+    match row.as_slice().get(column) {
+        Some(value) => value.copy(alloc),
+        None => Ok(Value::Null),
+    }
+}
+
+/// An epoch as a number.
+fn number_of(epoch: u64) -> Result<Value, AllocError>
+    ensures { IfOk result (λ v. v ≡ Int (pos epoch)) }
+{
+    if epoch > i64::MAX as u64 {
+        return Err(AllocError);
+    }
+    Ok(Value::Int(epoch as i64))
+}
+
+fn column_values(
+    alloc: Global,
+    rows: &[Keyed],
+    column: usize,
+    encoding: Encoding,
+) -> Result<Vec<Value>, AllocError>
+    ensures same { IfOk result (λ v. v.items ≡ column_values column (map asked_of rows.now)) }
+    ensures values { IfOk result (λ v. All IsValue v.items) }
+    ensures taken { IfOk result (λ v. All (Takes encoding) v.items) }
+{
+    let mut out = Vec::with_capacity(alloc, rows.len())?;
+    for row in rows {
+        let value = value_of(alloc, row.stamped.row, column)?;
+        out.push(fitting(value, encoding)?)?;
+    }
+    Ok(out)
+}
+
+fn epoch_values(alloc: Global, rows: &[Keyed], encoding: Encoding) -> Result<Vec<Value>, AllocError>
+    ensures same { IfOk result (λ v. v.items ≡ epoch_values (map asked_of rows.now)) }
+    ensures values { IfOk result (λ v. All IsValue v.items) }
+    ensures taken { IfOk result (λ v. All (Takes encoding) v.items) }
+{
+    let mut out = Vec::with_capacity(alloc, rows.len())?;
+    for row in rows {
+        out.push(fitting(number_of(row.stamped.ins)?, encoding)?)?;
+    }
+    Ok(out)
+}
+
+/// What a column of a container of these rows holds; the epochs stand behind the others. Where it can't have these values, that is
+/// answered as want of memory.
+pub fn stored_values(
+    alloc: Global,
+    columns: usize,
+    rows: &[Keyed],
+    column: usize,
+    encoding: Encoding,
+) -> Result<Vec<Value>, AllocError>
+    ensures same { IfOk result (λ v. v.items ≡ stored_values columns column (map asked_of rows.now)) }
+    ensures values { IfOk result (λ v. All IsValue v.items) }
+    ensures taken { IfOk result (λ v. All (Takes encoding) v.items) }
+{
+    if column == columns {
+        epoch_values(alloc, rows, encoding)
+    } else {
+        column_values(alloc, rows, column, encoding)
+    }
+}
