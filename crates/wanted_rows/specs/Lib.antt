@@ -1,3 +1,4 @@
 pub mod Wanted
 pub mod Picked
 pub mod Taking
+pub mod Spans

@@ -1,11 +1,12 @@
 -- Places of rows that are picked for what is wanted.
-use Rattle.std.specs.Prelude.{ℕ, ◌≡◌, ◌+◌, ◌<◌, ◌≤◌, Bool, false, List, [], ◌∷◌, length, map, get_or, Option, None}
+use Rattle.std.specs.Prelude.{ℕ, ◌≡◌, ◌+◌, ◌<◌, ◌≤◌, Bool, false, List, [], ◌∷◌, length, map, get_or, Option, Some, None, IfSome}
 use Rattle.std.specs.Bool.{OnTrue, OnFalse}
 use Rattle.std.specs.List.{All}
 use Rattle.col_value.specs.declared.row.Asked.{Asked}
 use Rattle.write_store.specs.declared.held.Held.{Held}
+use Rattle.write_store.specs.declared.held.Inserted.{Inserted}
 use Rattle.write_store.specs.Memory.{is_in}
-use Rattle.wanted_rows.specs.Wanted.{tally, Adds, asked_in}
+use Rattle.wanted_rows.specs.Wanted.{tally, Adds, Tries, asked_in}
 
 abbrev pub blank : Asked
 blank = record { row = []; ins = 0 }
@@ -50,13 +51,19 @@ pub record PicksBefore (i : ℕ) (mark : ℕ → Option ℕ) (rows : List Asked)
 abbrev pub Picks : (ℕ → Option ℕ) → List Asked → List ℕ → (Asked → ℕ) → (Asked → ℕ) → Type 0
 Picks mark rows places old new = PicksBefore (length rows) mark rows places old new
 
--- rows of a list that stand there from a place on, each with the delete epoch of its place
-pub record StandFrom (first : ℕ) (mark : ℕ → Option ℕ) (all : List Asked) (held : List Held) : Type 0 where
-  pub within : first + length held ≤ length all
-  pub rows : (i : ℕ) → i < length held → get_or all (first + i) blank ≡ get_or (asked_of held) i blank
-  pub marks : (i : ℕ) → i < length held → mark (first + i) ≡ del_at held i
+-- Candidates among rows that stand in a list from a place on: one that is there is the row, which isn't deleted, and where none is
+-- there the row is deleted or isn't wanted.
+pub record StandFrom (first : ℕ) (mark : ℕ → Option ℕ) (all : List Asked) (need : Asked → ℕ) (some : List (Option Inserted)) : Type 0 where
+  pub within : first + length some ≤ length all
+  pub there : (i : ℕ) → i < length some → IfSome (get_or some i None) (λ r. (asked_in r ≡ get_or all (first + i) blank) × (mark (first + i) ≡ None))
+  pub rest : (i : ℕ) → i < length some → get_or some i None ≡ None → mark (first + i) ≡ None → need (get_or all (first + i) blank) ≡ 0
 
--- where places of the rows before them are picked, these rows come to them
-abbrev pub PicksFrom : ℕ → List Held → List ℕ → List ℕ → (Asked → ℕ) → (Asked → ℕ) → Type 0
-PicksFrom first held old new need left =
-    (mark : ℕ → Option ℕ) (all : List Asked) → StandFrom first mark all held → (start : Asked → ℕ) → PicksBefore first mark all old start need → PicksBefore (first + length held) mark all new start left
+-- where places of the rows before them are picked, those of the candidates come to them
+abbrev pub PicksFrom : ℕ → List (Option Inserted) → List ℕ → List ℕ → (Asked → ℕ) → (Asked → ℕ) → Type 0
+PicksFrom first some old new need left =
+    (mark : ℕ → Option ℕ) (all : List Asked) → StandFrom first mark all need some → (start : Asked → ℕ) → PicksBefore first mark all old start need → PicksBefore (first + length some) mark all new start left
+
+-- a candidate is taken where it is wanted, and where none is there nothing changes
+abbrev pub TriesSome : Bool → Option Inserted → (Asked → ℕ) → (Asked → ℕ) → Type 0
+TriesSome taken None old new = (taken ≡ false) × ((q : Asked) → new q ≡ old q)
+TriesSome taken (Some r) old new = Tries taken (asked_in r) old new

@@ -1,16 +1,12 @@
 -- How often a row, with its insert epoch, is wanted still.
-use Rattle.std.specs.Prelude.{ℕ, ◌≡◌, ◌+◌, Bool, List, count_by, if◌then◌else◌, unwrap_or}
+pub use Rattle.write_store.specs.Order.{inserted_cmp}
+use Rattle.std.specs.Prelude.{ℕ, ◌≡◌, ◌+◌, ◌&&◌, nat_le, Bool, List, count_by, if◌then◌else◌, unwrap_or}
 use Rattle.std.specs.Bool.{OnTrue, OnFalse}
 use Rattle.std.specs.Ordering.{nat_cmp, ordering_then, is_eq}
-use Rattle.std.specs.declared.cmp.Ordering.{Ordering}
-use Rattle.std.specs.BTreeMap.{BTreeMap, get}
+use Rattle.std.specs.Map.{lookup}
 use Rattle.col_value.specs.Order.{row_cmp}
 use Rattle.col_value.specs.declared.row.Asked.{Asked}
 use Rattle.write_store.specs.declared.held.Inserted.{Inserted}
-
--- by the epoch, and then by the row
-abbrev pub inserted_cmp : Inserted → Inserted → Ordering
-inserted_cmp a b = ordering_then (nat_cmp a.ins b.ins) (row_cmp a.row b.row)
 
 -- the same row of the same epoch
 abbrev pub is_same : Asked → Asked → Bool
@@ -29,9 +25,13 @@ asked_in k = record { row = k.row; ins = k.ins }
 abbrev pub inserted : Asked → Inserted
 inserted a = record { ins = a.ins; row = a.row }
 
--- how often it is wanted, by a map of counts
-abbrev pub need_in : BTreeMap Inserted ℕ → Asked → ℕ
-need_in m q = unwrap_or (get inserted_cmp m (inserted q)) 0
+-- inserted by an epoch from the least to the greatest
+abbrev pub is_between : ℕ → ℕ → Inserted → Bool
+is_between least greatest k = nat_le least k.ins && nat_le k.ins greatest
+
+-- how often it is wanted, by the entries of a map of counts
+abbrev pub need_in : List (Inserted × ℕ) → Asked → ℕ
+need_in es q = unwrap_or (lookup (λ k. is_eq (inserted_cmp (inserted q) k)) es) 0
 
 -- what a row more or less makes of how often each is wanted
 abbrev pub Adds : Asked → (Asked → ℕ) → (Asked → ℕ) → Type 0

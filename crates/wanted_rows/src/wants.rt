@@ -1,88 +1,101 @@
-ghost use Rattle.std.specs.Prelude.{◌≡◌, ◌+◌, ◌<◌, ◌^◌, ℕ, IfOk, IsTrue, OnOk};
+ghost use Rattle.std.specs.Prelude.{◌≡◌, ◌≤◌, slice_index_or, true, false, IfOk, IsTrue};
+ghost use Rattle.std.specs.Ordering.{is_le};
+ghost use Rattle.col_value.specs.Order.{value_cmp};
 ghost use Rattle.col_value.specs.declared.row.Asked.{Asked as ARow};
-ghost use Rattle.wanted_rows.specs.Wanted.{need_in, asked_in, tally, Adds, Tries};
+ghost use Rattle.col_value.specs.declared.value.Value.TheVariants.{Null};
+ghost use Rattle.wanted_rows.specs.Wanted.{need_in, asked_in, tally, Tries};
 
-use col_value::Asked;
+use crate::counts::{Counts, counts_of, has_epoch_between, take};
+use crate::spans::{Span, spans_of};
+use col_value::{Asked, Value};
 use std::alloc::{AllocError, Global};
-use std::collections::BTreeMap;
+use std::marker::Model;
 use write_store::Inserted;
 
-/// How often each row is wanted still.
+/// How often each row is wanted still, and within which values all these rows lie.
 #[derive(Drop)]
 pub struct Wants {
-    pub counts: BTreeMap<Inserted, u64>,
+    counts: Counts,
+    spans: Vec<Span>,
+}
+
+impl Model for Wants {
+    ghost use Rattle.std.specs.Prelude.{ℕ, List};
+    ghost use Rattle.write_store.specs.declared.held.Inserted.{Inserted as Key};
+    ghost use Rattle.wanted_rows.specs.Spans.{Covers};
+    ghost use Rattle.wanted_rows.specs.Wanted.{need_in};
+
+    ghost Value = { List (Key × ℕ) };
+
+    ghost view = { λ w. w.counts.entries };
+
+    ghost invariant = { λ w. Covers w.spans.items (need_in w.counts.entries) };
 }
 
 impl Wants {
     /// Each row of a list is wanted as often as it stands there.
-    pub fn new(alloc: Global, wanted: &[Asked]) -> Result<Wants, AllocError>
-        ensures { IfOk result (λ wants. (q : ARow) → need_in wants.counts q ≡ tally q wanted.now) }
+    pub fn new(alloc: Global, wanted: Vec<Asked>) -> Result<Wants, AllocError>
+        ensures { IfOk result (λ wants. (q : ARow) → need_in wants q ≡ tally q wanted.items) }
     {
-        let mut wants = Wants::none(alloc);
-        for asked in wanted {
-            wants.add(inserted(alloc, asked)?)?;
-        }
-        Ok(wants)
+        let spans = spans_of(alloc, wanted.as_slice())?;
+        let counts = counts_of(alloc, wanted)?;
+        Ok(Wants { counts, spans })
     }
 
-    fn none(alloc: Global) -> Wants
-        ensures { (q : ARow) → need_in result.counts q ≡ 0 }
+    /// Whether a row with this value in a column may be wanted.
+    pub fn may_have(&self, column: usize, value: &Value) -> bool
+        ensures { result ≡ false → (q : ARow) → slice_index_or q.row column Null ≡ value.now → need_in self.now q ≡ 0 }
     {
-        Wants {
-            counts: BTreeMap::new(alloc),
-        }
-    }
-
-    fn need(&self, row: &Inserted) -> u64
-        ensures { result ≡ need_in self.now.counts (asked_in row.now) }
-    {
-        match self.counts.get(row) {
-            Some(count) => *count,
-            None => 0,
+        match self.spans.get(column) {
+            Some(span) => span.has(value),
+            None => true,
         }
     }
 
-    /// One row more is wanted.
-    fn add(&mut self, row: Inserted) -> Result<(), AllocError>
-        requires { need_in self.old.counts (asked_in row) + 1 < 2 ^ 64 }
-        ensures { OnOk result (Adds (asked_in row) (need_in self.old.counts) (need_in self.new.counts)) }
+    /// Whether a row with a value from the least to the greatest in a column may be wanted.
+    pub fn may_have_between(&self, column: usize, least: &Value, greatest: &Value) -> bool
+        ensures { result ≡ false → (q : ARow) → is_le (value_cmp least.now (slice_index_or q.row column Null)) ≡ true → is_le (value_cmp (slice_index_or q.row column Null) greatest.now) ≡ true → need_in self.now q ≡ 0 }
     {
-        let count = self.need(&row) + 1;
-        self.counts.insert(row, count)?;
-        Ok(())
+        match self.spans.get(column) {
+            Some(span) => span.meets(least, greatest),
+            None => true,
+        }
+    }
+
+    /// Whether a row of an epoch from the least to the greatest is wanted.
+    pub fn may_have_epoch_between(&self, least: u64, greatest: u64) -> bool
+        ensures { result ≡ false → (q : ARow) → least ≤ q.ins → q.ins ≤ greatest → need_in self.now q ≡ 0 }
+    {
+        has_epoch_between(&self.counts, least, greatest)
+    }
+
+    /// Whether all rows that were wanted at first have one value in this column: then few others may be. A hint, which decides no answer.
+    pub fn is_single(&self, column: usize) -> bool {
+        match self.spans.get(column) {
+            Some(span) => span.is_single(),
+            None => false,
+        }
+    }
+
+    /// Whether `may_have` says true of each value from the least to the greatest. A hint, which decides no answer.
+    pub fn has_all_between(&self, column: usize, least: &Value, greatest: &Value) -> bool {
+        match self.spans.get(column) {
+            Some(span) => span.has_all(least, greatest),
+            None => false,
+        }
     }
 
     /// Takes a row, where it is wanted; answers whether it was.
     pub fn take(&mut self, alloc: Global, row: &Inserted) -> Result<bool, AllocError>
-        ensures { IfOk result (λ taken. Tries taken (asked_in row.now) (need_in self.old.counts) (need_in self.new.counts)) }
+        ensures { IfOk result (λ taken. Tries taken (asked_in row.now) (need_in self.old) (need_in self.new)) }
     {
-        let count = self.need(row);
-        if count == 0 {
-            return Ok(false);
-        }
-        if count == 1 {
-            self.counts.remove(row);
-            return Ok(true);
-        }
-        let same = row.copy(alloc)?;
-        self.counts.insert(same, count - 1)?;
-        Ok(true)
+        take(alloc, &mut self.counts, row)
     }
 
     /// Whether no row is wanted any more.
     pub fn is_done(&self) -> bool
-        ensures { IsTrue result → (q : ARow) → need_in self.now.counts q ≡ 0 }
+        ensures { IsTrue result → (q : ARow) → need_in self.now q ≡ 0 }
     {
         self.counts.is_empty()
     }
-}
-
-/// A copy of a row that is wanted.
-fn inserted(alloc: Global, asked: &Asked) -> Result<Inserted, AllocError>
-    ensures { IfOk result (λ i. asked_in i ≡ asked.now) }
-{
-    Ok(Inserted {
-        ins: asked.ins,
-        row: asked.row.copy(alloc)?,
-    })
 }

@@ -1,11 +1,15 @@
 ghost use Rattle.std.specs.Prelude.{◌≡◌, IfOk};
+ghost use Rattle.std.specs.Cmp.{partial_equiv_from_equiv, eq_by_cmp_equiv};
+ghost use Rattle.std.specs.Ordering.{eq_by_cmp};
 ghost use Rattle.write_store.specs.Memory.{stamp, held_of};
+ghost use Rattle.write_store.specs.Order.{inserted_cmp, inserted_fed, inserted_fed_alike, inserted_total};
 
 use col_value::{Asked, Row, Stamped};
 use std::alloc::{AllocError, Global};
+use std::hash::{Hash, Hasher};
 
-/// A row and the epoch that inserted it. Rows of one epoch stand by their values.
-#[derive(Debug, Drop, PartialEq, Eq, PartialOrd, Ord)]
+/// A row and the epoch that inserted it.
+#[derive(Debug, Drop)]
 pub struct Inserted {
     pub ins: u64,
     pub row: Row,
@@ -20,6 +24,31 @@ impl Inserted {
             ins: self.ins,
             row: self.row.copy(alloc)?,
         })
+    }
+}
+
+impl PartialEq for Inserted {
+    ghost eq = { eq_by_cmp inserted_cmp };
+
+    ghost laws = { partial_equiv_from_equiv (eq_by_cmp_equiv inserted_total) };
+
+    fn eq(&self, other: &Self) -> bool {
+        self.ins == other.ins && self.row.order(&other.row).is_eq()
+    }
+}
+
+impl Eq for Inserted {
+    ghost laws = { eq_by_cmp_equiv inserted_total };
+}
+
+impl Hash for Inserted {
+    ghost hash_input = { inserted_fed };
+
+    ghost respects_eq = { inserted_fed_alike };
+
+    fn hash<H: Hasher>(&self, state: &mut H) {
+        self.ins.hash(state);
+        self.row.hash(state);
     }
 }
 

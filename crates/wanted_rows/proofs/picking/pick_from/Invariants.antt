@@ -9,9 +9,9 @@ use Rattle.wanted_rows.proofs.picking.pick_from.Given as goal
 abbrev pub invariant-loop-i : goal.invariant-loop-i
 invariant-loop-i l = record {
   picked :
-      (mark : ℕ → Option ℕ) (all : List Asked) → StandFrom l.first mark all l.rows → (start : Asked → ℕ) → PicksBefore l.first mark all l.fn.places.items start (need_in l.fn.wants.counts)
-      → PicksBefore (l.first + l.i) mark all l.places.items start (need_in l.wants.counts);
+      (mark : ℕ → Option ℕ) (all : List Asked) → StandFrom l.first mark all (need_in l.fn.wants) l.some → (start : Asked → ℕ) → PicksBefore l.first mark all l.fn.places.items start (need_in l.fn.wants)
+      → PicksBefore (l.first + l.i) mark all l.places.items start (need_in l.wants);
   inside : (n : ℕ) → l.first + l.i ≤ n → All (λ p. p < n) l.fn.places.items → All (λ p. p < n) l.places.items;
-  fewer : (q : Asked) → need_in l.wants.counts q ≤ need_in l.fn.wants.counts q;
-  within : l.i ≤ length l.rows;
+  fewer : (q : Asked) → need_in l.wants q ≤ need_in l.fn.wants q;
+  within : l.i ≤ length l.some;
 }

@@ -5,4 +5,4 @@ use Rattle.wanted_rows.proofs.picking.try_row.Goals as goal
 
 pub returns-in-None : goal.returns-in-None
 returns-in-None c = IfOk-weaker c.take.result _ _
-    (λ taken tries. tries_undeleted taken c.args.del (asked_in c.args.row.now) (need_in c.args.wants.now.counts) (need_in c.take.new.self.counts) c.in-None.is tries) c.take.ensures
+    (λ taken tries. tries_undeleted taken c.args.del (asked_in c.args.row.now) (need_in c.args.wants.now) (need_in c.take.new.self) c.in-None.is tries) c.take.ensures
