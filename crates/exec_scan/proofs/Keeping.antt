@@ -16,7 +16,7 @@ use Rattle.stored_rows.specs.Held.{HoldsMarked, stamped_from}
 use Rattle.stored_rows.specs.Stored.{Beside, Projected, Stores, StoresRows, mark_in}
 use Rattle.exec_scan.specs.Retaining.{is_kept, keeps_from, KeepsAt}
 use Rattle.exec_scan.proofs.Handed.{beside, some_at}
-use Rattle.exec_scan.proofs.Long.{container_long}
+use Rattle.proj_store.proofs.BlockRows.{container_long}
 
 -- the same epochs keep the same rows
 pub same_keeps : (mark : ℕ) (f g : ℕ → Option ℕ) → ((i : ℕ) → f i ≡ g i) → (first count : ℕ) → keeps_from mark f first count ≡ keeps_from mark g first count

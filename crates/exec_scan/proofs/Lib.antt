@@ -1,7 +1,6 @@
 pub mod Batched
 pub mod Blocks
 pub mod Cells
-pub mod Deleted
 pub mod Gathered
 pub mod Handed
 pub mod Indexed

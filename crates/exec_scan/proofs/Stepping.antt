@@ -34,7 +34,7 @@ use Rattle.exec_scan.specs.Passing.{AreOut, IsPassed}
 use Rattle.exec_scan.specs.Reading.{OfBlock, ShowsAll, ShowsRows}
 use Rattle.exec_scan.specs.Scanning.{AreLeft, AreOwn, BlamesContainerAt, Gives, HasOpenedAt, IsScanOf, IsUnblamed, Place, rows_passed, steps_left}
 use Rattle.exec_scan.proofs.Handed.{at_some, blank, some_at}
-use Rattle.exec_scan.proofs.Long.{container_long}
+use Rattle.proj_store.proofs.BlockRows.{container_long}
 use Rattle.exec_scan.proofs.Passed.{Between, own_encodings, passed_out, shows}
 
 abbrev pub at_place : ℕ → List (Option ℕ) → List Bound → Bool → ℕ → ℕ → Option Opening → ℕ → Place

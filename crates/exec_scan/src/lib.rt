@@ -12,7 +12,6 @@
 
 mod batch;
 mod columns;
-mod deletes;
 mod opened;
 mod passing;
 mod reading;

@@ -12,12 +12,12 @@ ghost use Rattle.stored_rows.specs.Stored.{Beside};
 ghost use Rattle.exec_scan.specs.Opened.{IsNeeded, HoldsNeeded, IsOpening, HasOpened};
 ghost use Rattle.exec_scan.specs.Scanning.{AreOwn};
 
-use crate::deletes::deletes_of;
 use catalog_types::{Container, Projection};
 use col_disk::{Disk, StoreFault};
 use container_blocks::index;
 use del_vector::Mark;
 use pos_index::PosIndex;
+use proj_store::deletes_of;
 use std::alloc::{AllocError, Global};
 use std::marker::Model;
 

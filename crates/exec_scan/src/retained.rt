@@ -9,9 +9,8 @@ ghost use Rattle.stored_rows.specs.Stored.{Stores, mark_in};
 ghost use Rattle.write_store.specs.Memory.{stamp};
 ghost use Rattle.exec_scan.specs.Retaining.{is_kept, keeps_from, KeepsAt};
 
-use crate::deletes::deletes_of;
 use del_vector::Mark;
-use proj_store::ProjStore;
+use proj_store::{ProjStore, deletes_of};
 use std::alloc::{AllocError, Global};
 use write_store::Held;
 

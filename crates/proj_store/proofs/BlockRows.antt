@@ -1,13 +1,12 @@
--- Rows of a container that are read block by block, and places that are picked of them.
-use Rattle.std.proofs.Common.{◌≡◌, ℕ, zero, suc, ◌+◌, ◌-◌, ◌*◌, ◌^◌, ◌≤◌, ◌<◌, ◌++◌, Bool, true, false, cond, eqb, List, [], ◌∷◌, length, map, take, drop, get_or, min, nat_lt, refl, sym, ap, ap₂, ◌∙◌, subst, arith}
-use Rattle.std.specs.Prelude.{Option, Some, None, ◌==◌}
+-- A container that is read block by block, and places that are picked of its rows.
+use Rattle.std.proofs.Common.{◌≡◌, ℕ, ◌+◌, ◌-◌, ◌*◌, ◌^◌, ◌≤◌, ◌<◌, ◌++◌, Bool, true, false, eqb, List, [], ◌∷◌, length, get_or, min, nat_lt, refl, sym, ap, ◌∙◌, subst, arith}
+use Rattle.std.specs.Prelude.{Option, Some}
 use Rattle.std.specs.List.{All}
 use Rattle.std.proofs.Math.ListN.{get_or-append}
 use Rattle.std.proofs.Math.Seq.{get_or-append_seam}
 use Rattle.std.proofs.lemmas.Bool.{eqb-true}
 use Rattle.std.proofs.lemmas.Bool.Decides.{nat_tests}
-use Rattle.std.proofs.lemmas.List.{get_or-drop, get_or-take, length-append, length-drop, length-map, length-take, map-append, take_all, take_more}
-use Rattle.std.proofs.lemmas.List.Elements.{All-drop, All-head, All-tail, All-take}
+use Rattle.std.proofs.lemmas.List.{length-append, length-map}
 use Rattle.common_laws.specs.Maps.{Contents}
 use Rattle.catalog_types.specs.declared.catalogue.Container.{Container}
 use Rattle.col_file.specs.Held.{HasBlocks}
@@ -15,19 +14,18 @@ use Rattle.col_file.proofs.ByBlocks.{entries_are}
 use Rattle.col_value.specs.declared.kinds.Encoding.{Encoding}
 use Rattle.col_value.specs.declared.row.Asked.{Asked}
 use Rattle.col_value.specs.declared.value.Value.{Value}
-use Rattle.col_value.specs.declared.value.Value.TheVariants as value
 use Rattle.pos_index.specs.declared.index.Entry.{Entry}
 use Rattle.pos_index.specs.declared.index.PosIndex.{PosIndex}
 use Rattle.pos_index.specs.Index.{are_entries, blocks, follows}
 use Rattle.pos_index.proofs.Reading.{and_true, index_long}
 use Rattle.ros_container.specs.Held.{HoldsContainer}
-use Rattle.ros_container.specs.Rows.{column_values, epoch_values, stored_values, AreWide}
-use Rattle.container_blocks.specs.Blocks.{HasIndex, IsIndexOf, rows_in}
-use Rattle.write_store.specs.declared.held.Held.{Held}
-use Rattle.wanted_rows.specs.Wanted.{asked_in}
-use Rattle.wanted_rows.specs.Picked.{blank, asked_of, del_at, Picks, PicksBefore, PicksFrom, StandFrom}
+use Rattle.ros_container.specs.Rows.{epoch_values}
+use Rattle.container_blocks.specs.Blocks.{HasIndex, IsIndexOf}
+use Rattle.write_store.specs.declared.held.Inserted.{Inserted}
+use Rattle.wanted_rows.specs.Picked.{blank, Picks, PicksBefore, PicksFrom}
 use Rattle.wanted_rows.proofs.Steps.{picks_none, picks_all, picks_past}
-use Rattle.proj_store.specs.Blocks.{HasIndexes, AreRowsOf, PicksOn, blank_row, front, in_list, with_value, with_values}
+use Rattle.proj_store.specs.Blocks.{HasIndexes, PicksOn}
+use Rattle.proj_store.specs.Candidates.{AreCandidates}
 use Rattle.proj_store.specs.Marking.{ArePlaces}
 
 -- ---- indexes, one after the other
@@ -62,117 +60,6 @@ indexes_none k holds ats is = subst (HasIndexes k holds) (sym is) (λ i d lt. ab
 pub index_here : (k : Container) (holds : Option Contents) (ats : List PosIndex) (i : ℕ) (at : PosIndex) → HasIndexes k holds ats → i < length ats → at ≡ get_or ats i at → HasIndex k i at holds
 index_here k holds ats i at all lt is = subst (λ (x : PosIndex). HasIndex k i x holds) (sym is) (all i at lt)
 
--- ---- rows made column by column
-
-abbrev make : List Value → ℕ → Asked
-make row ins = record { row = row; ins = ins }
-
-front_next : (i : ℕ) (a b : Asked) → i < length a.row → b ≡ front i a → make (b.row ++ get_or a.row i value.Null ∷ []) b.ins ≡ front (i + 1) a
-front_next i a b lt is =
-    ap (λ (x : Asked). make (x.row ++ get_or a.row i value.Null ∷ []) x.ins) is
-    ∙ ap (λ (xs : List Value). make xs a.ins) (sym (take_more a.row i value.Null lt))
-
-first_is : (a b : Asked) (xs ys : List Asked) → a ∷ xs ≡ b ∷ ys → a ≡ b
-first_is a b xs ys e = cc
-
-rest_is : (a b : Asked) (xs ys : List Asked) → a ∷ xs ≡ b ∷ ys → xs ≡ ys
-rest_is a b xs ys e = cc
-
-pub front_more : (n i : ℕ) (xs : List Asked) (held : List Held) → AreWide n xs → i < n → asked_of held ≡ map (front i) xs → asked_of (with_values held (column_values i xs)) ≡ map (front (i + 1)) xs
-front_more n i [] [] wide lt is = refl
-front_more n i [] (h ∷ held) wide lt is = absurd (cc)
-front_more n i (a ∷ xs) [] wide lt is = absurd (cc)
-front_more n i (a ∷ xs) (h ∷ held) wide lt is =
-    let one : length a.row ≡ n = All-head (λ (b : Asked). length b.row ≡ n) a xs wide in
-    ap₂ (λ (b : Asked) (bs : List Asked). b ∷ bs) (front_next i a (asked_in h.inserted) (omega (arith, one, lt)) (first_is (asked_in h.inserted) (front i a) (asked_of held) (map (front i) xs) is))
-    (front_more n i xs held (All-tail (λ (b : Asked). length b.row ≡ n) a xs wide) lt (rest_is (asked_in h.inserted) (front i a) (asked_of held) (map (front i) xs) is))
-
-pub front_none : (xs : List Asked) → map blank_row (map (λ a. a.ins) xs) ≡ map (front 0) xs
-front_none [] = refl
-front_none (a ∷ xs) = ap (λ (bs : List Asked). blank_row a.ins ∷ bs) (front_none xs)
-
-pub front_all : (n : ℕ) (xs : List Asked) → AreWide n xs → map (front n) xs ≡ xs
-front_all n [] wide = refl
-front_all n (a ∷ xs) wide =
-    let one : length a.row ≡ n = All-head (λ (b : Asked). length b.row ≡ n) a xs wide in
-    ap₂ (λ (b : Asked) (bs : List Asked). b ∷ bs) (ap (λ (row : List Value). make row a.ins) (take_all n a.row (omega (arith, one))))
-    (front_all n xs (All-tail (λ (b : Asked). length b.row ≡ n) a xs wide))
-
-with_dels : (held : List Held) (vs : List Value) → length held ≡ length vs → map (λ (h : Held). h.del) (with_values held vs) ≡ map (λ (h : Held). h.del) held
-with_dels [] [] long = refl
-with_dels [] (v ∷ vs) long = refl
-with_dels (h ∷ held) [] long = absurd (omega (arith, long))
-with_dels (h ∷ held) (v ∷ vs) long = ap (λ (ds : List (Option ℕ)). h.del ∷ ds) (with_dels held vs (omega (arith, long)))
-
-pub with_long : (held : List Held) (vs : List Value) → length held ≡ length vs → length (with_values held vs) ≡ length held
-with_long [] [] long = refl
-with_long [] (v ∷ vs) long = refl
-with_long (h ∷ held) [] long = absurd (omega (arith, long))
-with_long (h ∷ held) (v ∷ vs) long = omega (arith, with_long held vs (omega (arith, long)))
-
-pub dels_stay : (held next : List Held) (vs : List Value) (deletes : List (Option ℕ)) (first : ℕ) → length held ≡ length vs → next ≡ with_values held vs → ((i : ℕ) → i < length held → del_at held i ≡ in_list deletes (first + i))
-    → (i : ℕ) → i < length next → del_at next i ≡ in_list deletes (first + i)
-dels_stay held next vs deletes first long is was i lt =
-    ap (λ (ds : List (Option ℕ)). get_or ds i None) (ap (map (λ (h : Held). h.del)) is ∙ with_dels held vs long) ∙ was i (omega (arith, lt, ap length is, with_long held vs long))
-
--- a row without values more
-pub blanks_more : (out next : List Held) (h : Held) (epochs : List ℕ) (i ins : ℕ) → next ≡ out ++ h ∷ [] → asked_in h.inserted ≡ blank_row ins → i < length epochs → ins ≡ get_or epochs i 0 → asked_of out ≡ map blank_row (take i epochs)
-    → asked_of next ≡ map blank_row (take (i + 1) epochs)
-blanks_more out next h epochs i ins is one lt at was =
-    ap asked_of is ∙ map-append (λ (x : Held). asked_in x.inserted) out (h ∷ []) ∙ ap₂ (λ (xs : List Asked) (x : Asked). xs ++ x ∷ []) was (one ∙ ap blank_row at)
-    ∙ sym (ap (map blank_row) (take_more epochs i 0 lt) ∙ map-append blank_row (take i epochs) (get_or epochs i 0 ∷ []))
-
-pub dels_more : (out next : List Held) (h : Held) (deletes : List (Option ℕ)) (first i : ℕ) → next ≡ out ++ h ∷ [] → h.del ≡ in_list deletes (first + i) → length out ≡ i → ((j : ℕ) → j < length out → del_at out j ≡ in_list deletes (first + j))
-    → (j : ℕ) → j < length next → del_at next j ≡ in_list deletes (first + j)
-dels_more out next h deletes first i is one long was j lt = ap (λ (xs : List Held). del_at xs j) is ∙ ap (λ (ds : List (Option ℕ)). get_or ds j None) both ∙ by (nat_lt j (length out)) refl
-  where
-    dels : List (Option ℕ)
-    dels = map (λ (x : Held). x.del) out
-
-    both : map (λ (x : Held). x.del) (out ++ h ∷ []) ≡ dels ++ h.del ∷ []
-    both = map-append (λ (x : Held). x.del) out (h ∷ [])
-
-    many : length dels ≡ length out
-    many = length-map out (λ (x : Held). x.del)
-
-    by : (b : Bool) → nat_lt j (length out) ≡ b → get_or (dels ++ h.del ∷ []) j None ≡ in_list deletes (first + j)
-    by true e =
-        let less : j < length out = grind (arith, nat_tests) in
-        get_or-append dels (h.del ∷ []) None j (omega (arith, less, many)) ∙ was j less
-    by false e =
-        let past : length out ≤ j = grind (arith, nat_tests) in
-        let at : length dels ≡ j = omega (arith, past, lt, many, ap length is, length-append out (h ∷ [])) in
-        let same : i ≡ j = omega (arith, at, many, long) in
-        subst (λ (n : ℕ). get_or (dels ++ h.del ∷ []) n None ≡ in_list deletes (first + j)) at
-        (get_or-append_seam dels h.del [] None ∙ one ∙ ap (λ (n : ℕ). in_list deletes (first + n)) same)
-
-wide_block : (n b : ℕ) (rows : List Asked) → AreWide n rows → AreWide n (rows_in b rows)
-wide_block n b rows wide = All-take (λ (a : Asked). length a.row ≡ n) 1024 (drop (1024 * b) rows) (All-drop (λ (a : Asked). length a.row ≡ n) (1024 * b) rows wide)
-
-column_is : (columns i : ℕ) (rows : List Asked) → i < columns → stored_values columns i rows ≡ column_values i rows
-column_is columns i rows lt =
-    let other : (i == columns) ≡ false = grind (arith, nat_tests) in
-    ap (λ (b : Bool). cond b (epoch_values rows) (column_values i rows)) other
-
--- what is read so far of the rows of a block: their epochs, and the values of their first columns
-abbrev pub ReadUpto : Option Contents → List Encoding → Container → ℕ → ℕ → List Held → Type 0
-ReadUpto holds es k b i held = (m : Contents) → holds ≡ Some m → (rows : List Asked) → HoldsContainer m es k rows → asked_of held ≡ map (front i) (rows_in b rows)
-
-pub read_none : (holds : Option Contents) (es : List Encoding) (k : Container) (b : ℕ) (held : List Held) (ins : List ℕ) → asked_of held ≡ map blank_row ins
-    → ((m : Contents) → holds ≡ Some m → (rows : List Asked) → HoldsContainer m es k rows → ins ≡ map (λ a. a.ins) (rows_in b rows)) → ReadUpto holds es k b 0 held
-read_none holds es k b held ins is are m told rows holding = is ∙ ap (map blank_row) (are m told rows holding) ∙ front_none (rows_in b rows)
-
-pub read_more : (now found : Option Contents) (es : List Encoding) (k : Container) (b i : ℕ) (held next : List Held) (vs : List Value) → now ≡ found → i < length es → next ≡ with_values held vs → ReadUpto found es k b i held
-    → ((m : Contents) → now ≡ Some m → (rows : List Asked) → HoldsContainer m es k rows → vs ≡ stored_values (length es) i (rows_in b rows)) → ReadUpto found es k b (i + 1) next
-read_more now found es k b i held next vs same lt is was are m told rows holding =
-    let vs_are : vs ≡ column_values i (rows_in b rows) = are m (same ∙ told) rows holding ∙ column_is (length es) i (rows_in b rows) lt in
-    ap asked_of is ∙ ap (λ (xs : List Value). asked_of (with_values held xs)) vs_are
-    ∙ front_more (length es) i (rows_in b rows) held (wide_block (length es) b rows holding.wide) lt (was m told rows holding)
-
-pub read_all : (holds : Option Contents) (es : List Encoding) (k : Container) (b i : ℕ) (held : List Held) → i ≡ length es → ReadUpto holds es k b i held → AreRowsOf holds es k b held
-read_all holds es k b i held is read m told rows holding =
-    read m told rows holding ∙ ap (λ (n : ℕ). map (front n) (rows_in b rows)) is ∙ front_all (length es) (rows_in b rows) (wide_block (length es) b rows holding.wide)
-
 -- ---- how many rows a container and its blocks have
 
 blocks_long : (encoding : Encoding) (rows : ℕ) (bytes : List ℕ) (es : List Entry) (first from : ℕ) (vs : List Value) → are_entries first from es ≡ true → HasBlocks encoding rows bytes es vs
@@ -197,7 +84,7 @@ container_long m es k rows held =
 
 -- ---- places of a block
 
-no_index : PosIndex
+pub no_index : PosIndex
 no_index = record { rows = 0; entries = [] }
 
 -- the numbers of a container's rows fit into 64 bits, since its indexes tell how many there are
@@ -206,39 +93,29 @@ block_fits k ats n b more long fit lt few =
     let first : IsIndexOf k.rows (get_or ats 0 no_index) = fit 0 no_index (omega (arith, long)) in
     omega (arith, first.fits.rows, first.of_rows, lt, few)
 
-block_room : (b rows : ℕ) → b < blocks rows → 1024 * b < rows
+pub block_room : (b rows : ℕ) → b < blocks rows → 1024 * b < rows
 block_room b rows lt = omega (arith, lt)
-
-block_stands : (rows : List Asked) (b : ℕ) (deletes : List (Option ℕ)) (held : List Held) → 1024 * b ≤ length rows → asked_of held ≡ rows_in b rows → length held ≡ min 1024 (length rows - 1024 * b)
-    → ((i : ℕ) → i < length held → del_at held i ≡ in_list deletes (1024 * b + i)) → StandFrom (1024 * b) (in_list deletes) rows held
-block_stands rows b deletes held room is long dels = record {
-  within = omega (arith, long, room);
-  rows = λ i lt.
-      sym (ap (λ (xs : List Asked). get_or xs i blank) is ∙ get_or-take 1024 (drop (1024 * b) rows) i blank (omega (arith, lt, long)) ∙ get_or-drop (1024 * b) rows i blank);
-  marks = λ i lt. sym (dels i lt);
-}
 
 block_past : (rows : List Asked) (b n : ℕ) (mark : ℕ → Option ℕ) (places : List ℕ) (start left : Asked → ℕ) → n ≡ min 1024 (length rows - 1024 * b) → PicksBefore (1024 * b + n) mark rows places start left
     → PicksBefore (1024 * (b + 1)) mark rows places start left
 block_past rows b n mark places start left long was =
     picks_past (1024 * b + n) (1024 * (b + 1)) mark rows places start left was (omega (arith, long)) (λ p from lt within. absurd (omega (arith, long, from, lt, within)))
 
-pub picks_on : (holds : Option Contents) (es : List Encoding) (k : Container) (deletes : List (Option ℕ)) (b : ℕ) (held now : List Held) (old new : List ℕ) (need left : Asked → ℕ) → b < blocks k.rows → now ≡ held → length held ≡ min 1024 (k.rows - 1024 * b)
-    → AreRowsOf holds es k b held → ((i : ℕ) → i < length held → del_at held i ≡ in_list deletes (1024 * b + i)) → PicksFrom (1024 * b) now old new need left → PicksOn holds es k (in_list deletes) b old new need left
-picks_on holds es k deletes b held now old new need left lt same long are dels picks m told rows holding start was =
+pub picks_on : (holds : Option Contents) (es : List Encoding) (k : Container) (mark : ℕ → Option ℕ) (b : ℕ) (some now : List (Option Inserted)) (old new : List ℕ) (need left : Asked → ℕ) → now ≡ some → length some ≡ min 1024 (k.rows - 1024 * b)
+    → AreCandidates holds es k mark b need some → PicksFrom (1024 * b) now old new need left → PicksOn holds es k mark b old new need left
+picks_on holds es k mark b some now old new need left same long are picks m told rows holding start was =
     let all : length rows ≡ k.rows = container_long m es k rows holding in
-    let here : length held ≡ min 1024 (length rows - 1024 * b) = omega (arith, long, all) in
-    let picked = subst (λ (hs : List Held). PicksFrom (1024 * b) hs old new need left) same picks in
-    block_past rows b (length held) (in_list deletes) new start left here
-    (picked (in_list deletes) rows (block_stands rows b deletes held (omega (arith, all, block_room b k.rows lt)) (are m told rows holding) here dels) start was)
+    let here : length some ≡ min 1024 (length rows - 1024 * b) = omega (arith, long, all) in
+    let picked = subst (λ (xs : List (Option Inserted)). PicksFrom (1024 * b) xs old new need left) same picks in
+    block_past rows b (length some) mark new start left here (picked mark rows (are m told rows holding) start was)
 
 pub none_on : (holds : Option Contents) (es : List Encoding) (k : Container) (mark : ℕ → Option ℕ) (b : ℕ) (places : List ℕ) (need : Asked → ℕ) → ((q : Asked) → need q ≡ 0) → PicksOn holds es k mark b places places need need
 none_on holds es k mark b places need nought m told rows holding start was =
     picks_past (1024 * b) (1024 * (b + 1)) mark rows places start need was (omega arith) (λ p from lt within. nought (get_or rows p blank))
 
-pub inside_on : (k : Container) (b : ℕ) (held now : List Held) (old new : List ℕ) → b < blocks k.rows → now ≡ held → length held ≡ min 1024 (k.rows - 1024 * b)
+pub inside_on : (k : Container) (b : ℕ) (some now : List (Option Inserted)) (old new : List ℕ) → b < blocks k.rows → now ≡ some → length some ≡ min 1024 (k.rows - 1024 * b)
     → ((n : ℕ) → 1024 * b + length now ≤ n → All (λ p. p < n) old → All (λ p. p < n) new) → ArePlaces k old → ArePlaces k new
-inside_on k b held now old new lt same long inside all = inside k.rows (omega (arith, long, ap length same, block_room b k.rows lt)) all
+inside_on k b some now old new lt same long inside all = inside k.rows (omega (arith, long, ap length same, block_room b k.rows lt)) all
 
 -- ---- all blocks
 

@@ -11,3 +11,5 @@ pub mod Passed
 pub mod Prepared
 pub mod Deleted
 pub mod BlockRows
+pub mod Narrowing
+pub mod Standing

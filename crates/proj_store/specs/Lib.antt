@@ -3,3 +3,4 @@ pub mod Sound
 pub mod Reading
 pub mod Marking
 pub mod Blocks
+pub mod Candidates

@@ -51,7 +51,7 @@ fn put_marks(deletes: &mut [Option<u64>], marks: &[Mark])
 
 /// The epochs that delete the rows of a container of so many, by its delete vector and by the marks that came since; nothing where there
 /// are no marks.
-fn put_all(
+pub fn deletes_of(
     alloc: Global,
     count: usize,
     held: &[Mark],
@@ -71,7 +71,7 @@ fn put_all(
 }
 
 /// The epochs that delete the rows of a container, by what is kept of it; nothing where there are no marks.
-pub fn deletes_of(
+pub(crate) fn kept_deletes(
     alloc: Global,
     container: &Container,
     kept: &Kept,
@@ -80,5 +80,5 @@ pub fn deletes_of(
     ensures { IfOk result (λ v. (i : ℕ) → in_list v.items i ≡ mark_in (beside_of kept.now) i) }
 {
     let (held, fresh) = (kept.held.marks(), kept.fresh.as_slice());
-    put_all(alloc, container.rows as usize, held, fresh)
+    deletes_of(alloc, container.rows as usize, held, fresh)
 }

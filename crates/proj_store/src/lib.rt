@@ -3,23 +3,28 @@
 //!
 //! No row of a container is in memory: over the contents of a disk a `ProjStore` stands for the rows that `Stores` of `stored_rows`
 //! says. `load` reads the delete vectors and nothing else; `stamped` and `visible` read the containers. For the rows of a commit
-//! `prepare_rows` makes room, and may fail; `apply_rows` takes no memory. For its deletes `prepare_marks` finds the places
+//! `prepare_rows` or `make_room` makes room, and may fail; `apply_rows` takes no memory. For its deletes `prepare_marks` finds the places
 //! (`IsPrepared` of `specs/Marking.antt`) and makes room, and `apply_marks` takes no memory; `wanted_rows_are_deleted` says that
-//! marks at these places delete exactly what was wanted. A container that has no row of a wanted epoch is not read for it; the others
-//! are read block by block, until nothing is wanted any more.
+//! marks at these places delete exactly what was wanted. A container of whose epochs no row is wanted isn't read for it, nor a block of
+//! which an index says so. Of the other blocks those rows are made that may be wanted by each of their values (`AreCandidates` of
+//! `specs/Candidates.antt`), and these alone are looked up, until nothing is wanted any more.
 #![tactic(auto)]
 
+mod alive;
 mod blocks;
+mod candidates;
 mod copies;
 mod deletes;
 mod kept;
 mod laws;
 mod loading;
 mod marking;
+mod passing;
 mod picks;
 mod saved;
 mod store;
 
+pub use deletes::deletes_of;
 pub use laws::{
     later_marks_stay_above, rows_may_come_before_marks, valid_entries_load,
     vectors_are_those_of_the_disk, wanted_rows_are_deleted,

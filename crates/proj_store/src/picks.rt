@@ -1,7 +1,7 @@
 //! Places of wanted rows in a projection's containers.
 
-ghost use Rattle.std.specs.Prelude.{◌≡◌, ◌≤◌, ◌<◌, ◌+◌, ◌↔◌, Some, List, length, map, IfOk, IfErr, IsTrue, OnOk};
-ghost use Rattle.std.specs.List.{All, Any, AllZip};
+ghost use Rattle.std.specs.Prelude.{◌≡◌, ◌≤◌, ◌<◌, ◌+◌, [], Some, List, length, map, IfOk, IfErr, OnOk};
+ghost use Rattle.std.specs.List.{All, AllZip};
 ghost use Rattle.common_laws.specs.Causes.{HasCause};
 ghost use Rattle.common_laws.specs.Maps.{Contents};
 ghost use Rattle.col_disk.specs.Moved.{Moved, NoName};
@@ -9,9 +9,8 @@ ghost use Rattle.col_value.specs.declared.row.Asked.{Asked as ARow};
 ghost use Rattle.ros_container.specs.Encodings.{encodings_of};
 ghost use Rattle.pos_index.specs.Index.{blocks};
 ghost use Rattle.ros_container.specs.Held.{HoldsContainer, BlamesContainer};
-ghost use Rattle.ros_container.specs.Rows.{IsWithin};
 ghost use Rattle.container_blocks.specs.Blocks.{IsIndexOf};
-ghost use Rattle.wanted_rows.specs.Wanted.{need_in, tally};
+ghost use Rattle.wanted_rows.specs.Wanted.{need_in};
 ghost use Rattle.wanted_rows.specs.Picked.{Picks};
 ghost use Rattle.proj_store.specs.Blocks.{HasIndexes, PicksOn, in_list};
 ghost use Rattle.proj_store.specs.Loaded.{beside_of};
@@ -19,27 +18,20 @@ ghost use Rattle.proj_store.specs.Sound.{IsKept, IsSound, HasFileNumbers};
 ghost use Rattle.proj_store.specs.Reading.{BlamesRows};
 ghost use Rattle.proj_store.specs.Marking.{PicksIn, PicksEach, ArePlaces};
 
-use crate::blocks::{indexes_of, read_block};
-use crate::deletes::deletes_of;
+use crate::blocks::indexes_of;
+use crate::candidates::candidates;
+use crate::deletes::kept_deletes;
 use crate::kept::Kept;
+use crate::passing::misses_block;
 use catalog_types::{Container, Projection};
 use col_disk::{Disk, StoreFault};
-use col_value::{Asked, List};
+use col_value::List;
 use pos_index::{PosIndex, blocks_of};
 use std::alloc::{AllocError, Global};
 use wanted_rows::{Wants, pick_from};
 
-/// Whether a row of these may be in the container, by their insert epochs.
-fn may_hold(container: &Container, wanted: &[Asked]) -> bool
-    ensures { IsTrue result ↔ Any (λ a. IsWithin container.now a.ins) wanted.now }
-{
-    let (least, greatest) = (container.least_epoch, container.greatest_epoch);
-    wanted
-        .iter()
-        .any(|asked| least <= asked.ins && asked.ins <= greatest)
-}
-
-/// Places of block k come to those of the blocks before it. It isn't read where nothing is wanted any more.
+/// Places of block k come to those of the blocks before it. It isn't read where nothing is wanted any more, nor where an index says that
+/// none of its rows is.
 fn pick_block<D: Disk>(
     alloc: Global,
     disk: &mut D,
@@ -55,9 +47,9 @@ fn pick_block<D: Disk>(
     requires many { length indexes.now ≡ length entry.now.columns + 1 }
     requires fit { All (IsIndexOf container.now.rows) indexes.now }
     requires block { k < blocks container.now.rows }
-    ensures found { OnOk result (HasIndexes container.now (D.holds disk.old) indexes.now → PicksOn (D.holds disk.old) (encodings_of entry.now) container.now (in_list deletes.now) k places.old.items places.new.items (need_in wants.old.counts) (need_in wants.new.counts)) }
+    ensures found { OnOk result (HasIndexes container.now (D.holds disk.old) indexes.now → PicksOn (D.holds disk.old) (encodings_of entry.now) container.now (in_list deletes.now) k places.old.items places.new.items (need_in wants.old) (need_in wants.new)) }
     ensures inside { OnOk result (ArePlaces container.now places.old.items → ArePlaces container.now places.new.items) }
-    ensures fewer { OnOk result ((q : ARow) → need_in wants.new.counts q ≤ need_in wants.old.counts q) }
+    ensures fewer { OnOk result ((q : ARow) → need_in wants.new q ≤ need_in wants.old q) }
     ensures blamed { IfErr result (λ fault. HasIndexes container.now (D.holds disk.old) indexes.now → BlamesContainer (encodings_of entry.now) container.now (D.holds disk.old) fault) }
     ensures kept { D.holds disk.new ≡ D.holds disk.old }
     ensures moved { Moved ⟦<D as Disk>⟧ NoName NoName disk.old disk.new }
@@ -66,11 +58,15 @@ fn pick_block<D: Disk>(
     if wants.is_done() {
         return Ok(());
     }
-    let rows = match read_block(alloc, disk, entry, container, indexes, deletes, k) {
-        Ok(rows) => rows,
+    let columns = entry.columns.as_slice().len();
+    if misses_block(indexes, columns, k, wants) {
+        return Ok(());
+    }
+    let some = match candidates(alloc, disk, entry, container, indexes, deletes, k, wants) {
+        Ok(some) => some,
         Err(fault) => return Err(fault),
     };
-    match pick_from(alloc, rows.as_slice(), 1024 * k, wants, places) {
+    match pick_from(alloc, some.as_slice(), 1024 * k, wants, places) {
         Ok(()) => Ok(()),
         Err(AllocError) => Err(StoreFault::Memory),
     }
@@ -89,9 +85,9 @@ fn pick_blocks<D: Disk>(
     requires numbers { HasFileNumbers (length entry.now.columns) container.now }
     requires many { length indexes.now ≡ length entry.now.columns + 1 }
     requires fit { All (IsIndexOf container.now.rows) indexes.now }
-    ensures found { IfOk result (λ places. HasIndexes container.now (D.holds disk.old) indexes.now → (m : Contents) → D.holds disk.old ≡ Some m → (rows : List ARow) → HoldsContainer m (encodings_of entry.now) container.now rows → Picks (in_list deletes.now) rows places.items (need_in wants.old.counts) (need_in wants.new.counts)) }
+    ensures found { IfOk result (λ places. HasIndexes container.now (D.holds disk.old) indexes.now → (m : Contents) → D.holds disk.old ≡ Some m → (rows : List ARow) → HoldsContainer m (encodings_of entry.now) container.now rows → Picks (in_list deletes.now) rows places.items (need_in wants.old) (need_in wants.new)) }
     ensures inside { IfOk result (λ places. ArePlaces container.now places.items) }
-    ensures fewer { IfOk result (λ places. (q : ARow) → need_in wants.new.counts q ≤ need_in wants.old.counts q) }
+    ensures fewer { IfOk result (λ places. (q : ARow) → need_in wants.new q ≤ need_in wants.old q) }
     ensures blamed { IfErr result (λ fault. HasIndexes container.now (D.holds disk.old) indexes.now → BlamesContainer (encodings_of entry.now) container.now (D.holds disk.old) fault) }
     ensures kept { D.holds disk.new ≡ D.holds disk.old }
     ensures moved { Moved ⟦<D as Disk>⟧ NoName NoName disk.old disk.new }
@@ -117,7 +113,13 @@ fn pick_blocks<D: Disk>(
     Ok(places)
 }
 
-/// Places of one container, whose rows are read block by block.
+fn no_places(alloc: Global) -> List<usize>
+    ensures { result ≡ [] }
+{
+    List::new(Vec::new(alloc))
+}
+
+/// Places of one container, whose rows are read block by block. No index is read where nothing is wanted any more.
 fn pick_read<D: Disk>(
     alloc: Global,
     disk: &mut D,
@@ -128,19 +130,22 @@ fn pick_read<D: Disk>(
 ) -> Result<List<usize>, StoreFault>
     requires numbers { HasFileNumbers (length entry.now.columns) container.now }
     requires kept { IsKept container.now (beside_of kept.now) }
-    ensures found { IfOk result (λ places. (m : Contents) → D.holds disk.old ≡ Some m → PicksIn m (encodings_of entry.now) container.now (beside_of kept.now) places (need_in wants.old.counts) (need_in wants.new.counts)) }
+    ensures found { IfOk result (λ places. (m : Contents) → D.holds disk.old ≡ Some m → PicksIn m (encodings_of entry.now) container.now (beside_of kept.now) places (need_in wants.old) (need_in wants.new)) }
     ensures inside { IfOk result (ArePlaces container.now) }
-    ensures fewer { IfOk result (λ places. (q : ARow) → need_in wants.new.counts q ≤ need_in wants.old.counts q) }
+    ensures fewer { IfOk result (λ places. (q : ARow) → need_in wants.new q ≤ need_in wants.old q) }
     ensures blamed { IfErr result (BlamesContainer (encodings_of entry.now) container.now (D.holds disk.old)) }
     ensures kept { D.holds disk.new ≡ D.holds disk.old }
     ensures moved { Moved ⟦<D as Disk>⟧ NoName NoName disk.old disk.new }
     ensures cause { HasCause StoreFault.Disk (D.faults disk.old) (D.faults disk.new) result }
 {
+    if wants.is_done() {
+        return Ok(no_places(alloc));
+    }
     let indexes = match indexes_of(alloc, disk, entry, container) {
         Ok(indexes) => indexes,
         Err(fault) => return Err(fault),
     };
-    let deletes = match deletes_of(alloc, container, kept) {
+    let deletes = match kept_deletes(alloc, container, kept) {
         Ok(deletes) => deletes,
         Err(AllocError) => return Err(StoreFault::Memory),
     };
@@ -158,31 +163,29 @@ fn pick_read<D: Disk>(
     }
 }
 
-/// Places of one container. It is passed over unread where none of the wanted epochs is one of its epochs.
+/// Places of one container. It is passed over unread where no row of its epochs is wanted.
 fn pick_in<D: Disk>(
     alloc: Global,
     disk: &mut D,
     entry: &Projection,
     container: &Container,
     kept: &Kept,
-    wanted: &[Asked],
     wants: &mut Wants,
 ) -> Result<List<usize>, StoreFault>
     requires numbers { HasFileNumbers (length entry.now.columns) container.now }
     requires kept { IsKept container.now (beside_of kept.now) }
-    requires most { (q : ARow) → need_in wants.old.counts q ≤ tally q wanted.now }
-    ensures found { IfOk result (λ places. (m : Contents) → D.holds disk.old ≡ Some m → PicksIn m (encodings_of entry.now) container.now (beside_of kept.now) places (need_in wants.old.counts) (need_in wants.new.counts)) }
+    ensures found { IfOk result (λ places. (m : Contents) → D.holds disk.old ≡ Some m → PicksIn m (encodings_of entry.now) container.now (beside_of kept.now) places (need_in wants.old) (need_in wants.new)) }
     ensures inside { IfOk result (ArePlaces container.now) }
-    ensures fewer { IfOk result (λ places. (q : ARow) → need_in wants.new.counts q ≤ need_in wants.old.counts q) }
+    ensures fewer { IfOk result (λ places. (q : ARow) → need_in wants.new q ≤ need_in wants.old q) }
     ensures blamed { IfErr result (BlamesContainer (encodings_of entry.now) container.now (D.holds disk.old)) }
     ensures kept { D.holds disk.new ≡ D.holds disk.old }
     ensures moved { Moved ⟦<D as Disk>⟧ NoName NoName disk.old disk.new }
     ensures cause { HasCause StoreFault.Disk (D.faults disk.old) (D.faults disk.new) result }
 {
-    if may_hold(container, wanted) {
+    if wants.may_have_epoch_between(container.least_epoch, container.greatest_epoch) {
         pick_read(alloc, disk, entry, container, kept, wants)
     } else {
-        Ok(List::new(Vec::new(alloc)))
+        Ok(no_places(alloc))
     }
 }
 
@@ -192,12 +195,10 @@ pub fn pick_each<D: Disk>(
     disk: &mut D,
     entry: &Projection,
     kept: &[Kept],
-    wanted: &[Asked],
     wants: &mut Wants,
 ) -> Result<Vec<List<usize>>, StoreFault>
     requires sound { IsSound entry.now (map beside_of kept.now) }
-    requires most { (q : ARow) → need_in wants.old.counts q ≤ tally q wanted.now }
-    ensures found { IfOk result (λ each. (m : Contents) → D.holds disk.old ≡ Some m → PicksEach m (encodings_of entry.now) entry.now.containers (map beside_of kept.now) each.items (need_in wants.old.counts) (need_in wants.new.counts)) }
+    ensures found { IfOk result (λ each. (m : Contents) → D.holds disk.old ≡ Some m → PicksEach m (encodings_of entry.now) entry.now.containers (map beside_of kept.now) each.items (need_in wants.old) (need_in wants.new)) }
     ensures inside { IfOk result (λ each. AllZip ArePlaces entry.now.containers each.items) }
     ensures blamed { IfErr result (BlamesRows entry.now (D.holds disk.old)) }
     ensures kept { D.holds disk.new ≡ D.holds disk.old }
@@ -207,7 +208,7 @@ pub fn pick_each<D: Disk>(
     let containers = entry.containers.as_slice();
     let mut each = Vec::new(alloc);
     for (i, container) in containers.iter().enumerate() {
-        let places = match pick_in(alloc, disk, entry, container, &kept[i], wanted, wants) {
+        let places = match pick_in(alloc, disk, entry, container, &kept[i], wants) {
             Ok(places) => places,
             Err(fault) => return Err(fault),
         };

@@ -1,6 +1,6 @@
 //! A projection in memory, and its calls.
 
-ghost use Rattle.std.specs.Prelude.{◌≡◌, ◌≤◌, ◌<◌, ◌-◌, [], Some, List, length, map, IfOk, IfErr, IsSomeAnd};
+ghost use Rattle.std.specs.Prelude.{◌≡◌, ◌≤◌, ◌<◌, ◌-◌, [], Some, List, length, map, IfOk, IfErr, OnOk, IsSomeAnd};
 ghost use Rattle.std.specs.List.{All, slice_get};
 ghost use Rattle.common_laws.specs.Causes.{HasCause};
 ghost use Rattle.common_laws.specs.Maps.{Contents};
@@ -65,6 +65,16 @@ impl Model for ReadyRows {
     ghost view = { λ r. r.rows.items };
 
     ghost invariant = { λ r. All IsRow r.rows.items };
+}
+
+impl ReadyRows {
+    /// Rows for which room was made before they came. It takes no memory.
+    pub fn of(rows: Vec<Row>) -> ReadyRows
+        requires { All IsRow rows.items }
+        ensures { result ≡ rows.items }
+    {
+        ReadyRows { rows }
+    }
 }
 
 impl ProjStore {
@@ -190,6 +200,15 @@ impl ProjStore {
         }
     }
 
+    /// Makes room for so many rows of a commit; nothing else changes.
+    pub fn make_room(&mut self, count: usize) -> Result<(), AllocError>
+        ensures room { OnOk result (count ≤ self.new.spare) }
+        ensures stored { self.new.stored ≡ self.old.stored }
+        ensures rooms { self.new.rooms ≡ self.old.rooms }
+    {
+        self.unsaved.reserve(count)
+    }
+
     /// Makes room for the rows of a commit; nothing else changes.
     pub fn prepare_rows(&mut self, rows: Vec<Row>) -> Result<ReadyRows, AllocError>
         requires { All IsRow rows.items }
@@ -198,7 +217,7 @@ impl ProjStore {
         ensures stored { self.new.stored ≡ self.old.stored }
         ensures rooms { self.new.rooms ≡ self.old.rooms }
     {
-        self.unsaved.reserve(rows.len())?;
+        self.make_room(rows.len())?;
         Ok(ReadyRows { rows })
     }
 

@@ -39,9 +39,9 @@ impl ProjStore {
         &mut self,
         alloc: Global,
         disk: &mut D,
-        wanted: &[Asked],
+        wanted: Vec<Asked>,
     ) -> Result<Marks, StoreFault>
-        ensures prepared { IfOk result (λ ready. (m : Contents) → D.holds disk.old ≡ Some m → IsPrepared m self.old.stored wanted.now ready) }
+        ensures prepared { IfOk result (λ ready. (m : Contents) → D.holds disk.old ≡ Some m → IsPrepared m self.old.stored wanted.items ready) }
         ensures ready { IfOk result (λ ready. CanMark ready self.new) }
         ensures stored { self.new.stored ≡ self.old.stored }
         ensures spare { self.new.spare ≡ self.old.spare }
@@ -54,14 +54,7 @@ impl ProjStore {
             Ok(wants) => wants,
             Err(AllocError) => return Err(StoreFault::Memory),
         };
-        let each = match pick_each(
-            alloc,
-            disk,
-            &self.entry,
-            self.kept.as_slice(),
-            wanted,
-            &mut wants,
-        ) {
+        let each = match pick_each(alloc, disk, &self.entry, self.kept.as_slice(), &mut wants) {
             Ok(each) => each,
             Err(fault) => return Err(fault),
         };

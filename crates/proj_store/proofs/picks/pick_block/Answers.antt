@@ -1,26 +1,37 @@
 use Rattle.std.proofs.Common.{◌≡◌, ◌∙◌, ◌<◌, ◌+◌, ◌-◌, ◌*◌, ◌^◌, length, min, ap, arith}
+use Rattle.std.proofs.lemmas.List.{length-map}
 use Rattle.col_disk.proofs.Moving.{moved_none}
 use Rattle.ros_container.specs.Encodings.{encodings_of}
 use Rattle.wanted_rows.specs.Wanted.{need_in}
 use Rattle.proj_store.specs.Blocks.{in_list}
 use Rattle.proj_store.proofs.BlockRows.{block_fits, picks_on, none_on, inside_on}
+use Rattle.proj_store.proofs.Standing.{misses_on}
 use Rattle.proj_store.proofs.picks.pick_block.Goals as goal
 
 pub returns-then-is_done-clause-found : goal.returns-then-is_done-clause-found
 returns-then-is_done-clause-found g c = λ held.
-    none_on (g.D.Disk.holds c.args.disk.now) (encodings_of c.args.entry.now) c.args.container.now (in_list c.args.deletes.now) c.args.k c.args.places.now.items (need_in c.args.wants.now.counts) (c.is_done.ensures c.if-is_done.true)
+    none_on (g.D.Disk.holds c.args.disk.now) (encodings_of c.args.entry.now) c.args.container.now (in_list c.args.deletes.now) c.args.k c.args.places.now.items (need_in c.args.wants.now) (c.is_done.ensures c.if-is_done.true)
 
 pub returns-then-is_done-clause-moved : goal.returns-then-is_done-clause-moved
 returns-then-is_done-clause-moved g c = moved_none g.D.Disk c.args.disk.now
 
+pub returns-then-misses_block-clause-found : goal.returns-then-misses_block-clause-found
+returns-then-misses_block-clause-found g c = λ held.
+    let n_is : length c.as_slice-columns.result.now ≡ length c.args.entry.now.columns = ap length c.as_slice-columns.ensures in
+    misses_on (g.D.Disk.holds c.args.disk.now) (encodings_of c.args.entry.now) c.args.container.now (in_list c.args.deletes.now) c.args.indexes.now (length c.as_slice-columns.result.now) c.args.k c.args.places.now.items (need_in c.args.wants.now)
+    (omega (arith, n_is, length-map c.args.entry.now.columns (λ p. p.encoding))) (omega (arith, n_is, c.requires.many)) c.requires.fit c.requires.block held (c.misses_block.ensures c.if-misses_block.true)
+
+pub returns-then-misses_block-clause-moved : goal.returns-then-misses_block-clause-moved
+returns-then-misses_block-clause-moved g c = moved_none g.D.Disk c.args.disk.now
+
 pub returns-in-Ok-pick_from-clause-found : goal.returns-in-Ok-pick_from-clause-found
 returns-in-Ok-pick_from-clause-found g c = λ held.
-    picks_on (g.D.Disk.holds c.args.disk.now) (encodings_of c.args.entry.now) c.args.container.now c.args.deletes.now c.args.k c.in-Ok.rows.items c.as_slice.result.now c.args.places.now.items c.pick_from.new.places.items
-    (need_in c.args.wants.now.counts) (need_in c.pick_from.new.wants.counts) c.requires.block c.as_slice.ensures.value c.in-Ok.ensures.long (c.in-Ok.ensures.found held) c.in-Ok.ensures.deleted c.in-Ok-pick_from.ensures.picked
+    picks_on (g.D.Disk.holds c.args.disk.now) (encodings_of c.args.entry.now) c.args.container.now (in_list c.args.deletes.now) c.args.k c.in-Ok.some.items c.as_slice.result.now c.args.places.now.items c.pick_from.new.places.items
+    (need_in c.args.wants.now) (need_in c.pick_from.new.wants) c.as_slice.ensures.value c.in-Ok.ensures.long (c.in-Ok.ensures.found held) c.in-Ok-pick_from.ensures.picked
 
 pub returns-in-Ok-pick_from-clause-inside : goal.returns-in-Ok-pick_from-clause-inside
 returns-in-Ok-pick_from-clause-inside g c =
-    inside_on c.args.container.now c.args.k c.in-Ok.rows.items c.as_slice.result.now c.args.places.now.items c.pick_from.new.places.items c.requires.block c.as_slice.ensures.value c.in-Ok.ensures.long c.in-Ok-pick_from.ensures.inside
+    inside_on c.args.container.now c.args.k c.in-Ok.some.items c.as_slice.result.now c.args.places.now.items c.pick_from.new.places.items c.requires.block c.as_slice.ensures.value c.in-Ok.ensures.long c.in-Ok-pick_from.ensures.inside
 
 pub overflow_mul-k : goal.overflow_mul-k
 overflow_mul-k g c =

@@ -1,4 +1,4 @@
-use Rattle.std.proofs.Common.{◌≡◌, ◌≤◌, ℕ}
+use Rattle.std.proofs.Common.{◌≡◌, ◌≤◌}
 use Rattle.col_disk.specs.Moved.{Moved, NoName}
 use Rattle.ros_container.specs.Encodings.{encodings_of}
 use Rattle.col_value.specs.declared.row.Asked.{Asked}
@@ -11,9 +11,9 @@ use Rattle.proj_store.proofs.picks.pick_blocks.Given as goal
 abbrev pub invariant-loop-k : goal.invariant-loop-k
 invariant-loop-k g l = record {
   picked : HasIndexes l.container (g.D.Disk.holds l.fn.disk) l.indexes
-      → PickedUpto (g.D.Disk.holds l.fn.disk) (encodings_of l.entry) l.container (in_list l.deletes) l.k l.places.items (need_in l.fn.wants.counts) (need_in l.wants.counts);
+      → PickedUpto (g.D.Disk.holds l.fn.disk) (encodings_of l.entry) l.container (in_list l.deletes) l.k l.places.items (need_in l.fn.wants) (need_in l.wants);
   inside : ArePlaces l.container l.places.items;
-  fewer : (q : Asked) → need_in l.wants.counts q ≤ need_in l.fn.wants.counts q;
+  fewer : (q : Asked) → need_in l.wants q ≤ need_in l.fn.wants q;
   kept : g.D.Disk.holds l.disk ≡ g.D.Disk.holds l.fn.disk;
   moved : Moved g.D.Disk NoName NoName l.fn.disk l.disk;
 }

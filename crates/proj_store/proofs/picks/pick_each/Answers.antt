@@ -1,4 +1,4 @@
-use Rattle.std.proofs.Common.{◌∙◌, ◌<◌, length, refl, arith}
+use Rattle.std.proofs.Common.{◌∙◌, ◌<◌, length, refl}
 use Rattle.col_disk.proofs.Moving.{moved_join, moved_none}
 use Rattle.ros_container.specs.Encodings.{encodings_of}
 use Rattle.wanted_rows.specs.Wanted.{need_in}
@@ -25,7 +25,6 @@ loop-i-preserved g c =
       found = picks_more (encodings_of c.args.entry.now) ks c.args.kept.now i (item ks i) c.index-kept-i.result c.loop-i.each.items c.push.new.self.items c.in-Ok.places _ _ _ _ _
           c.loop-i-test.true within is c.index-kept-i.is c.loop-i.invariant.kept c.in-Ok-push.ensures.items c.loop-i.invariant.found c.in-Ok.ensures.found;
       inside = places_more ks i (item ks i) c.loop-i.each.items c.push.new.self.items c.in-Ok.places c.loop-i-test.true is c.in-Ok-push.ensures.items c.loop-i.invariant.inside c.in-Ok.ensures.inside;
-      most = λ q. omega (arith, c.in-Ok.ensures.fewer q, c.loop-i.invariant.most q);
       kept = c.pick_in.ensures.kept ∙ c.loop-i.invariant.kept;
       moved = moved_join g.D.Disk c.loop-i.invariant.moved c.pick_in.ensures.moved;
     }
@@ -51,9 +50,8 @@ returns-in-Err-push-clause-moved g c = moved_join g.D.Disk c.loop-i.invariant.mo
 
 pub loop-i-init : goal.loop-i-init
 loop-i-init g c = record {
-  found = λ m told. none_picked m (encodings_of c.args.entry.now) c.new-each.result.items (need_in c.args.wants.now.counts) c.new-each.ensures.items;
+  found = λ m told. none_picked m (encodings_of c.args.entry.now) c.new-each.result.items (need_in c.args.wants.now) c.new-each.ensures.items;
   inside = none_placed c.new-each.result.items c.new-each.ensures.items;
-  most = c.requires.most;
   kept = refl;
   moved = moved_none g.D.Disk c.args.disk.now;
 }

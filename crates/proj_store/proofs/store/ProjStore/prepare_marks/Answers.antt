@@ -22,10 +22,10 @@ reserve_all-requires g c =
 
 pub returns-in-Ok-reserve_all-clause-prepared : goal.returns-in-Ok-reserve_all-clause-prepared
 returns-in-Ok-reserve_all-clause-prepared g c = λ m told.
-    prepared_seen m c.self.inside.entry c.as_slice.result.now c.self.inside.kept.items c.self.inside.unsaved c.args.self.now c.args.wanted.now c.in-Ok-pick_each.each.items c.in-Ok-pick.unsaved.items c.rows.result.now
-    (need_in c.in-Ok.wants.counts) (need_in c.pick_each.new.wants.counts) (need_in c.pick.new.wants.counts) c.as_slice.ensures.value c.self.view_is c.in-Ok.ensures (c.in-Ok-pick_each.ensures.found m told) c.rows.ensures.rows c.in-Ok-pick.ensures
+    prepared_seen m c.self.inside.entry c.as_slice.result.now c.self.inside.kept.items c.self.inside.unsaved c.args.self.now c.args.wanted.items c.in-Ok-pick_each.each.items c.in-Ok-pick.unsaved.items c.rows.result.now
+    (need_in c.in-Ok.wants) (need_in c.pick_each.new.wants) (need_in c.pick.new.wants) c.as_slice.ensures.value c.self.view_is c.in-Ok.ensures (c.in-Ok-pick_each.ensures.found m told) c.rows.ensures.rows c.in-Ok-pick.ensures
 
 pub returns-in-Ok-reserve_all-clause-ready : goal.returns-in-Ok-reserve_all-clause-ready
 returns-in-Ok-reserve_all-clause-ready g c =
-    can_mark_seen c.self.inside.entry c.reserve_all.new.kept.items c.self.inside.unsaved c.in-Ok-pick_each.each.items c.as_slice-2.result.now c.in-Ok-pick.unsaved.items c.rows.result.now (need_in c.pick_each.new.wants.counts)
-    (need_in c.pick.new.wants.counts) c.in-Ok-pick_each.ensures.inside c.as_slice-2.ensures.value c.in-Ok-reserve_all.ensures.room c.rows.ensures.rows c.in-Ok-pick.ensures
+    can_mark_seen c.self.inside.entry c.reserve_all.new.kept.items c.self.inside.unsaved c.in-Ok-pick_each.each.items c.as_slice-2.result.now c.in-Ok-pick.unsaved.items c.rows.result.now (need_in c.pick_each.new.wants)
+    (need_in c.pick.new.wants) c.in-Ok-pick_each.ensures.inside c.as_slice-2.ensures.value c.in-Ok-reserve_all.ensures.room c.rows.ensures.rows c.in-Ok-pick.ensures
