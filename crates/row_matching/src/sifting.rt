@@ -6,11 +6,12 @@ ghost use Rattle.common_laws.specs.Causes.{HasCause};
 ghost use Rattle.common_laws.specs.Maps.{Contents};
 ghost use Rattle.col_disk.specs.Moved.{Moved, NoName};
 ghost use Rattle.col_value.specs.Order.{IsRow};
+ghost use Rattle.col_value.specs.declared.row.Asked.{Asked as ARow};
 ghost use Rattle.col_value.specs.declared.row.Stamped.{Stamped};
 ghost use Rattle.sql_bound.specs.Bounds.{is_narrow};
 ghost use Rattle.sql_bound.specs.Outputs.{is_kept};
 ghost use Rattle.stored_rows.specs.Stored.{Stores};
-ghost use Rattle.wanted_rows.specs.Wanted.{need_in};
+ghost use Rattle.wanted_rows.specs.Wanted.{need_in, tally};
 ghost use Rattle.exec_scan.specs.Scanning.{AreOwn, IsUnblamed};
 ghost use Rattle.row_matching.specs.Seeing.{AreOthers, Keeps, Sifts, SiftsMore, asked, seen_rows, told_rows};
 
@@ -37,6 +38,21 @@ fn row_copy(alloc: Global, values: &[Value]) -> Result<Row, AllocError>
     Ok(Row::new(out))
 }
 
+/// How often each row is to be taken out.
+fn wants_of(alloc: Global, gone: &[Asked]) -> Result<Wants, AllocError>
+    ensures { IfOk result (λ w. (q : ARow) → need_in w q ≡ tally q gone.now) }
+{
+    let mut rows = Vec::with_capacity(alloc, gone.len())?;
+    for asked in gone {
+        let row = asked.row.copy(alloc)?;
+        rows.push(Asked {
+            row,
+            ins: asked.ins,
+        })?;
+    }
+    Wants::new(alloc, rows)
+}
+
 /// Takes a row out, where that is still to be done, and appends it otherwise.
 fn keep(
     alloc: Global,
@@ -46,7 +62,7 @@ fn keep(
 ) -> Result<(), AllocError>
     requires row { IsRow asked.row }
     requires valid { All (λ a. IsRow a.row) out.old.items }
-    ensures kept { OnOk result (Keeps asked out.old.items out.new.items (need_in wants.old.counts) (need_in wants.new.counts)) }
+    ensures kept { OnOk result (Keeps asked out.old.items out.new.items (need_in wants.old) (need_in wants.new)) }
     ensures valid { OnOk result (All (λ a. IsRow a.row) out.new.items) }
 {
     let Asked { row, ins } = asked;
@@ -71,7 +87,7 @@ fn sift(
     requires narrow { All (λ e. is_narrow [] e ≡ true) keeps.now }
     requires row { IsRow row.now }
     requires valid { All (λ a. IsRow a.row) out.old.items }
-    ensures sifted { OnOk result (Sifts (is_kept keeps.now row.now) (asked row.now ins) out.old.items out.new.items (need_in wants.old.counts) (need_in wants.new.counts)) }
+    ensures sifted { OnOk result (Sifts (is_kept keeps.now row.now) (asked row.now ins) out.old.items out.new.items (need_in wants.old) (need_in wants.new)) }
     ensures valid { OnOk result (All (λ a. IsRow a.row) out.new.items) }
 {
     if !are_true(keeps, row) {
@@ -92,7 +108,7 @@ fn sift_batch(
 ) -> Result<(), AllocError>
     requires narrow { All (λ e. is_narrow [] e ≡ true) keeps.now }
     requires valid { All (λ a. IsRow a.row) out.old.items }
-    ensures sifted { OnOk result (SiftsMore keeps.now (told_rows batch.now.rows batch.now.inserted) (need_in wants.old.counts) out.old.items (need_in wants.new.counts) out.new.items) }
+    ensures sifted { OnOk result (SiftsMore keeps.now (told_rows batch.now.rows batch.now.inserted) (need_in wants.old) out.old.items (need_in wants.new) out.new.items) }
     ensures valid { OnOk result (All (λ a. IsRow a.row) out.new.items) }
 {
     for i in 0..batch.len() {
@@ -125,7 +141,7 @@ pub fn committed_rows<D: Disk>(
         Ok(bounds) => bounds,
         Err(AllocError) => return Err(StoreFault::Memory),
     };
-    let mut wants = match Wants::new(alloc, gone) {
+    let mut wants = match wants_of(alloc, gone) {
         Ok(wants) => wants,
         Err(AllocError) => return Err(StoreFault::Memory),
     };

@@ -1,11 +1,9 @@
 -- Rows that went to a run of a query.
 use Rattle.std.proofs.Common.{◌≡◌, ℕ, suc, ◌+◌, ◌<◌, ◌≤◌, ◌++◌, true, false, List, [], ◌∷◌, length, map, filter, take, drop, get_or, refl, sym, ap, ◌∙◌, arith, subst}
-use Rattle.std.specs.Prelude.{◌*◌, min, IsSomeAnd, Option, Some, None, unwrap_or}
+use Rattle.std.specs.Prelude.{◌*◌, min, IsSomeAnd, Option, Some, None}
 use Rattle.std.specs.Option.{option_map_or}
-use Rattle.std.specs.BTreeMap.{btree_map_len, is_at, BTreeMap}
 use Rattle.std.specs.List.{All, slice_get}
-use Rattle.std.specs.Map.{lookup}
-use Rattle.std.proofs.lemmas.List.{append_assoc, append-nil, map-append, nil_from_length, take_all, take_more}
+use Rattle.std.proofs.lemmas.List.{append_assoc, append-nil, map-append, take_all, take_more}
 use Rattle.std.proofs.lemmas.List.Elements.{All-append, All-filter, All-map, All-nil, All-push, All-weaker, filter-append}
 use Rattle.common_laws.specs.Bags.{SameBag}
 use Rattle.common_laws.proofs.BagLaws.{bag_map, bag_refl, count_append}
@@ -26,8 +24,7 @@ use Rattle.row_bounds.specs.declared.bound.Bound.{Bound}
 use Rattle.exec_scan.specs.Batches.{Shown}
 use Rattle.exec_scan.specs.Scanning.{AreLeft, AsksSame, Gives, Place, Shows, start}
 use Rattle.exec_scan.proofs.Gathered.{row_next}
-use Rattle.write_store.specs.declared.held.Inserted.{Inserted}
-use Rattle.wanted_rows.specs.Wanted.{inserted, inserted_cmp, need_in, one_of, tally, Tries}
+use Rattle.wanted_rows.specs.Wanted.{one_of, tally, Tries}
 use Rattle.store_query.specs.Feeding.{Feeds, HasFed, IsBeyond, Passes, TakesLess, TakesRows}
 use Rattle.store_query.specs.Lessening.{asked, cleared, AreGone}
 use Rattle.store_query.proofs.Lessens.{lessens_all, tally_push, Lessens}
@@ -252,10 +249,3 @@ streamed_all q m p epoch places bounds s rows first need old now ends was = λ m
 pub gone_counted : (places : List (Option ℕ)) (deletes : List Asked) → map asked (map (λ a. cleared places a.row) deletes) ≡ map (λ a. asked (cleared places a.row)) deletes
 gone_counted places [] = refl
 gone_counted places (a ∷ deletes) = ap (λ (xs : List Asked). asked (cleared places a.row) ∷ xs) (gone_counted places deletes)
-
--- in a map of no counts nothing is wanted
-pub none_wanted : (counts : BTreeMap Inserted ℕ) (a : Asked) → btree_map_len counts ≡ 0 → need_in counts a ≡ 0
-none_wanted counts a none = ap (λ (es : List (Inserted × ℕ)). unwrap_or (lookup (is_at (inserted_cmp (inserted a))) es) 0) (nil_from_length counts.entries none)
-
-pub nothing_gone : (counts : BTreeMap Inserted ℕ) (a : Asked) → btree_map_len counts ≡ 0 → Tries false a (need_in counts) (need_in counts)
-nothing_gone counts a none = record { took = tt; same = λ q. refl; none = none_wanted counts a none }

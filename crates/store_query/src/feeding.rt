@@ -40,9 +40,9 @@ fn row_copy(alloc: Global, values: &[Value]) -> Result<Row, AllocError>
 
 /// Takes a row out, where that is still to be done; answers whether it did. Where nothing ever was to be taken out, it takes no memory.
 fn is_gone(alloc: Global, wants: &mut Wants, row: &[Value]) -> Result<bool, AllocError>
-    ensures { IfOk result (λ gone. Tries gone (asked row.now) (need_in wants.old.counts) (need_in wants.new.counts)) }
+    ensures { IfOk result (λ gone. Tries gone (asked row.now) (need_in wants.old) (need_in wants.new)) }
 {
-    if wants.counts.is_empty() {
+    if wants.is_done() {
         return Ok(false);
     }
     let row = row_copy(alloc, row)?;
@@ -60,7 +60,7 @@ fn feed(
     requires bounded { IsBoundedQuery query.now }
     requires run { IsRunOf query.now run.old }
     requires row { IsRow row.now }
-    ensures fed { OnOk result (Feeds query.now (row.now ∷ []) (need_in wants.old.counts) run.old (need_in wants.new.counts) run.new) }
+    ensures fed { OnOk result (Feeds query.now (row.now ∷ []) (need_in wants.old) run.old (need_in wants.new) run.new) }
     ensures run { OnOk result (IsRunOf query.now run.new) }
 {
     let gone = is_gone(alloc, wants, row)?;
@@ -80,7 +80,7 @@ fn feed_batch(
 ) -> Result<(), AllocError>
     requires bounded { IsBoundedQuery query.now }
     requires run { IsRunOf query.now run.old }
-    ensures fed { OnOk result (Feeds query.now batch.now.rows (need_in wants.old.counts) run.old (need_in wants.new.counts) run.new) }
+    ensures fed { OnOk result (Feeds query.now batch.now.rows (need_in wants.old) run.old (need_in wants.new) run.new) }
     ensures run { OnOk result (IsRunOf query.now run.new) }
 {
     for i in 0..batch.len() {
@@ -105,7 +105,7 @@ pub fn feed_scan<D: Disk>(
     requires bounded { IsBoundedQuery query.now }
     requires own { AreOwn store.now.stored.entry places.items }
     requires run { IsRunOf query.now run.old }
-    ensures fed { OnOk result ((m : Contents) → D.holds disk.old ≡ Some m → (rows : List Stamped) → Stores m store.now.stored rows → TakesLess query.now bounds.items (length places.items) (need_in wants.counts) (map (placed places.items) (visible epoch rows)) run.old run.new) }
+    ensures fed { OnOk result ((m : Contents) → D.holds disk.old ≡ Some m → (rows : List Stamped) → Stores m store.now.stored rows → TakesLess query.now bounds.items (length places.items) (need_in wants) (map (placed places.items) (visible epoch rows)) run.old run.new) }
     ensures run { OnOk result (IsRunOf query.now run.new) }
     ensures unblamed { IfErr result (λ fault. (m : Contents) → D.holds disk.old ≡ Some m → (rows : List Stamped) → Stores m store.now.stored rows → IsUnblamed fault) }
     ensures kept { D.holds disk.new ≡ D.holds disk.old }

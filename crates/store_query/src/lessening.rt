@@ -81,21 +81,21 @@ pub fn wants_of(
     deletes: &[Asked],
     places: &[Option<usize>],
 ) -> Result<Wants, AllocError>
-    ensures { IfOk result (λ w. (q : ARow) → need_in w.counts q ≡ tally q (map (λ a. asked (cleared places.now a.row)) deletes.now)) }
+    ensures { IfOk result (λ w. (q : ARow) → need_in w q ≡ tally q (map (λ a. asked (cleared places.now a.row)) deletes.now)) }
 {
     let mut gone = Vec::with_capacity(alloc, deletes.len())?;
     for delete in deletes {
         let row = cleared(alloc, delete.row.as_slice(), places)?;
         gone.push(Asked { row, ins: 0 })?;
     }
-    Wants::new(alloc, gone.as_slice())
+    Wants::new(alloc, gone)
 }
 
 /// Takes a row out, where that is still to be done, and appends it otherwise.
 fn keep(alloc: Global, wants: &mut Wants, out: &mut Vec<Row>, row: Row) -> Result<(), AllocError>
     requires out { All IsRow out.old.items }
     requires row { IsRow row }
-    ensures keeps { OnOk result (Keeps row out.old.items out.new.items (need_in wants.old.counts) (need_in wants.new.counts)) }
+    ensures keeps { OnOk result (Keeps row out.old.items out.new.items (need_in wants.old) (need_in wants.new)) }
     ensures valid { OnOk result (All IsRow out.new.items) }
 {
     let row = Inserted { ins: 0, row };
@@ -110,7 +110,7 @@ fn keep(alloc: Global, wants: &mut Wants, out: &mut Vec<Row>, row: Row) -> Resul
 /// Rows without those that are to be taken out.
 fn less(alloc: Global, rows: Vec<Row>, wants: Wants) -> Result<Vec<Row>, AllocError>
     requires { All IsRow rows.items }
-    ensures less { IfOk result (λ v. AreGone (need_in wants.counts) rows.items v.items) }
+    ensures less { IfOk result (λ v. AreGone (need_in wants) rows.items v.items) }
     ensures valid { IfOk result (λ v. All IsRow v.items) }
 {
     let mut wants = wants;

@@ -14,7 +14,7 @@ use Rattle.row_matching.proofs.sifting.committed_rows.Goals as goal
 
 pub loop-batch-init : goal.loop-batch-init
 loop-batch-init g c = record {
-  sought = λ m told rows stores. sought_none m c.args.store.now.stored c.args.keeps.now c.args.epoch c.args.places.items c.in-Ok.bounds.items true c.new-scan.result rows (Wanted c.args.gone.now) (need_in c.in-Ok-new.wants.counts) c.new-out.result.items c.in-Ok-new.ensures c.new-scan.ensures
+  sought = λ m told rows stores. sought_none m c.args.store.now.stored c.args.keeps.now c.args.epoch c.args.places.items c.in-Ok.bounds.items true c.new-scan.result rows (Wanted c.args.gone.now) (need_in c.in-Ok-wants_of.wants) c.new-out.result.items c.in-Ok-wants_of.ensures c.new-scan.ensures
       c.new-out.ensures.items stores;
   bounded = subst (λ (w : List Bound). Bounded c.args.keeps.now w) (sym (ap (λ (s : Place). s.bounds) c.new-scan.ensures)) c.in-Ok.ensures.kept;
   scan_of = subst (λ (s : Place). IsScanOf c.args.store.now.stored.entry s) (sym c.new-scan.ensures) (record { own = c.requires.own; opening = tt; closed = λ none. refl });
@@ -29,13 +29,13 @@ loop-batch-init g c = record {
 pub returns-in-Err-clause-moved : goal.returns-in-Err-clause-moved
 returns-in-Err-clause-moved g c = moved_none g.D.Disk c.args.disk.now
 
-pub returns-in-Err-new-clause-moved : goal.returns-in-Err-new-clause-moved
-returns-in-Err-new-clause-moved g c = moved_none g.D.Disk c.args.disk.now
+pub returns-in-Err-wants_of-clause-moved : goal.returns-in-Err-wants_of-clause-moved
+returns-in-Err-wants_of-clause-moved g c = moved_none g.D.Disk c.args.disk.now
 
 pub returns-in-Ok-None-clause-found : goal.returns-in-Ok-None-clause-found
 returns-in-Ok-None-clause-found g c = λ m told rows stores.
     let p = c.args.store.now.stored in
-    sought_all m p c.args.keeps.now c.args.epoch c.args.places.items c.args.gone.now (need_in c.loop-batch.wants.counts) c.loop-batch.scan rows c.loop-batch.out.items
+    sought_all m p c.args.keeps.now c.args.epoch c.args.places.items c.args.gone.now (need_in c.loop-batch.wants) c.loop-batch.scan rows c.loop-batch.out.items
     (λ left are. subst (λ (o : Option Shown). Gives m p c.loop-batch.scan c.next.new.self left o) c.in-Ok-None.field-0-is
     (c.in-Ok-None.ensures.gives m (c.loop-batch.invariant.kept ∙ told) left are)) (c.loop-batch.invariant.sought m told rows stores)
 
@@ -57,7 +57,7 @@ pub loop-batch-preserved : goal.loop-batch-preserved
 loop-batch-preserved g c =
     let p = c.args.store.now.stored in
     record {
-      sought = λ m told rows stores. sought_more m p c.args.keeps.now c.args.epoch c.args.places.items c.loop-batch.scan.bounds (Wanted c.args.gone.now) c.loop-batch.scan c.next.new.self rows (need_in c.loop-batch.wants.counts) (need_in c.sift_batch.new.wants.counts) c.loop-batch.out.items
+      sought = λ m told rows stores. sought_more m p c.args.keeps.now c.args.epoch c.args.places.items c.loop-batch.scan.bounds (Wanted c.args.gone.now) c.loop-batch.scan c.next.new.self rows (need_in c.loop-batch.wants) (need_in c.sift_batch.new.wants) c.loop-batch.out.items
           c.sift_batch.new.out.items c.in-Ok-Some.batch c.loop-batch.invariant.bounded c.loop-batch.invariant.epoch_is c.loop-batch.invariant.places_are refl c.loop-batch.invariant.stamps_are
           (λ left are. subst (λ (o : Option Shown). Gives m p c.loop-batch.scan c.next.new.self left o) c.in-Ok-Some.field-0-is
           (c.in-Ok-Some.ensures.gives m (c.loop-batch.invariant.kept ∙ told) left are)) c.in-Ok-sift_batch.ensures.sifted (c.loop-batch.invariant.sought m told rows stores);

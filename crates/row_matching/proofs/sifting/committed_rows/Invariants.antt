@@ -13,7 +13,7 @@ use Rattle.row_matching.proofs.sifting.committed_rows.Given as goal
 
 abbrev pub invariant-loop-batch : goal.invariant-loop-batch
 invariant-loop-batch g l = record {
-  sought : (m : Contents) → g.D.Disk.holds l.fn.disk ≡ Some m → (rows : List Stamped) → Stores m l.store.stored rows → Sought m l.store.stored l.keeps l.epoch l.fn.places.items (Wanted l.gone) l.scan rows (need_in l.wants.counts) l.out.items;
+  sought : (m : Contents) → g.D.Disk.holds l.fn.disk ≡ Some m → (rows : List Stamped) → Stores m l.store.stored rows → Sought m l.store.stored l.keeps l.epoch l.fn.places.items (Wanted l.gone) l.scan rows (need_in l.wants) l.out.items;
   bounded : Bounded l.keeps l.scan.bounds;
   scan_of : IsScanOf l.store.stored.entry l.scan;
   epoch_is : l.scan.epoch ≡ l.epoch;

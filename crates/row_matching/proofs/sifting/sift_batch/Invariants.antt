@@ -7,6 +7,6 @@ use Rattle.row_matching.proofs.sifting.sift_batch.Given as goal
 
 abbrev pub invariant-loop-i : goal.invariant-loop-i
 invariant-loop-i l = record {
-  sifted : SiftsMore l.keeps (take l.i (told_rows l.batch.rows l.batch.inserted)) (need_in l.fn.wants.counts) l.fn.out.items (need_in l.wants.counts) l.out.items;
+  sifted : SiftsMore l.keeps (take l.i (told_rows l.batch.rows l.batch.inserted)) (need_in l.fn.wants) l.fn.out.items (need_in l.wants) l.out.items;
   valid : All (λ a. IsRow a.row) l.out.items;
 }

@@ -8,15 +8,15 @@ use Rattle.store_query.proofs.feeding.feed.Goals as goal
 pub returns-then-gone-clause-fed : goal.returns-then-gone-clause-fed
 returns-then-gone-clause-fed c =
     let row = c.args.row.now in
-    let need = need_in c.args.wants.now.counts in
-    let less = need_in c.is_gone.new.wants.counts in
+    let need = need_in c.args.wants.now in
+    let less = need_in c.is_gone.new.wants in
     gone_feeds c.args.query.now row need less c.args.run.now (subst (λ (b : Bool). Tries b (asked row) need less) c.if-gone.true c.in_ok-gone.ensures)
 
 pub returns-clause-fed : goal.returns-clause-fed
 returns-clause-fed c =
     let row = c.args.row.now in
-    let need = need_in c.args.wants.now.counts in
-    let less = need_in c.is_gone.new.wants.counts in
+    let need = need_in c.args.wants.now in
+    let less = need_in c.is_gone.new.wants in
     let stays = subst (λ (b : Bool). Tries b (asked row) need less) c.if-gone.false c.in_ok-gone.ensures in
     IfOk-weaker c.take.result _ _ (λ done takes. kept_feeds c.args.query.now row need less c.args.run.now c.take.new.self stays takes) c.take.ensures
 

@@ -5,7 +5,7 @@ use Rattle.store_query.proofs.feeding.feed_batch.Goals as goal
 
 pub loop-i-init : goal.loop-i-init
 loop-i-init c = record {
-  fed = feeds_none c.args.query.now _ (need_in c.args.wants.now.counts) c.args.run.now refl;
+  fed = feeds_none c.args.query.now _ (need_in c.args.wants.now) c.args.run.now refl;
   run = c.requires.run;
 }
 
@@ -13,10 +13,10 @@ pub loop-i-preserved : goal.loop-i-preserved
 loop-i-preserved c =
     let lt : c.loop-i.i < length c.args.batch.now.rows = grind (arith, c.loop-i-test.true, c.len-i-end.ensures) in
     record {
-      fed = feeds_next c.args.query.now c.args.batch.now.rows c.loop-i.i c.row.result.now (need_in c.args.wants.now.counts) (need_in c.loop-i.wants.counts) (need_in c.feed.new.wants.counts) c.args.run.now c.loop-i.run c.feed.new.run lt
+      fed = feeds_next c.args.query.now c.args.batch.now.rows c.loop-i.i c.row.result.now (need_in c.args.wants.now) (need_in c.loop-i.wants) (need_in c.feed.new.wants) c.args.run.now c.loop-i.run c.feed.new.run lt
           c.row.ensures.row c.loop-i.invariant.fed c.in_ok-feed.ensures.fed;
       run = c.in_ok-feed.ensures.run;
     }
 
 pub returns-clause-fed : goal.returns-clause-fed
-returns-clause-fed c = feeds_all c.args.query.now c.args.batch.now.rows c.loop-i.i (need_in c.args.wants.now.counts) (need_in c.loop-i.wants.counts) c.args.run.now c.loop-i.run (grind (arith, c.loop-i-test.false, c.len-i-end.ensures)) c.loop-i.invariant.fed
+returns-clause-fed c = feeds_all c.args.query.now c.args.batch.now.rows c.loop-i.i (need_in c.args.wants.now) (need_in c.loop-i.wants) c.args.run.now c.loop-i.run (grind (arith, c.loop-i-test.false, c.len-i-end.ensures)) c.loop-i.invariant.fed

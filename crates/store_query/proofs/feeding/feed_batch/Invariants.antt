@@ -6,6 +6,6 @@ use Rattle.store_query.proofs.feeding.feed_batch.Given as goal
 
 abbrev pub invariant-loop-i : goal.invariant-loop-i
 invariant-loop-i l = record {
-  fed : Feeds l.query (take l.i l.batch.rows) (need_in l.fn.wants.counts) l.fn.run (need_in l.wants.counts) l.run;
+  fed : Feeds l.query (take l.i l.batch.rows) (need_in l.fn.wants) l.fn.run (need_in l.wants) l.run;
   run : IsRunOf l.query l.run;
 }

@@ -9,7 +9,7 @@ use Rattle.store_query.proofs.feeding.feed_scan.Goals as goal
 
 pub loop-batch-init : goal.loop-batch-init
 loop-batch-init g c = record {
-  streamed = λ m told rows stores. streamed_none c.args.query.now m c.args.store.now.stored c.args.epoch c.args.places.items c.args.bounds.items c.new-scan.result rows (need_in c.args.wants.counts) c.args.run.now c.new-scan.ensures stores;
+  streamed = λ m told rows stores. streamed_none c.args.query.now m c.args.store.now.stored c.args.epoch c.args.places.items c.args.bounds.items c.new-scan.result rows (need_in c.args.wants) c.args.run.now c.new-scan.ensures stores;
   scan_of = subst (λ (s : Place). IsScanOf c.args.store.now.stored.entry s) (sym c.new-scan.ensures) (record { own = c.requires.own; opening = tt; closed = λ none. refl });
   asks = asks_start c.args.epoch c.args.places.items c.args.bounds.items c.new-scan.result c.new-scan.ensures;
   run = c.requires.run;
@@ -20,7 +20,7 @@ loop-batch-init g c = record {
 pub returns-in-Ok-None-clause-fed : goal.returns-in-Ok-None-clause-fed
 returns-in-Ok-None-clause-fed g c = λ m told rows stores.
     let p = c.args.store.now.stored in
-    streamed_all c.args.query.now m p c.args.epoch c.args.places.items c.args.bounds.items c.loop-batch.scan rows (need_in c.args.wants.counts) (need_in c.loop-batch.wants.counts) c.args.run.now c.loop-batch.run
+    streamed_all c.args.query.now m p c.args.epoch c.args.places.items c.args.bounds.items c.loop-batch.scan rows (need_in c.args.wants) (need_in c.loop-batch.wants) c.args.run.now c.loop-batch.run
     (λ left are. subst (λ (o : Option Shown). Gives m p c.loop-batch.scan c.next.new.self left o) c.in-Ok-None.field-0-is
     (c.in-Ok-None.ensures.gives m (c.loop-batch.invariant.kept ∙ told) left are)) (c.loop-batch.invariant.streamed m told rows stores)
 
@@ -42,8 +42,8 @@ pub loop-batch-preserved : goal.loop-batch-preserved
 loop-batch-preserved g c =
     let p = c.args.store.now.stored in
     record {
-      streamed = λ m told rows stores. streamed_more c.args.query.now m p c.args.epoch c.args.places.items c.args.bounds.items c.loop-batch.scan c.next.new.self c.in-Ok-Some.batch rows (need_in c.args.wants.counts) (need_in c.loop-batch.wants.counts)
-          (need_in c.feed_batch.new.wants.counts) c.args.run.now c.loop-batch.run c.feed_batch.new.run c.loop-batch.invariant.asks
+      streamed = λ m told rows stores. streamed_more c.args.query.now m p c.args.epoch c.args.places.items c.args.bounds.items c.loop-batch.scan c.next.new.self c.in-Ok-Some.batch rows (need_in c.args.wants) (need_in c.loop-batch.wants)
+          (need_in c.feed_batch.new.wants) c.args.run.now c.loop-batch.run c.feed_batch.new.run c.loop-batch.invariant.asks
           (λ left are. subst (λ (o : Option Shown). Gives m p c.loop-batch.scan c.next.new.self left o) c.in-Ok-Some.field-0-is
           (c.in-Ok-Some.ensures.gives m (c.loop-batch.invariant.kept ∙ told) left are)) c.in-Ok.ensures.fed (c.loop-batch.invariant.streamed m told rows stores);
       scan_of = c.in-Ok-Some.ensures.scan;

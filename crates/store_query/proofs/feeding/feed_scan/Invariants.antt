@@ -13,7 +13,7 @@ use Rattle.store_query.proofs.feeding.feed_scan.Given as goal
 abbrev pub invariant-loop-batch : goal.invariant-loop-batch
 invariant-loop-batch g l = record {
   streamed : (m : Contents) → g.D.Disk.holds l.fn.disk ≡ Some m → (rows : List Stamped) → Stores m l.store.stored rows
-      → Streamed l.query m l.store.stored l.epoch l.fn.places.items l.fn.bounds.items l.scan rows (need_in l.fn.wants.counts) (need_in l.wants.counts) l.fn.run l.run;
+      → Streamed l.query m l.store.stored l.epoch l.fn.places.items l.fn.bounds.items l.scan rows (need_in l.fn.wants) (need_in l.wants) l.fn.run l.run;
   scan_of : IsScanOf l.store.stored.entry l.scan;
   asks : Asks l.epoch l.fn.places.items l.fn.bounds.items l.scan;
   run : IsRunOf l.query l.run;

@@ -1,7 +1,6 @@
-use Rattle.std.proofs.Common.{rules}
+use Rattle.std.proofs.Common.{refl, rules}
 use Rattle.store_query.specs.Lessening.{asked}
-use Rattle.store_query.proofs.Fed.{nothing_gone}
 use Rattle.store_query.proofs.feeding.is_gone.Goals as goal
 
-pub returns-then-is_empty : goal.returns-then-is_empty
-returns-then-is_empty c = nothing_gone c.args.wants.now.counts (asked c.args.row.now) (search rules)
+pub returns-then-is_done : goal.returns-then-is_done
+returns-then-is_done c = record { took = tt; same = λ q. refl; none = c.is_done.ensures (search rules) (asked c.args.row.now) }

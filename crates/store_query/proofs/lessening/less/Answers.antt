@@ -11,7 +11,7 @@ loop-row-preserved c =
     let rest = c.pop.new.self.items in
     let split : c.loop-row.rest.items ≡ rest ++ c.in-Some.row ∷ [] = c.in-Some.ensures.items in
     record {
-      lessens = lessens_next (need_in c.args.wants.counts) c.args.rows.items c.loop-row.rest.items rest c.loop-row.out.items c.keep.new.out.items c.in-Some.row (need_in c.loop-row.wants.counts) (need_in c.keep.new.wants.counts)
+      lessens = lessens_next (need_in c.args.wants) c.args.rows.items c.loop-row.rest.items rest c.loop-row.out.items c.keep.new.out.items c.in-Some.row (need_in c.loop-row.wants) (need_in c.keep.new.wants)
           split c.in_ok-keep.ensures.keeps c.loop-row.invariant.lessens;
       left = all_front IsRow rest c.in-Some.row (subst (λ (xs : List (List Value)). All IsRow xs) split c.loop-row.invariant.left);
       valid = c.in_ok-keep.ensures.valid;
@@ -20,4 +20,4 @@ loop-row-preserved c =
 pub returns-clause-less : goal.returns-clause-less
 returns-clause-less c = λ gone are.
     let none : c.loop-row.rest.items ≡ [] = search rules in
-    lessens_all gone c.args.rows.items c.loop-row.rest.items c.loop-row.out.items (need_in c.args.wants.counts) (need_in c.loop-row.wants.counts) are none c.loop-row.invariant.lessens
+    lessens_all gone c.args.rows.items c.loop-row.rest.items c.loop-row.out.items (need_in c.args.wants) (need_in c.loop-row.wants) are none c.loop-row.invariant.lessens

@@ -7,7 +7,7 @@ use Rattle.store_query.proofs.lessening.less.Given as goal
 
 abbrev pub invariant-loop-row : goal.invariant-loop-row
 invariant-loop-row l = record {
-  lessens : Lessens (need_in l.fn.wants.counts) l.fn.rows.items (need_in l.wants.counts) l.rest.items l.out.items;
+  lessens : Lessens (need_in l.fn.wants) l.fn.rows.items (need_in l.wants) l.rest.items l.out.items;
   left : All IsRow l.rest.items;
   valid : All IsRow l.out.items;
 }

@@ -9,6 +9,6 @@ use Rattle.store_query.proofs.lessening.wants_of.Goals as goal
 pub returns : goal.returns
 returns c =
     let made = λ (a : Asked). asked (cleared c.args.places.now a.row) in
-    let all : c.as_slice-2.result.now ≡ map made c.args.deletes.now =
-    c.as_slice-2.ensures.value ∙ c.loop-delete.invariant ∙ ap (map made) (take_all c.loop-delete.delete-index c.args.deletes.now (omega arith)) in
-    subst (λ (xs : List Asked). IfOk c.new.result (λ w. (q : Asked) → need_in w.counts q ≡ tally q xs)) all c.new.ensures
+    let all : c.loop-delete.gone.items ≡ map made c.args.deletes.now =
+    c.loop-delete.invariant ∙ ap (map made) (take_all c.loop-delete.delete-index c.args.deletes.now (omega arith)) in
+    subst (λ (xs : List Asked). IfOk c.new.result (λ w. (q : Asked) → need_in w q ≡ tally q xs)) all c.new.ensures

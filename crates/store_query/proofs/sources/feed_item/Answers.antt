@@ -39,15 +39,15 @@ returns-in-Ok-feed_rows-clause-taken g c = λ m told d read over.
     let places = c.in-Ok.places.items in
     let columns : c.as_slice-columns.result.now ≡ p.entry.columns = c.as_slice-columns.ensures ∙ ap (λ (x : Projection). x.columns) c.entry.ensures.entry in
     let are : ArePlacesOf q f.first f.columns (ordinals p.entry) places = subst (λ (ks : List ProjColumn). ArePlacesOf q f.first f.columns (map (λ k. k.ordinal) ks) places) columns c.in-Ok.ensures.places in
-    let first : (a : Asked) → need_in c.in-Ok-wants_of.wants.counts a ≡ tally a (map (λ x. asked (cleared places x.row)) c.deletes_of-deletes.result.now) =
-    subst (λ (ps : List (Option ℕ)). (a : Asked) → need_in c.in-Ok-wants_of.wants.counts a ≡ tally a (map (λ x. asked (cleared ps x.row)) c.deletes_of-deletes.result.now)) c.as_slice.ensures.value c.in-Ok-wants_of.ensures in
+    let first : (a : Asked) → need_in c.in-Ok-wants_of.wants a ≡ tally a (map (λ x. asked (cleared places x.row)) c.deletes_of-deletes.result.now) =
+    subst (λ (ps : List (Option ℕ)). (a : Asked) → need_in c.in-Ok-wants_of.wants a ≡ tally a (map (λ x. asked (cleared ps x.row)) c.deletes_of-deletes.result.now)) c.as_slice.ensures.value c.in-Ok-wants_of.ensures in
     let bounds : AreBounds q f.columns (deletes_of c.args.at s.catalogue.tables c.args.changes.now f) c.in-Ok-bounds_for.bounds.items =
     record {
       own = c.in-Ok-bounds_for.ensures.own;
       kept = c.in-Ok-bounds_for.ensures.kept;
       whole = subst (λ (ds : List Asked). (ds ≡ []) ⊎ (c.in-Ok-bounds_for.bounds.items ≡ [])) c.deletes_of-deletes.ensures c.in-Ok-bounds_for.ensures.whole;
     } in
-    item_taken m s c.args.changes.now c.args.at q f d p c.epoch_of-epoch.result places c.in-Ok-bounds_for.bounds.items (need_in c.in-Ok-wants_of.wants.counts) c.args.run.now c.feed_scan.new.run c.feed_rows.new.run c.in-Some.ensures are
+    item_taken m s c.args.changes.now c.args.at q f d p c.epoch_of-epoch.result places c.in-Ok-bounds_for.bounds.items (need_in c.in-Ok-wants_of.wants) c.args.run.now c.feed_scan.new.run c.feed_rows.new.run c.in-Some.ensures are
     (c.epoch_of-epoch.ensures ∙ ap (epoch_of c.args.at) c.last.ensures)
     (λ a. first a ∙ ap (λ (ds : List Asked). tally a (map (λ x. asked (cleared places x.row)) ds)) c.deletes_of-deletes.ensures)
     bounds
