@@ -1,7 +1,8 @@
 -- What is done to the sessions, over a running store.
-use Rattle.std.proofs.Common.{◌≡◌, ◌-◌, inl, inr, ℕ, Bool, true, false, cond, List, [], refl, sym, ◌∙◌, ap, subst}
+use Rattle.std.proofs.Common.{◌≡◌, ◌-◌, inl, inr, ℕ, Bool, true, false, cond, List, [], refl, sym, ◌∙◌, ap, subst, set-set}
 use Rattle.std.specs.Prelude.{Result, Ok, Err, OnOk, slice_set}
 use Rattle.std.specs.List.{slice_index_or}
+use Rattle.std.proofs.lemmas.List.{set-get_or}
 use Rattle.common_laws.specs.Maps.{Contents}
 use Rattle.col_disk.specs.declared.disk.Disk.{Ghosts}
 use Rattle.col_disk.specs.declared.disk.StoreFault.{StoreFault}
@@ -40,6 +41,11 @@ own_alike disk r now state here =
 
 abbrev pub put_at : List Changes → List (List Changes) → ℕ → List (List Changes)
 put_at changes sessions current = slice_set sessions (current - 1) changes
+
+-- changes that were taken and put back
+pub put_back : (changes : List Changes) (sessions : List (List Changes)) (current : ℕ) → changes ≡ own_at sessions current → put_at changes (put_at [] sessions current) current ≡ sessions
+put_back changes sessions current is =
+    set-set sessions (current - 1) [] changes ∙ ap (λ (cs : List Changes). put_at cs sessions current) is ∙ set-get_or sessions (current - 1) []
 
 put_alike : (sessions others : List (List Changes)) (current now : ℕ) (own mine : List Changes) → AreAlikeSessions sessions others → now ≡ current → Alike own mine → AreAlikeSessions (put_at own sessions current) (put_at mine others now)
 put_alike sessions others current now own mine alike same own_is =

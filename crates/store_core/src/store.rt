@@ -204,13 +204,14 @@ impl Store {
             self.txns.take(alloc, self.current);
             return Ok(());
         }
-        let changes = self.txns.session(self.current);
-        match self.tables.commit(alloc, changes, disk) {
-            Ok(()) => {}
-            Err(fault) => return Err(fault),
+        let mut changes = self.txns.take(alloc, self.current);
+        match self.tables.commit(alloc, &mut changes, disk) {
+            Ok(()) => Ok(()),
+            Err(fault) => {
+                self.txns.put(self.current, changes);
+                Err(fault)
+            }
         }
-        self.txns.take(alloc, self.current);
-        Ok(())
     }
 
     /// ROLLBACK: the current session's changes are dropped. It takes no memory, and the disk isn't called.

@@ -2,6 +2,8 @@ pub mod Columns
 pub mod Created
 pub mod Dropped
 pub mod Loops
+pub mod Taking
+pub mod Tables
 pub mod Committed
 pub mod Changes
 pub mod Readied

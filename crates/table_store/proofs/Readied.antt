@@ -5,7 +5,6 @@ use Rattle.std.specs.Option.{option_map_or}
 use Rattle.std.specs.List.{AllZip}
 use Rattle.std.proofs.lemmas.List.{take_more, take_all, get_or-map, length-map}
 use Rattle.common_laws.specs.Maps.{Contents}
-use Rattle.col_value.specs.declared.value.Value.{Value}
 use Rattle.col_value.specs.declared.row.Asked.{Asked}
 use Rattle.catalog_types.specs.declared.catalogue.Table as kept
 use Rattle.db_model.specs.State.{Changes, pending_rows, pending_deletes}
@@ -16,19 +15,8 @@ use Rattle.table_store.specs.Committing.{AreReady}
 
 -- ---- what is pending in a table
 
-abbrev pub rows_in : Option Changes → List (List Value)
-rows_in o = option_map_or (λ c. c.rows) o []
-
 abbrev pub deletes_in : Option Changes → List Asked
 deletes_in o = option_map_or (λ c. c.deletes) o []
-
-pub rows_on : (name : List ℕ) (changes : List Changes) → rows_in (changes_on name changes) ≡ pending_rows name changes
-rows_on name [] = refl
-rows_on name (c ∷ changes) = by (bytes_eq c.table name) (rows_on name changes)
-  where
-    by : (b : Bool) → rows_in (changes_on name changes) ≡ pending_rows name changes → rows_in (cond b (Some c) (changes_on name changes)) ≡ cond b c.rows (pending_rows name changes)
-    by true rest = refl
-    by false rest = rest
 
 pub deletes_on : (name : List ℕ) (changes : List Changes) → deletes_in (changes_on name changes) ≡ pending_deletes name changes
 deletes_on name [] = refl

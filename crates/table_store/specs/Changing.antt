@@ -1,6 +1,8 @@
 -- What a commit does to projections.
-use Rattle.std.specs.Prelude.{ℕ, ◌≡◌, ◌≤◌, List, [], ◌∷◌, length, map, Option, Some, None, IsSomeAnd}
+use Rattle.std.specs.Prelude.{ℕ, ◌≡◌, ◌≤◌, ◌==◌, if◌then◌else◌, Bool, true, false, List, [], ◌∷◌, length, map, slice_index_or, Option, Some, None, IsSomeAnd}
 use Rattle.std.specs.Bool.{OnTrue, OnFalse}
+use Rattle.std.specs.List.{list_all, enumerate_from}
+use Rattle.catalog_types.specs.declared.catalogue.ProjColumn.{ProjColumn}
 use Rattle.common_laws.specs.Maps.{Contents}
 use Rattle.col_value.specs.declared.value.Value.{Value}
 use Rattle.col_value.specs.declared.row.Asked.{Asked}
@@ -10,11 +12,42 @@ use Rattle.stored_rows.specs.Stored.{Projected, with_rows}
 use Rattle.proj_store.specs.Loaded.{Loaded}
 use Rattle.proj_store.specs.Marking.{Places, IsPrepared, CanMark, with_marks}
 use Rattle.folder_model.specs.Projections.{ordinals}
+use Rattle.sound_laws.specs.Moves.{change_at}
 
 -- rows that come, and the places of rows that are deleted
 pub record Ready : Type 0 where
   pub rows : List (List Value)
   pub marks : Places
+
+-- the rows that a projection gets: those of the table itself where it takes them, or rows of its own
+abbrev pub coming : Bool → List (List Value) → List (List Value) → List (List Value)
+coming takes rows own = if takes then rows else own
+
+-- what is ready for a projection, with the rows that it gets
+abbrev pub with_coming : Bool → List (List Value) → Option Ready → Option Ready
+with_coming takes rows None = None
+with_coming takes rows (Some r) = Some (record r { rows = coming takes rows r.rows })
+
+-- the projection that takes the rows, if there is one, stands at this place
+abbrev pub is_at : Option ℕ → ℕ → Bool
+is_at None i = false
+is_at (Some place) i = place == i
+
+-- what is ready for all projections of a table, where that one gets its rows
+abbrev pub all_coming : Option ℕ → List (List Value) → List (Option Ready) → List (Option Ready)
+all_coming None rows os = os
+all_coming (Some place) rows os = change_at place (with_coming true rows) os
+
+-- the columns are the table's first ones in their order
+abbrev pub in_order : List ProjColumn → Bool
+in_order columns = list_all (λ e. e.1.ordinal == e.0) (enumerate_from 0 columns)
+
+-- rows of the table are those of a projection, and so for the projection at a place
+abbrev pub AreWhole : List (List Value) → Projected → Type 0
+AreWhole rows p = map (λ row. projected row (ordinals p.entry)) rows ≡ rows
+
+abbrev pub AreWholeAt : List (List Value) → List Projected → ℕ → Type 0
+AreWholeAt rows ps i = (p : Projected) → p ≡ slice_index_or ps i p → AreWhole rows p
 
 -- a projection after a commit; nothing is done to one that isn't up to date
 abbrev pub applied : ℕ → Option Ready → Projected → Projected

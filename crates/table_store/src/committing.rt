@@ -5,18 +5,19 @@ ghost use Rattle.std.specs.List.{All, AllZip};
 ghost use Rattle.common_laws.specs.Causes.{HasCause};
 ghost use Rattle.common_laws.specs.Maps.{Contents};
 ghost use Rattle.col_disk.specs.Moved.{Moved, NoName};
+ghost use Rattle.catalog_types.specs.Lists.{Pairwise};
+ghost use Rattle.catalog_types.specs.Names.{IsBelow};
 ghost use Rattle.col_value.specs.Order.{IsRow};
 ghost use Rattle.db_model.specs.State.{pending_rows, pending_deletes};
 ghost use Rattle.table_store.specs.Held.{projections_of};
 ghost use Rattle.table_store.specs.Changing.{CanApply, tables_applied};
-ghost use Rattle.table_store.specs.Committing.{AreReady};
+ghost use Rattle.table_store.specs.Committing.{ready_with, AreReady};
 ghost use Rattle.table_store.specs.Faults.{IsReadable, IsUnblamed};
 
-use crate::part::ReadyPart;
-use crate::parts::Parts;
+use crate::parts::{Parts, ReadyTable};
 use catalog_types::Table;
 use col_disk::{Disk, StoreFault};
-use col_value::{Asked, List, Name, Row};
+use col_value::{Asked, Name, Row};
 use std::alloc::Global;
 use txn_core::Session;
 
@@ -39,10 +40,11 @@ fn prepare_tables<D: Disk>(
     tables: &mut [Parts],
     entries: &[Table],
     changes: &Session,
-) -> Result<Vec<List<Option<ReadyPart>>>, StoreFault>
+) -> Result<Vec<ReadyTable>, StoreFault>
     requires { length entries.now ≡ length tables.old }
-    ensures prepared { IfOk result (λ v. (m : Contents) → D.holds disk.old ≡ Some m → AreReady m changes.now entries.now (map projections_of tables.old) v.items) }
-    ensures ready { IfOk result (λ v. AllZip (AllZip CanApply) v.items tables.new) }
+    ensures long { IfOk result (λ v. length v.items ≡ length entries.now) }
+    ensures prepared { IfOk result (λ v. (m : Contents) → D.holds disk.old ≡ Some m → AreReady m changes.now entries.now (map projections_of tables.old) (ready_with changes.now entries.now v.items)) }
+    ensures ready { IfOk result (λ v. AllZip (AllZip CanApply) (ready_with changes.now entries.now v.items) tables.new) }
     ensures stored { map projections_of tables.new ≡ map projections_of tables.old }
     ensures unblamed { IfErr result (λ fault. (m : Contents) → D.holds disk.old ≡ Some m → All (All (IsReadable m)) (map projections_of tables.old) → IsUnblamed fault) }
     ensures kept { D.holds disk.new ≡ D.holds disk.old }
@@ -64,14 +66,25 @@ fn prepare_tables<D: Disk>(
     Ok(ready)
 }
 
-/// Does to each table what was made ready, at an epoch. It takes no memory.
-fn apply_tables(tables: &mut [Parts], ready: Vec<List<Option<ReadyPart>>>, epoch: u64)
-    requires { AllZip (AllZip CanApply) ready.items tables.old }
-    ensures { map projections_of tables.new ≡ tables_applied epoch ready.items (map projections_of tables.old) }
+/// Does to each table what was made ready, with its pending rows, at an epoch. It takes no memory.
+fn apply_tables(
+    alloc: Global,
+    tables: &mut [Parts],
+    entries: &[Table],
+    ready: Vec<ReadyTable>,
+    changes: &mut Session,
+    epoch: u64,
+)
+    requires long { length ready.items ≡ length entries.now }
+    requires apart { Pairwise (λ t u. IsBelow t.name u.name) entries.now }
+    requires room { AllZip (AllZip CanApply) (ready_with changes.old entries.now ready.items) tables.old }
+    ensures { map projections_of tables.new ≡ tables_applied epoch (ready_with changes.old entries.now ready.items) (map projections_of tables.old) }
 {
     let mut rest = ready;
     while let Some(parts) = rest.pop() {
-        tables[rest.len()].apply(parts, epoch);
+        let i = rest.len();
+        let rows = changes.take_rows(alloc, entries[i].name.as_slice());
+        tables[i].apply(parts, rows, epoch);
     }
 }
 
@@ -82,10 +95,11 @@ pub fn prepare_all<D: Disk>(
     tables: &mut Vec<Parts>,
     entries: &[Table],
     changes: &Session,
-) -> Result<Vec<List<Option<ReadyPart>>>, StoreFault>
+) -> Result<Vec<ReadyTable>, StoreFault>
     requires { length entries.now ≡ length tables.old.items }
-    ensures prepared { IfOk result (λ v. (m : Contents) → D.holds disk.old ≡ Some m → AreReady m changes.now entries.now (map projections_of tables.old.items) v.items) }
-    ensures ready { IfOk result (λ v. AllZip (AllZip CanApply) v.items tables.new.items) }
+    ensures long { IfOk result (λ v. length v.items ≡ length entries.now) }
+    ensures prepared { IfOk result (λ v. (m : Contents) → D.holds disk.old ≡ Some m → AreReady m changes.now entries.now (map projections_of tables.old.items) (ready_with changes.now entries.now v.items)) }
+    ensures ready { IfOk result (λ v. AllZip (AllZip CanApply) (ready_with changes.now entries.now v.items) tables.new.items) }
     ensures stored { map projections_of tables.new.items ≡ map projections_of tables.old.items }
     ensures unblamed { IfErr result (λ fault. (m : Contents) → D.holds disk.old ≡ Some m → All (All (IsReadable m)) (map projections_of tables.old.items) → IsUnblamed fault) }
     ensures kept { D.holds disk.new ≡ D.holds disk.old }
@@ -95,9 +109,18 @@ pub fn prepare_all<D: Disk>(
     prepare_tables(alloc, disk, tables.as_mut_slice(), entries, changes)
 }
 
-pub fn apply_all(tables: &mut Vec<Parts>, ready: Vec<List<Option<ReadyPart>>>, epoch: u64)
-    requires { AllZip (AllZip CanApply) ready.items tables.old.items }
-    ensures { map projections_of tables.new.items ≡ tables_applied epoch ready.items (map projections_of tables.old.items) }
+pub fn apply_all(
+    alloc: Global,
+    tables: &mut Vec<Parts>,
+    entries: &[Table],
+    ready: Vec<ReadyTable>,
+    changes: &mut Session,
+    epoch: u64,
+)
+    requires long { length ready.items ≡ length entries.now }
+    requires apart { Pairwise (λ t u. IsBelow t.name u.name) entries.now }
+    requires room { AllZip (AllZip CanApply) (ready_with changes.old entries.now ready.items) tables.old.items }
+    ensures { map projections_of tables.new.items ≡ tables_applied epoch (ready_with changes.old entries.now ready.items) (map projections_of tables.old.items) }
 {
-    apply_tables(tables.as_mut_slice(), ready, epoch);
+    apply_tables(alloc, tables.as_mut_slice(), entries, ready, changes, epoch);
 }

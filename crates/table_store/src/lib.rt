@@ -2,7 +2,8 @@
 //!
 //! A `TableStore` is seen as the catalogue that the disk opens to, with the newest closed epoch, and the projections of each table with
 //! what is in memory of them. Over a disk it stands for a database (`Stands` of `store_commit`); each call says which database it makes of
-//! that (`Makes`): then, where memory was short, and whatever a crash left at any moment of it.
+//! that (`Makes`): then, where memory was short, and whatever a crash left at any moment of it. A commit makes all room before anything
+//! changes; of a table's projections the last one that has exactly its columns takes the pending rows themselves, the others get copies.
 #![tactic(auto)]
 
 mod committing;

@@ -1,7 +1,7 @@
 //! A commit's work on one projection.
 
-ghost use Rattle.std.specs.Prelude.{◌≡◌, Some, map, slice_index_or, IfErr, IfOk};
-ghost use Rattle.std.specs.List.{All};
+ghost use Rattle.std.specs.Prelude.{◌≡◌, ◌≤◌, ◌==◌, true, Some, length, map, slice_index_or, IfErr, IfOk};
+ghost use Rattle.std.specs.List.{All, list_all};
 ghost use Rattle.common_laws.specs.Causes.{HasCause};
 ghost use Rattle.common_laws.specs.Maps.{Contents};
 ghost use Rattle.col_disk.specs.Moved.{Moved, NoName};
@@ -9,7 +9,7 @@ ghost use Rattle.col_value.specs.Order.{IsRow, projected};
 ghost use Rattle.col_value.specs.declared.value.Value.TheVariants.{Null};
 ghost use Rattle.row_history.specs.History.{asked_on};
 ghost use Rattle.folder_model.specs.Projections.{ordinals};
-ghost use Rattle.table_store.specs.Changing.{applied, CanApply, IsReady};
+ghost use Rattle.table_store.specs.Changing.{applied, coming, in_order, with_coming, AreWhole, CanApply, IsReady};
 ghost use Rattle.table_store.specs.Faults.{IsReadable, IsUnblamed};
 
 use catalog_types::{ProjColumn, Projection};
@@ -83,17 +83,72 @@ fn deletes_on(
     Ok(out)
 }
 
-/// Makes ready what a commit of these rows and deletes of the table does to a projection; nothing changes but the room.
+/// Whether columns are the first ones of the table in their order.
+fn in_order(columns: &[ProjColumn]) -> bool
+    ensures { result ≡ in_order columns.now }
+{
+    for (i, column) in columns.iter().enumerate() {
+        if column.ordinal != i {
+            return false;
+        }
+    }
+    true
+}
+
+fn are_long(rows: &[Row], count: usize) -> bool
+    ensures { result ≡ list_all (λ row. length row == count) rows.now }
+{
+    rows.iter().all(|row| row.as_slice().len() == count)
+}
+
+/// Whether a projection is up to date and has the columns of rows of the table, so that it can take the rows themselves.
+pub fn can_take(store: &ProjStore, rows: &[Row]) -> bool
+    ensures { result ≡ true → AreWhole rows.now store.now.stored }
+{
+    let entry = store.entry();
+    if !entry.fresh {
+        return false;
+    }
+    let columns = entry.columns.as_slice();
+    in_order(columns) && are_long(rows, columns.len())
+}
+
+/// Room for rows of the table and, where the projection doesn't take these themselves, copies with its columns.
+fn rows_for(
+    alloc: Global,
+    store: &mut ProjStore,
+    rows: &[Row],
+    takes: bool,
+) -> Result<ReadyRows, AllocError>
+    requires valid { All IsRow rows.now }
+    requires whole { takes ≡ true → AreWhole rows.now store.old.stored }
+    ensures rows { IfOk result (λ own. coming takes rows.now own ≡ map (λ row. projected row (ordinals store.old.stored.entry)) rows.now) }
+    ensures room { IfOk result (λ own. length (coming takes rows.now own) ≤ store.new.spare) }
+    ensures stored { store.new.stored ≡ store.old.stored }
+    ensures rooms { store.new.rooms ≡ store.old.rooms }
+{
+    if takes {
+        store.make_room(rows.len())?;
+        return Ok(ReadyRows::of(Vec::new(alloc)));
+    }
+    let own = rows_on(alloc, rows, store.entry())?;
+    store.prepare_rows(own)
+}
+
+/// Makes ready what a commit of these rows and deletes of the table does to a projection; nothing changes but the room. Where it `takes` the
+/// rows of the table themselves, these come later.
 pub fn prepare_part<D: Disk>(
     alloc: Global,
     disk: &mut D,
     store: &mut ProjStore,
     rows: &[Row],
     deletes: &[Asked],
+    takes: bool,
 ) -> Result<Option<ReadyPart>, StoreFault>
-    requires { All IsRow rows.now }
-    ensures prepared { IfOk result (λ o. (m : Contents) → D.holds disk.old ≡ Some m → IsReady m rows.now deletes.now store.old.stored o) }
-    ensures ready { IfOk result (λ o. CanApply o store.new) }
+    requires valid { All IsRow rows.now }
+    requires whole { takes ≡ true → AreWhole rows.now store.old.stored }
+    ensures prepared { IfOk result (λ o. (m : Contents) → D.holds disk.old ≡ Some m → IsReady m rows.now deletes.now store.old.stored (with_coming takes rows.now o)) }
+    ensures ready { IfOk result (λ o. CanApply (with_coming takes rows.now o) store.new) }
     ensures stored { store.new.stored ≡ store.old.stored }
     ensures unblamed { IfErr result (λ fault. (m : Contents) → D.holds disk.old ≡ Some m → IsReadable m store.old.stored → IsUnblamed fault) }
     ensures kept { D.holds disk.new ≡ D.holds disk.old }
@@ -107,17 +162,27 @@ pub fn prepare_part<D: Disk>(
         Ok(wanted) => wanted,
         Err(AllocError) => return Err(StoreFault::Memory),
     };
-    let coming = match rows_on(alloc, rows, store.entry()) {
-        Ok(coming) => coming,
-        Err(AllocError) => return Err(StoreFault::Memory),
-    };
-    let marks = match store.prepare_marks(alloc, disk, wanted.as_slice()) {
+    let marks = match store.prepare_marks(alloc, disk, wanted) {
         Ok(marks) => marks,
         Err(fault) => return Err(fault),
     };
-    match store.prepare_rows(coming) {
+    match rows_for(alloc, store, rows, takes) {
         Ok(rows) => Ok(Some(ReadyPart { rows, marks })),
         Err(AllocError) => Err(StoreFault::Memory),
+    }
+}
+
+/// What was made ready, with these rows.
+pub fn with_coming(ready: Option<ReadyPart>, rows: Vec<Row>) -> Option<ReadyPart>
+    requires { All IsRow rows.items }
+    ensures { result ≡ with_coming true rows.items ready }
+{
+    match ready {
+        Some(ReadyPart { marks, .. }) => Some(ReadyPart {
+            rows: ReadyRows::of(rows),
+            marks,
+        }),
+        None => None,
     }
 }
 

@@ -279,35 +279,32 @@ impl TableStore {
     }
 
     /// Closes the next epoch with a session's changes: its pending rows join their tables, and its pending deletes are marked, in every
-    /// projection that is up to date. Nothing is written. Where no epoch is left it is answered as want of memory.
+    /// projection that is up to date. Nothing is written. Where no epoch is left it is answered as want of memory. The pending rows go
+    /// over to their tables; where it fails the session is as it was.
     pub fn commit<D: Disk>(
         &mut self,
         alloc: Global,
-        changes: &Session,
+        changes: &mut Session,
         disk: &mut D,
     ) -> Result<(), StoreFault>
-        ensures made { (d : Database) → Stands ⟦<D as Disk>⟧ self.old disk.old d → IsSoundSession d changes.now → has_changes changes.now ≡ true → IsSoundDatabase (committed changes.now d)
-            → Makes ⟦<D as Disk>⟧ no_memory self.old self.new disk.old disk.new result d (committed changes.now d) }
+        ensures made { (d : Database) → Stands ⟦<D as Disk>⟧ self.old disk.old d → IsSoundSession d changes.old → has_changes changes.old ≡ true → IsSoundDatabase (committed changes.old d)
+            → Makes ⟦<D as Disk>⟧ no_memory self.old self.new disk.old disk.new result d (committed changes.old d) }
         ensures catalogue { OnOk result (self.new.catalogue ≡ at_epoch (self.old.catalogue.last + 1) self.old.catalogue) }
         ensures unblamed { IfErr result (λ fault. (d : Database) → Stands ⟦<D as Disk>⟧ self.old disk.old d → IsUnblamed fault) }
         ensures same { OnErr result (self.new ≡ self.old) }
+        ensures kept { OnErr result (changes.new ≡ changes.old) }
         ensures cause { HasCause StoreFault.Disk (D.faults disk.old) (D.faults disk.new) result }
     {
         if self.last >= MOST_EPOCHS {
             return Err(StoreFault::Memory);
         }
-        let ready = match prepare_all(
-            alloc,
-            disk,
-            &mut self.tables,
-            self.root.tables.as_slice(),
-            changes,
-        ) {
+        let entries = self.root.tables.as_slice();
+        let ready = match prepare_all(alloc, disk, &mut self.tables, entries, changes) {
             Ok(ready) => ready,
             Err(fault) => return Err(fault),
         };
         let epoch = self.last + 1;
-        apply_all(&mut self.tables, ready, epoch);
+        apply_all(alloc, &mut self.tables, entries, ready, changes, epoch);
         self.last = epoch;
         Ok(())
     }

@@ -1,5 +1,5 @@
--- What DELETE and UPDATE make of a session's changes, and who holds a table.
-use Rattle.std.specs.Prelude.{ℕ, ◌==◌, ◌&&◌, ◌++◌, not, Bool, true, List, find, Option, option_map}
+-- What DELETE, UPDATE and COMMIT make of a session's changes, and who holds a table.
+use Rattle.std.specs.Prelude.{ℕ, ◌==◌, ◌&&◌, ◌++◌, not, if◌then◌else◌, Bool, true, List, [], ◌∷◌, find, Option, option_map, bytes_eq}
 use Rattle.std.specs.List.{enumerate_from}
 use Rattle.col_value.specs.declared.value.Value.{Value}
 use Rattle.col_value.specs.declared.row.Asked.{Asked}
@@ -9,6 +9,15 @@ use Rattle.db_model.specs.Locks.{excludes}
 -- these are the pending rows, these deletes join the others, and the table is held in mode X
 abbrev pub marked : List (List Value) → List Asked → Changes → Changes
 marked rows deletes c = record c { exclusive = true; rows = rows; deletes = c.deletes ++ deletes }
+
+-- no rows are pending
+abbrev pub emptied : Changes → Changes
+emptied c = record c { rows = [] }
+
+-- no rows are pending in the table of a name
+abbrev pub without_rows : List ℕ → List Changes → List Changes
+without_rows name [] = []
+without_rows name (c ∷ changes) = if bytes_eq c.table name then emptied c ∷ changes else c ∷ without_rows name changes
 
 -- the least other session whose mode on a table excludes the one that is wanted
 abbrev pub holder : List (List Changes) → ℕ → List ℕ → Bool → Option ℕ

@@ -5,7 +5,7 @@ ghost use Rattle.std.specs.List.{All};
 ghost use Rattle.col_value.specs.Order.{IsRow};
 ghost use Rattle.db_model.specs.State.{joined};
 ghost use Rattle.db_model.specs.Events.{untouched};
-ghost use Rattle.txn_core.specs.Marking.{marked};
+ghost use Rattle.txn_core.specs.Marking.{emptied, marked};
 
 use col_value::{Asked, Name, Row};
 use std::alloc::{AllocError, Global};
@@ -124,6 +124,15 @@ impl Changes {
     {
         let Changes { rows, deletes, .. } = self;
         (rows, deletes)
+    }
+
+    /// The pending rows are given up and handed over. It takes no memory.
+    pub(crate) fn take_rows(&mut self, alloc: Global) -> Vec<Row>
+        ensures rows { result.items ≡ self.old.rows }
+        ensures valid { All IsRow result.items }
+        ensures left { self.new ≡ emptied self.old }
+    {
+        std::mem::replace(&mut self.rows, Vec::new(alloc))
     }
 
     /// Rows join the pending ones.

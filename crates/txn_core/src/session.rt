@@ -4,10 +4,10 @@ ghost use Rattle.std.specs.Prelude.{◌≡◌, [], filter, IfOk, IfSome, IfNone,
 ghost use Rattle.std.specs.List.{All};
 ghost use Rattle.std.specs.Option.{option_copied};
 ghost use Rattle.col_value.specs.Order.{IsRow};
-ghost use Rattle.db_model.specs.State.{has_changes, with_rows};
+ghost use Rattle.db_model.specs.State.{has_changes, pending_rows, with_rows};
 ghost use Rattle.db_model.specs.Locks.{changes_on, excludes};
 ghost use Rattle.db_model.specs.Events.{change_of, is_not_named};
-ghost use Rattle.txn_core.specs.Marking.{marked};
+ghost use Rattle.txn_core.specs.Marking.{marked, without_rows};
 ghost use Rattle.txn_core.specs.Places.{StandsAt, StandsNowhere};
 
 use crate::changes::Changes;
@@ -168,6 +168,18 @@ impl Session {
                 self.changes.push(changes)?;
                 Ok(())
             }
+        }
+    }
+
+    /// The pending rows of a table are given up and handed over; all else stays. It takes no memory.
+    pub fn take_rows(&mut self, alloc: Global, table: &[u8]) -> Vec<Row>
+        ensures rows { result.items ≡ pending_rows table.now self.old }
+        ensures valid { All IsRow result.items }
+        ensures left { self.new ≡ without_rows table.now self.old }
+    {
+        match self.place_of(table) {
+            Some(place) => self.changes[place].take_rows(alloc),
+            None => Vec::new(alloc),
         }
     }
 

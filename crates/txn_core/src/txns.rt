@@ -111,6 +111,15 @@ impl Txns {
         std::mem::replace(&mut self.sessions[session - 1], Session::new(alloc))
     }
 
+    /// These are a session's changes from now on. It takes no memory.
+    pub fn put(&mut self, session: usize, changes: Session)
+        requires first { 1 ≤ session }
+        requires last { session ≤ 8 }
+        ensures { self.new ≡ slice_set self.old (session - 1) changes }
+    {
+        self.sessions[session - 1] = changes;
+    }
+
     /// A session's changes in a table are dropped. It takes no memory.
     pub fn forget(&mut self, session: usize, table: &[u8])
         requires first { 1 ≤ session }

@@ -39,7 +39,7 @@ impl Store {
     {
         pending_rows_are_sound();
         commits_of_a_session_are_sound();
-        let session = match self.txns.session(self.current).with_rows(alloc, name, rows) {
+        let mut session = match self.txns.session(self.current).with_rows(alloc, name, rows) {
             Ok(session) => session,
             Err(AllocError) => return Err(StoreFault::Memory),
         };
@@ -47,7 +47,7 @@ impl Store {
             self.txns.take(alloc, self.current);
             return Ok(());
         }
-        match self.tables.commit(alloc, &session, disk) {
+        match self.tables.commit(alloc, &mut session, disk) {
             Ok(()) => {}
             Err(fault) => return Err(fault),
         }

@@ -1,6 +1,7 @@
 use Rattle.std.proofs.Common.{◌∙◌, ℕ, List, ap}
 use Rattle.db_model.specs.State.{pending_rows, pending_deletes}
-use Rattle.table_store.proofs.Readied.{rows_in, deletes_in, rows_on, deletes_on}
+use Rattle.txn_core.proofs.Taken.{rows_in, rows_on}
+use Rattle.table_store.proofs.Readied.{deletes_in, deletes_on}
 use Rattle.table_store.proofs.committing.pending.Goals as goal
 
 pub returns-in-Some-clause-rows : goal.returns-in-Some-clause-rows

@@ -1,6 +1,5 @@
 use Rattle.std.proofs.Common.{rules}
 use Rattle.col_disk.proofs.Moving.{moved_none}
-use Rattle.table_store.proofs.Columns.{made_rows}
 use Rattle.table_store.proofs.Unblamed.{part_unblamed}
 use Rattle.table_store.proofs.part.prepare_part.Goals as goal
 
@@ -9,12 +8,6 @@ returns-then-not-entry-clause-moved g c = moved_none g.D.Disk c.args.disk.now
 
 pub returns-in-Err-clause-moved : goal.returns-in-Err-clause-moved
 returns-in-Err-clause-moved g c = moved_none g.D.Disk c.args.disk.now
-
-pub returns-in-Err-rows_on-clause-moved : goal.returns-in-Err-rows_on-clause-moved
-returns-in-Err-rows_on-clause-moved g c = moved_none g.D.Disk c.args.disk.now
-
-pub prepare_rows-requires : goal.prepare_rows-requires
-prepare_rows-requires g c = made_rows _ c.args.rows.now c.in-Ok-rows_on.coming.items c.in-Ok-rows_on.ensures c.requires
 
 pub returns-in-Err-prepare_marks-clause-unblamed : goal.returns-in-Err-prepare_marks-clause-unblamed
 returns-in-Err-prepare_marks-clause-unblamed g c = λ m told readable. part_unblamed m (g.D.Disk.holds c.args.disk.now) c.args.store.now.stored c.in-Err-prepare_marks.fault told (search rules) readable c.in-Err-prepare_marks.ensures.blamed
