@@ -5,16 +5,22 @@ ghost use Rattle.col_bytes.specs.Fronts.{vint_at};
 ghost use Rattle.col_bytes.specs.Parts.{Gives, after, told};
 
 use crate::stop::Stop;
-use crate::varint::take_vint;
+use crate::varint::{LONGEST, groups_of};
 use std::alloc::AllocError;
 
 /// Reads the number at the front, and gives the bytes behind it. `Malformed` comes only where no front of the
 /// bytes spells a number.
+#[tactic(auto, unfolding(crate::specs::Fronts::groups_at))]
 pub fn read_vint(bytes: &[u8]) -> Result<(u64, &[u8]), Stop>
     ensures { Gives (λ x. (x.0, x.1.now)) result (vint_at bytes.now) }
 {
-    match take_vint(bytes) {
-        Some((n, len)) => Ok((n, bytes.split_at(len).1)),
+    if let [b, rest @ ..] = bytes {
+        if *b < 128 {
+            return Ok((u64::from(*b), rest));
+        }
+    }
+    match groups_of(bytes, LONGEST) {
+        Some(read) => Ok(read),
         None => Err(Stop::Malformed),
     }
 }

@@ -7,7 +7,7 @@ ghost use Rattle.col_bytes.specs.Fronts.{groups_at, vint_at, Reads};
 use std::alloc::AllocError;
 
 /// How many bytes the longest number takes.
-const LONGEST: usize = 10;
+pub const LONGEST: usize = 10;
 
 /// Appends the groups of a number. After a refusal a part of them may stand behind what was there.
 fn push_groups(out: &mut Vec<u8>, n: u64) -> Result<(), AllocError>
@@ -41,7 +41,7 @@ pub fn put_vint(out: &mut Vec<u8>, n: u64) -> Result<(), AllocError>
 
 /// The number that at most so many bytes at the front spell, and the bytes behind it.
 #[tactic(auto, unfolding(crate::specs::Fronts::groups_at))]
-fn groups_of(bytes: &[u8], most: usize) -> Option<(u64, &[u8])>
+pub fn groups_of(bytes: &[u8], most: usize) -> Option<(u64, &[u8])>
     ensures { option_map (λ x. (x.0, x.1.now)) result ≡ groups_at most bytes.now }
 {
     if most == 0 {
