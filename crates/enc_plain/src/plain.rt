@@ -3,7 +3,9 @@ ghost use Rattle.col_bytes.specs.Parts.{Gives};
 ghost use Rattle.block_codec.specs.Blocks.{IsOneBlock, flattened, HaveCounts};
 ghost use Rattle.enc_plain.specs.Plain.{plain, plain_of};
 
-use block_codec::{BlockCodec, are_one_block, read_count, single_runs, values_len, vint_len};
+use block_codec::{
+    Block, BlockCodec, are_one_block, read_count, single_runs, values_len, vint_len,
+};
 use col_bytes::{Stop, put_vint, read_tag, told};
 use col_value::{Run, Value};
 use std::alloc::{AllocError, Global};
@@ -25,14 +27,14 @@ pub fn block_len(values: &[Value]) -> usize
 }
 
 /// The values of the block that all of the bytes are.
-fn values_of(alloc: Global, bytes: &[u8]) -> Result<Vec<Value>, Stop>
-    ensures { Gives (λ v. v.items) result (plain_of bytes.now) }
+fn values_of(alloc: Global, bytes: &[u8]) -> Result<Block, Stop>
+    ensures { Gives (λ v. v) result (plain_of bytes.now) }
 {
     let rest = read_tag(TAG, bytes)?;
     let (count, rest) = read_count(rest)?;
     let (values, rest) = read_values(alloc, count, rest)?;
     if rest.is_empty() {
-        Ok(values)
+        Ok(Block::of(values))
     } else {
         Err(Stop::Malformed)
     }
@@ -44,7 +46,7 @@ fn runs_of(alloc: Global, bytes: &[u8]) -> Result<Vec<Run>, Stop>
     ensures counts { IfOk result (λ v. HaveCounts v.items) }
 {
     let values = values_of(alloc, bytes)?;
-    Ok(single_runs(alloc, values)?)
+    Ok(single_runs(alloc, values.into_values(alloc)?)?)
 }
 
 impl BlockCodec for Plain {
@@ -64,7 +66,7 @@ impl BlockCodec for Plain {
         Ok(out)
     }
 
-    fn decode(&self, alloc: Global, bytes: &[u8]) -> Result<Option<Vec<Value>>, AllocError> {
+    fn decode(&self, alloc: Global, bytes: &[u8]) -> Result<Option<Block>, AllocError> {
         told(values_of(alloc, bytes))
     }
 
