@@ -46,10 +46,22 @@ fn bytes_of(alloc: Global, digits: &str) -> Result<Vec<u8>, AllocError> {
     Ok(out)
 }
 
+/// The list that a block in an encoding is read as.
+fn read_list(
+    alloc: Global,
+    encoding: Encoding,
+    bytes: &[u8],
+) -> Result<Option<Vec<Value>>, AllocError> {
+    match decode(alloc, encoding, bytes)? {
+        Some(block) => Ok(Some(block.into_values(alloc)?)),
+        None => Ok(None),
+    }
+}
+
 /// The list of a PLAIN block.
 fn list_of(alloc: Global, digits: &str) -> Result<Option<Vec<Value>>, AllocError> {
     let bytes = bytes_of(alloc, digits)?;
-    decode(alloc, Encoding::Plain, bytes.as_slice())
+    read_list(alloc, Encoding::Plain, bytes.as_slice())
 }
 
 /// The block of a list in an encoding, if it takes the list.
@@ -79,7 +91,7 @@ fn is_right(
     if made.as_slice() != wanted.as_slice() {
         return Ok(false);
     }
-    match decode(alloc, encoding, wanted.as_slice())? {
+    match read_list(alloc, encoding, wanted.as_slice())? {
         Some(read) => Ok(read.as_slice() == values),
         None => Ok(false),
     }

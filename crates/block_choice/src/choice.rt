@@ -10,7 +10,7 @@ ghost use Rattle.block_choice.specs.Choice.{Takes, Accepts, SpellsAs, block_of};
 
 use crate::auto::encode_auto;
 use crate::codec::Codec;
-use block_codec::BlockCodec;
+use block_codec::{Block, BlockCodec};
 use col_value::{Encoding, Run, Value};
 use std::alloc::{AllocError, Global};
 
@@ -68,12 +68,8 @@ fn codec_of(encoding: Encoding, bytes: &[u8]) -> Option<Codec>
 }
 
 /// The values of the block that all of the bytes are in a column of this encoding. None exactly where they are none.
-pub fn decode(
-    alloc: Global,
-    encoding: Encoding,
-    bytes: &[u8],
-) -> Result<Option<Vec<Value>>, AllocError>
-    ensures found { IfOk result (λ o. IfSome o (λ v. SpellsAs encoding v.items bytes.now)) }
+pub fn decode(alloc: Global, encoding: Encoding, bytes: &[u8]) -> Result<Option<Block>, AllocError>
+    ensures found { IfOk result (λ o. IfSome o (λ v. SpellsAs encoding v bytes.now)) }
     ensures none { IfOk result (λ o. IfNone o ((vs : List Worth) → SpellsAs encoding vs bytes.now → ⊥)) }
 {
     match codec_of(encoding, bytes) {

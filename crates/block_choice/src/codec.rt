@@ -3,7 +3,7 @@
 ghost use Rattle.std.specs.Prelude.{◌≡◌};
 ghost use Rattle.block_choice.specs.Codecs.{IsBlockOf, spelled_by};
 
-use block_codec::BlockCodec;
+use block_codec::{Block, BlockCodec};
 use col_value::{Run, Value};
 use enc_delta::DeltaVal;
 use enc_dict::BlockDict;
@@ -44,7 +44,7 @@ impl BlockCodec for Codec {
         }
     }
 
-    fn decode(&self, alloc: Global, bytes: &[u8]) -> Result<Option<Vec<Value>>, AllocError> {
+    fn decode(&self, alloc: Global, bytes: &[u8]) -> Result<Option<Block>, AllocError> {
         match self {
             Codec::Rle => Rle.decode(alloc, bytes),
             Codec::DeltaVal => DeltaVal.decode(alloc, bytes),

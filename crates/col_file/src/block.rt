@@ -12,8 +12,9 @@ ghost use Rattle.col_file.specs.Read.{Blames, SpellsBlock, IsBlock, AnswersPiece
 use crate::checks::{are_runs, are_values};
 use crate::read::fault_of;
 use block_choice::{decode, runs};
+use block_codec::Block;
 use col_disk::{Disk, StoreFault};
-use col_value::{Encoding, Run, Value};
+use col_value::{Encoding, Run};
 use common_laws::Steps;
 use pos_index::{Entry, PosIndex};
 use std::alloc::{AllocError, Global};
@@ -72,14 +73,14 @@ fn values_in(
     rows: u64,
     entry: &Entry,
     encoding: Encoding,
-) -> Result<Vec<Value>, StoreFault>
-    ensures found { IfOk result (λ v. IsBlock rows entry.now v.items × SpellsAs encoding v.items bytes.now) }
+) -> Result<Block, StoreFault>
+    ensures found { IfOk result (λ v. IsBlock rows entry.now v × SpellsAs encoding v bytes.now) }
     ensures blamed { IfErr result (Blames name (SpellsBlock encoding rows entry.now bytes.now → ⊥)) }
     ensures no_cause { result ≢ Err StoreFault.Disk }
 {
     match decode(alloc, encoding, bytes) {
         Ok(Some(values)) => {
-            if are_values(values.as_slice(), rows, entry) {
+            if are_values(&values, rows, entry) {
                 Ok(values)
             } else {
                 Err(StoreFault::Damaged(name))
@@ -127,8 +128,8 @@ fn block_values<D: Disk>(
     entry: &Entry,
     next: Option<&Entry>,
     encoding: Encoding,
-) -> Result<Vec<Value>, StoreFault>
-    ensures found { IfOk result (λ v. AreValues encoding name rows entry.now (option_map (λ n. n.now) next.entry) (D.holds disk.old) v.items) }
+) -> Result<Block, StoreFault>
+    ensures found { IfOk result (λ v. AreValues encoding name rows entry.now (option_map (λ n. n.now) next.entry) (D.holds disk.old) v) }
     ensures blamed { IfErr result (Blames name (IsNoPiece encoding name rows entry.now (option_map (λ n. n.now) next.entry) (D.holds disk.old))) }
     ensures kept { D.holds disk.new ≡ D.holds disk.old }
     ensures moved { Moved ⟦<D as Disk>⟧ NoName NoName disk.old disk.new }
@@ -173,9 +174,9 @@ pub fn read_values<D: Disk>(
     at: &PosIndex,
     encoding: Encoding,
     k: usize,
-) -> Result<Vec<Value>, StoreFault>
+) -> Result<Block, StoreFault>
     requires { k < length at.now.entries }
-    ensures found { IfSome (slice_get at.now.entries k) (λ e. IfOk result (λ v. AreValues encoding body at.now.rows e (slice_get at.now.entries (k + 1)) (D.holds disk.old) v.items)) }
+    ensures found { IfSome (slice_get at.now.entries k) (λ e. IfOk result (λ v. AreValues encoding body at.now.rows e (slice_get at.now.entries (k + 1)) (D.holds disk.old) v)) }
     ensures blamed { IfSome (slice_get at.now.entries k) (λ e. IfErr result (Blames body (IsNoPiece encoding body at.now.rows e (slice_get at.now.entries (k + 1)) (D.holds disk.old)))) }
     ensures kept { D.holds disk.new ≡ D.holds disk.old }
     ensures moved { Moved ⟦<D as Disk>⟧ NoName NoName disk.old disk.new }

@@ -12,6 +12,7 @@ ghost use Rattle.col_file.specs.Held.{HoldsColumn, BlamesColumn, HoldsBlocks, Ho
 
 use crate::block::read_values;
 use crate::read::read_index;
+use block_codec::Block;
 use col_disk::{Disk, StoreFault};
 use col_value::{Encoding, Value};
 use pos_index::PosIndex;
@@ -35,7 +36,7 @@ fn read_on<D: Disk>(
     ensures cause { HasCause StoreFault.Disk (D.faults disk.old) (D.faults disk.new) result }
 {
     match read_values(alloc, disk, body, at, encoding, k) {
-        Ok(block) => match add(values, block) {
+        Ok(block) => match add(alloc, values, block) {
             Ok(()) => Ok(()),
             Err(AllocError) => Err(StoreFault::Memory),
         },
@@ -43,11 +44,12 @@ fn read_on<D: Disk>(
     }
 }
 
-fn add(values: &mut Vec<Value>, block: Vec<Value>) -> Result<(), AllocError>
-    ensures { OnOk result (values.new.items ≡ values.old.items ++ block.items) }
+/// Appends the values of a block.
+fn add(alloc: Global, values: &mut Vec<Value>, block: Block) -> Result<(), AllocError>
+    ensures { OnOk result (values.new.items ≡ values.old.items ++ block) }
 {
-    let mut block = block;
-    values.append(&mut block)
+    let mut more = block.into_values(alloc)?;
+    values.append(&mut more)
 }
 
 /// The values of all blocks.

@@ -1,7 +1,6 @@
 -- Which file is to blame.
 use Rattle.std.proofs.Common.{◌≡◌, ◌+◌, ◌*◌, ◌<◌, ◌≤◌, ℕ, List, length, sym, ◌∙◌, ap, subst, inl, inr, arith}
-use Rattle.std.specs.Prelude.{Option, Some, None, Result, Ok, Err, IfErr, IfSome, Vec}
-use Rattle.std.specs.declared.alloc.Global.{Global}
+use Rattle.std.specs.Prelude.{Option, Some, None, Result, Ok, Err, IfErr, IfSome}
 use Rattle.std.specs.List.{All, slice_get}
 use Rattle.std.proofs.lemmas.List.Elements.{All-take, All-drop}
 use Rattle.common_laws.specs.Maps.{Contents}
@@ -58,11 +57,11 @@ no_block es k i b at holds (Damaged q) le is lt given has =
       ),
     )
 
-err_some : (P : Entry → StoreFault → Type 0) (o : Option Entry) (fault : StoreFault) → IfSome o (λ x. IfErr {T = Vec Value Global} (Err fault) (P x)) → IfSome o (λ x. P x fault)
+err_some : (P : Entry → StoreFault → Type 0) (o : Option Entry) (fault : StoreFault) → IfSome o (λ x. IfErr {T = List Value} (Err fault) (P x)) → IfSome o (λ x. P x fault)
 err_some P None fault given = tt
 err_some P (Some x) fault given = given
 
-pub part_blamed : (es : List Encoding) (k : Container) (i b : ℕ) (at : PosIndex) (e : Encoding) (body : ℕ) (holds : Option Contents) (r : Result (Vec Value Global) StoreFault) → i ≤ length es → e ≡ encoding_at es i → body ≡ body_of k.base i
+pub part_blamed : (es : List Encoding) (k : Container) (i b : ℕ) (at : PosIndex) (e : Encoding) (body : ℕ) (holds : Option Contents) (r : Result (List Value) StoreFault) → i ≤ length es → e ≡ encoding_at es i → body ≡ body_of k.base i
     → IsIndexOf k.rows at → b < length at.entries → IfSome (slice_get at.entries b) (λ x. IfErr r (Blames body (IsNoPiece e body at.rows x (slice_get at.entries (b + 1)) holds)))
     → IfErr r (λ fault. HasIndex k i at holds → BlamesContainer es k holds fault)
 part_blamed es k i b at e body holds (Ok v) le is_e is_body is lt given = tt

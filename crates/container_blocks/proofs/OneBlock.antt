@@ -1,7 +1,6 @@
 -- The values of one block of a column.
 use Rattle.std.proofs.Common.{◌≡◌, ◌+◌, ◌*◌, ◌<◌, ◌≤◌, ◌-◌, ◌++◌, ℕ, zero, suc, true, eqb, List, [], ◌∷◌, length, take, drop, refl, sym, ◌∙◌, ap, ap₂, subst, arith}
-use Rattle.std.specs.Prelude.{min, Option, Some, None, Result, Ok, Err, IfOk, IfSome, Vec}
-use Rattle.std.specs.declared.alloc.Global.{Global}
+use Rattle.std.specs.Prelude.{min, Option, Some, None, Result, Ok, Err, IfOk, IfSome}
 use Rattle.std.specs.FinMap.{get}
 use Rattle.std.specs.List.{All, slice_get, list_all}
 use Rattle.std.proofs.Math.Seq.{drop-append-add, take-append_seam}
@@ -96,7 +95,7 @@ there_are : (e : Encoding) (body b : ℕ) (at : PosIndex) (holds : Option Conten
 there_are e body b at holds vs s given = subst (λ (o : Option Entry). IfSome o (λ x. AreValues e body at.rows x (slice_get at.entries (b + 1)) holds vs)) s.there given
 
 -- what holds of an answer by the entry of a block holds of it
-pub ok_each : (P : Entry → Vec Value Global → Type 0) (Q : Vec Value Global → Type 0) (o : Option Entry) (r : Result (Vec Value Global) StoreFault) → ((v : Vec Value Global) → IfSome o (λ x. P x v) → Q v) → IfSome o (λ x. IfOk r (P x)) → IfOk r Q
+pub ok_each : (P : Entry → List Value → Type 0) (Q : List Value → Type 0) (o : Option Entry) (r : Result (List Value) StoreFault) → ((v : List Value) → IfSome o (λ x. P x v) → Q v) → IfSome o (λ x. IfOk r (P x)) → IfOk r Q
 ok_each P Q None (Ok v) h given = h v tt
 ok_each P Q (Some x) (Ok v) h given = h v given
 ok_each P Q None (Err fault) h given = tt

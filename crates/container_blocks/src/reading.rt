@@ -11,10 +11,10 @@ ghost use Rattle.ros_container.specs.Held.{BlamesContainer};
 ghost use Rattle.container_blocks.specs.Blocks.{IsIndexOf, HasIndex, AreBlock};
 ghost use Rattle.container_blocks.specs.Parts.{ArePart};
 
+use block_codec::Block;
 use catalog_types::{Container, Projection};
 use col_disk::{Disk, StoreFault};
 use col_file::{read_index, read_values};
-use col_value::Value;
 use pos_index::PosIndex;
 use ros_container::{body_of, encoding_of, index_of};
 use std::alloc::Global;
@@ -50,14 +50,14 @@ pub fn part<D: Disk>(
     shape: &Projection,
     column: usize,
     k: usize,
-) -> Result<Vec<Value>, StoreFault>
+) -> Result<Block, StoreFault>
     requires numbers { entry.now.base + 2 * length shape.now.columns + 1 < 2 ^ 62 }
     requires column { column ≤ length shape.now.columns }
     requires index { IsIndexOf entry.now.rows at.now }
     requires block { k < blocks entry.now.rows }
-    ensures found { IfOk result (λ v. HasIndex entry.now column at.now (D.holds disk.old) → ArePart (D.holds disk.old) (encodings_of shape.now) entry.now column k v.items) }
-    ensures long { IfOk result (λ v. length v.items ≡ min 1024 (entry.now.rows - 1024 * k)) }
-    ensures values { IfOk result (λ v. All IsValue v.items) }
+    ensures found { IfOk result (λ v. HasIndex entry.now column at.now (D.holds disk.old) → ArePart (D.holds disk.old) (encodings_of shape.now) entry.now column k v) }
+    ensures long { IfOk result (λ v. length v ≡ min 1024 (entry.now.rows - 1024 * k)) }
+    ensures values { IfOk result (λ v. All IsValue v) }
     ensures blamed { IfErr result (λ fault. HasIndex entry.now column at.now (D.holds disk.old) → BlamesContainer (encodings_of shape.now) entry.now (D.holds disk.old) fault) }
     ensures kept { D.holds disk.new ≡ D.holds disk.old }
     ensures moved { Moved ⟦<D as Disk>⟧ NoName NoName disk.old disk.new }
@@ -79,14 +79,14 @@ pub fn block<D: Disk>(
     shape: &Projection,
     column: usize,
     k: usize,
-) -> Result<Vec<Value>, StoreFault>
+) -> Result<Block, StoreFault>
     requires numbers { entry.now.base + 2 * length shape.now.columns + 1 < 2 ^ 62 }
     requires column { column ≤ length shape.now.columns }
     requires index { IsIndexOf entry.now.rows at.now }
     requires block { k < blocks entry.now.rows }
-    ensures found { IfOk result (λ v. HasIndex entry.now column at.now (D.holds disk.old) → AreBlock (D.holds disk.old) (encodings_of shape.now) entry.now column k v.items) }
-    ensures long { IfOk result (λ v. length v.items ≡ min 1024 (entry.now.rows - 1024 * k)) }
-    ensures values { IfOk result (λ v. All IsValue v.items) }
+    ensures found { IfOk result (λ v. HasIndex entry.now column at.now (D.holds disk.old) → AreBlock (D.holds disk.old) (encodings_of shape.now) entry.now column k v) }
+    ensures long { IfOk result (λ v. length v ≡ min 1024 (entry.now.rows - 1024 * k)) }
+    ensures values { IfOk result (λ v. All IsValue v) }
     ensures blamed { IfErr result (λ fault. HasIndex entry.now column at.now (D.holds disk.old) → BlamesContainer (encodings_of shape.now) entry.now (D.holds disk.old) fault) }
     ensures kept { D.holds disk.new ≡ D.holds disk.old }
     ensures moved { Moved ⟦<D as Disk>⟧ NoName NoName disk.old disk.new }

@@ -12,9 +12,9 @@ ghost use Rattle.ros_container.specs.Rows.{IsWithin, IsEpochOf};
 ghost use Rattle.container_blocks.specs.Blocks.{IsIndexOf, HasIndex, AreEpochs};
 
 use crate::reading::part;
+use block_codec::Block;
 use catalog_types::{Container, Projection};
 use col_disk::{Disk, StoreFault};
-use col_value::Value;
 use pos_index::PosIndex;
 use ros_container::{body_of, epoch_of};
 use std::alloc::{AllocError, Global};
@@ -23,15 +23,15 @@ use std::alloc::{AllocError, Global};
 fn epochs_of(
     alloc: Global,
     entry: &Container,
-    values: &[Value],
+    values: &Block,
 ) -> Result<Option<Vec<u64>>, AllocError>
     ensures found { IfOk result (λ o. IfSome o (λ v. map (λ epoch. Int (pos epoch)) v.items ≡ values.now)) }
     ensures within { IfOk result (λ o. IfSome o (λ v. All (IsWithin entry.now) v.items)) }
     ensures none { IfOk result (λ o. IfNone o (All (IsEpochOf entry.now) values.now → ⊥)) }
 {
     let mut epochs = Vec::with_capacity(alloc, values.len())?;
-    for value in values {
-        match epoch_of(entry, value) {
+    for i in 0..values.len() {
+        match epoch_of(entry, values.value(i)) {
             Some(epoch) => epochs.push(epoch)?,
             None => return Ok(None),
         }
@@ -66,7 +66,7 @@ pub fn epochs<D: Disk>(
         Ok(values) => values,
         Err(fault) => return Err(fault),
     };
-    match epochs_of(alloc, entry, values.as_slice()) {
+    match epochs_of(alloc, entry, &values) {
         Ok(Some(epochs)) => Ok(epochs),
         Ok(None) => Err(StoreFault::Damaged(body_of(entry.base, columns))),
         Err(AllocError) => Err(StoreFault::Memory),

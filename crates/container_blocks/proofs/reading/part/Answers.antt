@@ -19,9 +19,9 @@ returns-clause-found g c =
     let body = c.body_of-body.result in
     let holds = g.D.Disk.holds c.args.disk.now in
     let es = encodings_of c.args.shape.now in
-    ok_each (λ x v. AreValues e body at.rows x (slice_get at.entries (c.args.k + 1)) holds v.items) (λ v. HasIndex k c.args.column at holds → ArePart holds es k c.args.column c.args.k v.items) (slice_get at.entries c.args.k) c.read_values.result
+    ok_each (λ x v. AreValues e body at.rows x (slice_get at.entries (c.args.k + 1)) holds v) (λ v. HasIndex k c.args.column at holds → ArePart holds es k c.args.column c.args.k v) (slice_get at.entries c.args.k) c.read_values.result
     (λ v given.
-    part_found es k c.args.column c.args.k at e body holds v.items c.encoding_of-encoding.ensures c.body_of-body.ensures c.requires.index (in_entries k.rows c.args.k at c.requires.index c.requires.block) given) c.read_values.ensures.found
+    part_found es k c.args.column c.args.k at e body holds v c.encoding_of-encoding.ensures c.body_of-body.ensures c.requires.index (in_entries k.rows c.args.k at c.requires.index c.requires.block) given) c.read_values.ensures.found
 
 pub returns-clause-long : goal.returns-clause-long
 returns-clause-long g c =
@@ -30,8 +30,8 @@ returns-clause-long g c =
     let e = c.encoding_of-encoding.result in
     let body = c.body_of-body.result in
     let holds = g.D.Disk.holds c.args.disk.now in
-    ok_each (λ x v. AreValues e body at.rows x (slice_get at.entries (c.args.k + 1)) holds v.items) (λ v. length v.items ≡ min 1024 (k.rows - 1024 * c.args.k)) (slice_get at.entries c.args.k) c.read_values.result
-    (λ v given. part_long k c.args.k at e body holds v.items c.requires.index (in_entries k.rows c.args.k at c.requires.index c.requires.block) given) c.read_values.ensures.found
+    ok_each (λ x v. AreValues e body at.rows x (slice_get at.entries (c.args.k + 1)) holds v) (λ v. length v ≡ min 1024 (k.rows - 1024 * c.args.k)) (slice_get at.entries c.args.k) c.read_values.result
+    (λ v given. part_long k c.args.k at e body holds v c.requires.index (in_entries k.rows c.args.k at c.requires.index c.requires.block) given) c.read_values.ensures.found
 
 pub returns-clause-values : goal.returns-clause-values
 returns-clause-values g c =
@@ -39,8 +39,8 @@ returns-clause-values g c =
     let e = c.encoding_of-encoding.result in
     let body = c.body_of-body.result in
     let holds = g.D.Disk.holds c.args.disk.now in
-    ok_each (λ x v. AreValues e body at.rows x (slice_get at.entries (c.args.k + 1)) holds v.items) (λ v. All IsValue v.items) (slice_get at.entries c.args.k) c.read_values.result
-    (λ v given. part_values c.args.k at e body holds v.items (in_entries c.args.entry.now.rows c.args.k at c.requires.index c.requires.block) given) c.read_values.ensures.found
+    ok_each (λ x v. AreValues e body at.rows x (slice_get at.entries (c.args.k + 1)) holds v) (λ v. All IsValue v) (slice_get at.entries c.args.k) c.read_values.result
+    (λ v given. part_values c.args.k at e body holds v (in_entries c.args.entry.now.rows c.args.k at c.requires.index c.requires.block) given) c.read_values.ensures.found
 
 pub returns-clause-blamed : goal.returns-clause-blamed
 returns-clause-blamed g c =

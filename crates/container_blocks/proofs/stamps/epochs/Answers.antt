@@ -1,8 +1,6 @@
 use Rattle.std.proofs.Common.{◌≡◌, ◌∙◌, ℕ, length, sym, ap, subst}
-use Rattle.std.specs.List.{All}
 use Rattle.std.proofs.lemmas.List.{length-map}
 use Rattle.ros_container.specs.Encodings.{encodings_of}
-use Rattle.ros_container.specs.Rows.{IsEpochOf}
 use Rattle.container_blocks.specs.Blocks.{HasIndex}
 use Rattle.container_blocks.proofs.Faults.{epochs_blamed}
 use Rattle.container_blocks.proofs.Numbers.{epochs_found}
@@ -17,7 +15,7 @@ returns-in-Ok-Some-clause-found g c = λ has.
     let many : columns ≡ length c.args.shape.now.columns = ap length c.as_slice-columns.ensures in
     let there : HasIndex k columns c.args.at.now holds = subst (λ (i : ℕ). HasIndex k i c.args.at.now holds) (sym many) has in
     let made = rw c.in-Ok-Some.field-0-is at c.in-Ok-Some.ensures.found in
-    epochs_found holds es k columns c.args.k c.in-Ok.values.items c.in-Ok-Some.epochs.items (many ∙ sym (length-map c.args.shape.now.columns (λ p. p.encoding))) (c.in-Ok.ensures.found there) (made ∙ c.as_slice.ensures.value)
+    epochs_found holds es k columns c.args.k c.in-Ok.values c.in-Ok-Some.epochs.items (many ∙ sym (length-map c.args.shape.now.columns (λ p. p.encoding))) (c.in-Ok.ensures.found there) made
 
 pub returns-in-Ok-None-clause-blamed : goal.returns-in-Ok-None-clause-blamed
 returns-in-Ok-None-clause-blamed g c = λ has.
@@ -28,5 +26,4 @@ returns-in-Ok-None-clause-blamed g c = λ has.
     let many : columns ≡ length c.args.shape.now.columns = ap length c.as_slice-columns.ensures in
     let there : HasIndex k columns c.args.at.now holds = subst (λ (i : ℕ). HasIndex k i c.args.at.now holds) (sym many) has in
     let none = rw c.in-Ok-None.field-0-is at c.in-Ok-None.ensures.none in
-    epochs_blamed es k columns c.args.k c.body_of.result holds c.in-Ok.values.items (many ∙ sym (length-map c.args.shape.now.columns (λ p. p.encoding))) c.body_of.ensures (c.in-Ok.ensures.found there)
-    (λ all. none (subst (All (IsEpochOf k)) (sym c.as_slice.ensures.value) all))
+    epochs_blamed es k columns c.args.k c.body_of.result holds c.in-Ok.values (many ∙ sym (length-map c.args.shape.now.columns (λ p. p.encoding))) c.body_of.ensures (c.in-Ok.ensures.found there) none

@@ -5,8 +5,8 @@ use Rattle.col_value.specs.declared.value.Value.TheVariants.{Int}
 use Rattle.ros_container.specs.Rows.{IsWithin}
 use Rattle.container_blocks.proofs.stamps.epochs_of.Given as goal
 
-abbrev pub invariant-loop-value : goal.invariant-loop-value
-invariant-loop-value l = record {
-  found : map (λ n. Int (pos n)) l.epochs.items ≡ take l.value-index l.values;
+abbrev pub invariant-loop-i : goal.invariant-loop-i
+invariant-loop-i l = record {
+  found : map (λ n. Int (pos n)) l.epochs.items ≡ take l.i l.values;
   within : All (IsWithin l.entry) l.epochs.items;
 }
