@@ -10,9 +10,17 @@ pub struct StampedRef<'a> {
     pub del: Option<u64>,
 }
 
-/// A row on its way into a container, and a number of it that is near at hand.
+/// Numbers that ascend with the first values by which a row is ordered, or stay.
+#[derive(Clone, Copy, Debug)]
+pub struct Ranks {
+    pub first: u64,
+    pub second: u64,
+    pub third: u64,
+}
+
+/// A row on its way into a container, and its ranks, which are near at hand.
 #[derive(Clone, Copy, Debug)]
 pub struct Keyed<'a> {
-    pub key: i64,
+    pub ranks: Ranks,
     pub stamped: StampedRef<'a>,
 }

@@ -9,4 +9,4 @@ returns-clause-wide c =
     weaker_ok _ _ c.in_order.result
     (λ v same.
     subst (λ n. AreWide n (map asked_of v.items)) (ap length c.as_slice-columns.ensures)
-    (still_wide (length c.as_slice-columns.result.now) c.in_ok-with_keys.field-0.items c.in_ok-near.near.items v.items c.in_ok-with_keys.ensures.wide c.in_ok-near.ensures same)) c.in_order.ensures.same
+    (still_wide (length c.as_slice-columns.result.now) c.in_ok-with_ranks.field-0.items c.in_ok-near.near.items v.items c.in_ok-with_ranks.ensures.wide c.in_ok-near.ensures same)) c.in_order.ensures.same
