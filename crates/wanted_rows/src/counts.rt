@@ -1,25 +1,27 @@
-//! How often each row is wanted.
+//! Rows that are counted, so that a row is found by its hash.
 
-ghost use Rattle.std.specs.Prelude.{◌≡◌, ◌+◌, ◌<◌, ◌≤◌, ◌^◌, IfOk, OnOk};
-ghost use Rattle.std.specs.List.{list_any};
-ghost use Rattle.std.specs.Map.{keys_of};
+ghost use Rattle.std.specs.Prelude.{◌≡◌, ◌+◌, ◌<◌, ◌≤◌, ◌^◌, false, length, slice_get, IfOk, OnOk, IfSome, IfNone, Some};
 ghost use Rattle.col_value.specs.declared.row.Asked.{Asked as ARow};
-ghost use Rattle.wanted_rows.specs.Wanted.{need_in, asked_in, is_between, tally, Adds, Tries};
+ghost use Rattle.wanted_rows.specs.Wanted.{asked_in, count_in, tally, total, Adds, SetsAt};
 
 use col_value::Asked;
 use indexmap::IndexMap;
-use std::alloc::{AllocError, Global};
+use std::alloc::AllocError;
 use write_store::Inserted;
 
 /// Rows with their insert epochs, and how often each is wanted.
 pub type Counts = IndexMap<Inserted, u64>;
 
-/// How often each row stands in a list.
-pub fn counts_of(alloc: Global, rows: Vec<Asked>) -> Result<Counts, AllocError>
-    ensures { IfOk result (λ counts. (q : ARow) → need_in counts.entries q ≡ tally q rows.items) }
+/// Rows join those that are counted, the last one first.
+pub fn counted(counts: Counts, rows: Vec<Asked>) -> Result<Counts, AllocError>
+    requires { total counts.entries + length rows.items < 2 ^ 64 }
+    ensures count { IfOk result (λ all. (q : ARow) → count_in all.entries q ≡ count_in counts.entries q + tally q rows.items) }
+    ensures total { IfOk result (λ all. total all.entries ≡ total counts.entries + length rows.items) }
 {
-    let mut counts = IndexMap::with_capacity(alloc, rows.len())?;
-    for asked in rows {
+    let mut counts = counts;
+    let mut rows = rows;
+    counts.reserve(rows.len())?;
+    while let Some(asked) = rows.pop() {
         add(&mut counts, asked)?;
     }
     Ok(counts)
@@ -27,49 +29,68 @@ pub fn counts_of(alloc: Global, rows: Vec<Asked>) -> Result<Counts, AllocError>
 
 /// One row more is wanted.
 fn add(counts: &mut Counts, asked: Asked) -> Result<(), AllocError>
-    requires { need_in counts.old.entries asked + 1 < 2 ^ 64 }
-    ensures { OnOk result (Adds asked (need_in counts.old.entries) (need_in counts.new.entries)) }
+    requires { total counts.old.entries + 1 < 2 ^ 64 }
+    ensures adds { OnOk result (Adds asked (count_in counts.old.entries) (count_in counts.new.entries)) }
+    ensures total { OnOk result (total counts.new.entries ≡ total counts.old.entries + 1) }
 {
     let Asked { row, ins } = asked;
-    let row = Inserted { ins, row };
-    let count = need(counts, &row) + 1;
-    counts.insert(row, count)?;
+    let (place, old) = counts.insert_full(Inserted { ins, row }, 1)?;
+    if let Some(count) = old {
+        set(counts, place, count + 1);
+    }
     Ok(())
 }
 
-fn need(counts: &Counts, row: &Inserted) -> u64
-    ensures { result ≡ need_in counts.now.entries (asked_in row.now) }
+/// The row at a place is wanted so often.
+pub fn set(counts: &mut Counts, place: usize, count: u64)
+    requires { place < length counts.old.entries }
+    ensures { SetsAt place count counts.old.entries counts.new.entries }
 {
-    match counts.get(row) {
-        Some(count) => *count,
-        None => 0,
-    }
+    let (_, now) = counts.pair_mut(place);
+    *now = count;
 }
 
-/// Takes a row, where it is wanted; answers whether it was.
-pub fn take(alloc: Global, counts: &mut Counts, row: &Inserted) -> Result<bool, AllocError>
-    ensures taken { IfOk result (λ taken. Tries taken (asked_in row.now) (need_in counts.old.entries) (need_in counts.new.entries)) }
-    ensures fewer { (q : ARow) → need_in counts.new.entries q ≤ need_in counts.old.entries q }
+/// How often the row at a place is wanted, where it is this one.
+fn count_at(counts: &Counts, place: usize, row: &Inserted) -> Option<u64>
+    ensures there { IfSome result (λ n. slice_get counts.now.entries place ≡ Some (row.now, n)) }
+    ensures count { IfSome result (λ n. count_in counts.now.entries (asked_in row.now) ≡ n) }
 {
-    let count = need(counts, row);
-    if count == 0 {
-        return Ok(false);
+    let (key, count) = counts.get_index(place)?;
+    if *key == *row { Some(*count) } else { None }
+}
+
+/// The place of a row and how often it is wanted, by its hash.
+fn find_by_hash(counts: &Counts, row: &Inserted) -> Option<(usize, u64)>
+    ensures there { IfSome result (λ p. slice_get counts.now.entries p.0 ≡ Some (row.now, p.1)) }
+    ensures count { IfSome result (λ p. count_in counts.now.entries (asked_in row.now) ≡ p.1) }
+    ensures none { IfNone result (count_in counts.now.entries (asked_in row.now) ≡ 0) }
+{
+    let (place, _, count) = counts.get_full(row)?;
+    Some((place, *count))
+}
+
+/// The place of a row and how often it is wanted. The place where it is expected is looked at first, before the row is hashed.
+pub fn find(counts: &Counts, expected: usize, row: &Inserted) -> Option<(usize, u64)>
+    ensures there { IfSome result (λ p. slice_get counts.now.entries p.0 ≡ Some (row.now, p.1)) }
+    ensures count { IfSome result (λ p. count_in counts.now.entries (asked_in row.now) ≡ p.1) }
+    ensures none { IfNone result (count_in counts.now.entries (asked_in row.now) ≡ 0) }
+    ensures small { length counts.now.entries < 2 ^ 63 }
+{
+    if counts.len() == 0 {
+        return None;
     }
-    if count == 1 {
-        counts.swap_remove(row);
-        return Ok(true);
+    match count_at(counts, expected, row) {
+        Some(count) => Some((expected, count)),
+        None => find_by_hash(counts, row),
     }
-    let same = row.copy(alloc)?;
-    counts.insert(same, count - 1)?;
-    Ok(true)
 }
 
 /// Whether a row of an epoch from the least to the greatest is wanted.
 pub fn has_epoch_between(counts: &Counts, least: u64, greatest: u64) -> bool
-    ensures { result ≡ list_any (is_between least greatest) (keys_of counts.now.entries) }
+    ensures { result ≡ false → (q : ARow) → least ≤ q.ins → q.ins ≤ greatest → count_in counts.now.entries q ≡ 0 }
 {
-    for row in counts.keys() {
-        if least <= row.ins && row.ins <= greatest {
+    for (row, count) in counts.iter() {
+        if *count > 0 && least <= row.ins && row.ins <= greatest {
             return true;
         }
     }

@@ -8,16 +8,6 @@ use crate::wants::Wants;
 use std::alloc::{AllocError, Global};
 use write_store::{Held, Inserted};
 
-/// Takes a candidate, where it is wanted; answers whether it did.
-fn try_some(alloc: Global, row: &Option<Inserted>, wants: &mut Wants) -> Result<bool, AllocError>
-    ensures { IfOk result (λ taken. TriesSome taken row.now (need_in wants.old) (need_in wants.new)) }
-{
-    match row {
-        Some(row) => wants.take(alloc, row),
-        None => Ok(false),
-    }
-}
-
 /// Takes a row that isn't deleted, where it is wanted; answers whether it did.
 fn try_row(
     alloc: Global,
@@ -31,28 +21,6 @@ fn try_row(
         Some(_) => Ok(false),
         None => wants.take(alloc, row),
     }
-}
-
-/// Picks places of candidates that stand from a place on, each once for each time that it is wanted, until no other of them is wanted.
-/// The places come behind those that are there.
-pub fn pick_from(
-    alloc: Global,
-    some: &[Option<Inserted>],
-    first: usize,
-    wants: &mut Wants,
-    places: &mut Vec<usize>,
-) -> Result<(), AllocError>
-    requires { first + length some.now < 2 ^ 64 }
-    ensures picked { OnOk result (PicksFrom first some.now places.old.items places.new.items (need_in wants.old) (need_in wants.new)) }
-    ensures inside { OnOk result ((n : ℕ) → first + length some.now ≤ n → All (λ p. p < n) places.old.items → All (λ p. p < n) places.new.items) }
-    ensures fewer { OnOk result ((q : Asked) → need_in wants.new q ≤ need_in wants.old q) }
-{
-    for (i, row) in some.iter().enumerate() {
-        if try_some(alloc, row, wants)? {
-            places.push(first + i)?;
-        }
-    }
-    Ok(())
 }
 
 /// Picks places of rows that aren't deleted and are wanted, each once for each time that it is wanted, until no other row that isn't

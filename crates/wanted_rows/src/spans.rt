@@ -21,24 +21,34 @@ impl Span {
     pub fn has(&self, value: &Value) -> bool
         ensures { result ≡ lies_in self.now value.now }
     {
-        self.least.order(value).is_le() && value.order(&self.greatest).is_le()
+        is_at_most(&self.least, value) && is_at_most(value, &self.greatest)
     }
 
     /// Whether a value from the least to the greatest may lie within it.
     pub fn meets(&self, least: &Value, greatest: &Value) -> bool
         ensures { result ≡ (is_le (value_cmp self.now.least greatest.now) && is_le (value_cmp least.now self.now.greatest)) }
     {
-        self.least.order(greatest).is_le() && least.order(&self.greatest).is_le()
+        is_at_most(&self.least, greatest) && is_at_most(least, &self.greatest)
     }
 
     /// Whether all values from the least to the greatest lie within it.
     pub fn has_all(&self, least: &Value, greatest: &Value) -> bool {
-        self.least.order(least).is_le() && greatest.order(&self.greatest).is_le()
+        is_at_most(&self.least, least) && is_at_most(greatest, &self.greatest)
     }
 
     /// Whether one value alone lies within it.
     pub fn is_single(&self) -> bool {
         self.least.is(&self.greatest)
+    }
+}
+
+/// Whether the one is no greater than the other.
+fn is_at_most(a: &Value, b: &Value) -> bool
+    ensures { result ≡ is_le (value_cmp a.now b.now) }
+{
+    match (a, b) {
+        (Value::Int(a), Value::Int(b)) => *a <= *b,
+        _ => a.order(b).is_le(),
     }
 }
 
@@ -94,11 +104,11 @@ fn value_in<'a>(row: &'a [Value], column: usize, other: &'a Value) -> &'a Value
 fn lesser<'a>(a: &'a Value, b: &'a Value) -> &'a Value
     ensures { (is_le (value_cmp result.now a.now) ≡ true) × (is_le (value_cmp result.now b.now) ≡ true) }
 {
-    if a.order(b).is_le() { a } else { b }
+    if is_at_most(a, b) { a } else { b }
 }
 
 fn greater<'a>(a: &'a Value, b: &'a Value) -> &'a Value
     ensures { (is_le (value_cmp a.now result.now) ≡ true) × (is_le (value_cmp b.now result.now) ≡ true) }
 {
-    if a.order(b).is_le() { b } else { a }
+    if is_at_most(a, b) { b } else { a }
 }

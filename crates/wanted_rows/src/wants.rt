@@ -1,11 +1,11 @@
-ghost use Rattle.std.specs.Prelude.{◌≡◌, ◌≤◌, slice_index_or, true, false, IfOk, IsTrue};
+ghost use Rattle.std.specs.Prelude.{◌≡◌, ◌≤◌, slice_index_or, true, false, IfOk, IfSome, IsTrue};
 ghost use Rattle.std.specs.Ordering.{is_le};
 ghost use Rattle.col_value.specs.Order.{value_cmp};
 ghost use Rattle.col_value.specs.declared.row.Asked.{Asked as ARow};
 ghost use Rattle.col_value.specs.declared.value.Value.TheVariants.{Null};
-ghost use Rattle.wanted_rows.specs.Wanted.{need_in, asked_in, tally, Tries};
+ghost use Rattle.wanted_rows.specs.Wanted.{need_in, asked_in, tally, Adds, IsNext, Tries};
 
-use crate::counts::{Counts, counts_of, has_epoch_between, take};
+use crate::needs::Needs;
 use crate::spans::{Span, spans_of};
 use col_value::{Asked, Value};
 use std::alloc::{AllocError, Global};
@@ -15,21 +15,19 @@ use write_store::Inserted;
 /// How often each row is wanted still, and within which values all these rows lie.
 #[derive(Drop)]
 pub struct Wants {
-    counts: Counts,
+    needs: Needs,
     spans: Vec<Span>,
 }
 
 impl Model for Wants {
-    ghost use Rattle.std.specs.Prelude.{ℕ, List};
-    ghost use Rattle.write_store.specs.declared.held.Inserted.{Inserted as Key};
     ghost use Rattle.wanted_rows.specs.Spans.{Covers};
-    ghost use Rattle.wanted_rows.specs.Wanted.{need_in};
+    ghost use Rattle.wanted_rows.specs.Wanted.{need_in, Needed};
 
-    ghost Value = { List (Key × ℕ) };
+    ghost Value = { Needed };
 
-    ghost view = { λ w. w.counts.entries };
+    ghost view = { λ w. w.needs };
 
-    ghost invariant = { λ w. Covers w.spans.items (need_in w.counts.entries) };
+    ghost invariant = { λ w. Covers w.spans.items (need_in w.needs) };
 }
 
 impl Wants {
@@ -38,8 +36,8 @@ impl Wants {
         ensures { IfOk result (λ wants. (q : ARow) → need_in wants q ≡ tally q wanted.items) }
     {
         let spans = spans_of(alloc, wanted.as_slice())?;
-        let counts = counts_of(alloc, wanted)?;
-        Ok(Wants { counts, spans })
+        let needs = Needs::new(alloc, wanted);
+        Ok(Wants { needs, spans })
     }
 
     /// Whether a row with this value in a column may be wanted.
@@ -66,7 +64,7 @@ impl Wants {
     pub fn may_have_epoch_between(&self, least: u64, greatest: u64) -> bool
         ensures { result ≡ false → (q : ARow) → least ≤ q.ins → q.ins ≤ greatest → need_in self.now q ≡ 0 }
     {
-        has_epoch_between(&self.counts, least, greatest)
+        self.needs.has_epoch_between(least, greatest)
     }
 
     /// Whether all rows that were wanted at first have one value in this column: then few others may be. A hint, which decides no answer.
@@ -85,17 +83,31 @@ impl Wants {
         }
     }
 
+    /// The row that is expected next, where rows come in the order in which they were wanted. A hint, which decides no answer.
+    pub fn next(&self) -> Option<&Asked>
+        ensures { IfSome result (λ a. IsNext self.now a.now) }
+    {
+        self.needs.last()
+    }
+
+    /// Takes the row that is expected next.
+    pub fn take_next(&mut self)
+        ensures { (a : ARow) → IsNext self.old a → Adds a (need_in self.new) (need_in self.old) }
+    {
+        self.needs.take_last();
+    }
+
     /// Takes a row, where it is wanted; answers whether it was.
     pub fn take(&mut self, alloc: Global, row: &Inserted) -> Result<bool, AllocError>
         ensures { IfOk result (λ taken. Tries taken (asked_in row.now) (need_in self.old) (need_in self.new)) }
     {
-        take(alloc, &mut self.counts, row)
+        self.needs.take(alloc, row)
     }
 
     /// Whether no row is wanted any more.
     pub fn is_done(&self) -> bool
         ensures { IsTrue result → (q : ARow) → need_in self.now q ≡ 0 }
     {
-        self.counts.is_empty()
+        self.needs.is_done()
     }
 }

@@ -1,7 +1,6 @@
-use Rattle.std.proofs.Common.{◌≡◌, ◌<◌, ℕ, List, length, get_or, ap, sym, ◌∙◌, subst, rules}
-use Rattle.write_store.specs.declared.held.Inserted.{Inserted}
+use Rattle.std.proofs.Common.{◌≡◌, ◌<◌, List, length, get_or, ap, sym, ◌∙◌, subst, rules}
 use Rattle.wanted_rows.specs.declared.spans.Span.{Span}
-use Rattle.wanted_rows.specs.Wanted.{need_in}
+use Rattle.wanted_rows.specs.Wanted.{need_in, Needed}
 use Rattle.wanted_rows.proofs.Spanning.{misses_between, not_wanted}
 use Rattle.wanted_rows.proofs.wants.Wants.may_have_between.Goals as goal
 
@@ -12,5 +11,5 @@ returns-in-Some c none q from upto =
     let same : c.deref.result.now ≡ spans = search rules in
     let there : (c.args.column < length spans) × (span ≡ get_or spans c.args.column span) =
     subst (λ (xs : List Span). (c.args.column < length xs) × (span ≡ get_or xs c.args.column span)) same (c.in-Some.ensures.lookup.3.0, c.in-Some.ensures.lookup.3.1 span) in
-    ap (λ (es : List (Inserted × ℕ)). need_in es q) (sym c.self.view_is)
-    ∙ not_wanted spans (need_in c.self.inside.counts.entries) c.args.column span q c.self.invariant there (misses_between span c.args.least.now c.args.greatest.now _ (sym c.meets.ensures ∙ none) from upto)
+    ap (λ (needs : Needed). need_in needs q) (sym c.self.view_is)
+    ∙ not_wanted spans (need_in c.self.inside.needs) c.args.column span q c.self.invariant there (misses_between span c.args.least.now c.args.greatest.now _ (sym c.meets.ensures ∙ none) from upto)
