@@ -101,21 +101,20 @@ block_past : (rows : List Asked) (b n : ℕ) (mark : ℕ → Option ℕ) (places
 block_past rows b n mark places start left long was =
     picks_past (1024 * b + n) (1024 * (b + 1)) mark rows places start left was (omega (arith, long)) (λ p from lt within. absurd (omega (arith, long, from, lt, within)))
 
-pub picks_on : (holds : Option Contents) (es : List Encoding) (k : Container) (mark : ℕ → Option ℕ) (b : ℕ) (some now : List (Option Inserted)) (old new : List ℕ) (need left : Asked → ℕ) → now ≡ some → length some ≡ min 1024 (k.rows - 1024 * b)
-    → AreCandidates holds es k mark b need some → PicksFrom (1024 * b) now old new need left → PicksOn holds es k mark b old new need left
-picks_on holds es k mark b some now old new need left same long are picks m told rows holding start was =
+pub picks_on : (holds : Option Contents) (es : List Encoding) (k : Container) (mark : ℕ → Option ℕ) (b : ℕ) (some : List (Option Inserted)) (old new : List ℕ) (need left : Asked → ℕ) → length some ≡ min 1024 (k.rows - 1024 * b)
+    → AreCandidates holds es k mark b need some → PicksFrom (1024 * b) some old new need left → PicksOn holds es k mark b old new need left
+picks_on holds es k mark b some old new need left long are picks m told rows holding start was =
     let all : length rows ≡ k.rows = container_long m es k rows holding in
     let here : length some ≡ min 1024 (length rows - 1024 * b) = omega (arith, long, all) in
-    let picked = subst (λ (xs : List (Option Inserted)). PicksFrom (1024 * b) xs old new need left) same picks in
-    block_past rows b (length some) mark new start left here (picked mark rows (are m told rows holding) start was)
+    block_past rows b (length some) mark new start left here (picks mark rows (are m told rows holding) start was)
 
 pub none_on : (holds : Option Contents) (es : List Encoding) (k : Container) (mark : ℕ → Option ℕ) (b : ℕ) (places : List ℕ) (need : Asked → ℕ) → ((q : Asked) → need q ≡ 0) → PicksOn holds es k mark b places places need need
 none_on holds es k mark b places need nought m told rows holding start was =
     picks_past (1024 * b) (1024 * (b + 1)) mark rows places start need was (omega arith) (λ p from lt within. nought (get_or rows p blank))
 
-pub inside_on : (k : Container) (b : ℕ) (some now : List (Option Inserted)) (old new : List ℕ) → b < blocks k.rows → now ≡ some → length some ≡ min 1024 (k.rows - 1024 * b)
-    → ((n : ℕ) → 1024 * b + length now ≤ n → All (λ p. p < n) old → All (λ p. p < n) new) → ArePlaces k old → ArePlaces k new
-inside_on k b some now old new lt same long inside all = inside k.rows (omega (arith, long, ap length same, block_room b k.rows lt)) all
+pub inside_on : (k : Container) (b : ℕ) (some : List (Option Inserted)) (old new : List ℕ) → b < blocks k.rows → length some ≡ min 1024 (k.rows - 1024 * b)
+    → ((n : ℕ) → 1024 * b + length some ≤ n → All (λ p. p < n) old → All (λ p. p < n) new) → ArePlaces k old → ArePlaces k new
+inside_on k b some old new lt long inside all = inside k.rows (omega (arith, long, block_room b k.rows lt)) all
 
 -- ---- all blocks
 

@@ -12,4 +12,5 @@ pub mod Prepared
 pub mod Deleted
 pub mod BlockRows
 pub mod Narrowing
+pub mod Candidacy
 pub mod Standing

@@ -1,12 +1,12 @@
 -- Rows of a block that may be wanted, fewer after each column.
-use Rattle.std.proofs.Common.{◌≡◌, ℕ, suc, ◌+◌, ◌*◌, ◌≤◌, ◌<◌, ◌++◌, Bool, true, false, cond, List, [], ◌∷◌, length, drop, get_or, nat_lt, refl, sym, ap, ◌∙◌, subst, arith}
-use Rattle.std.specs.Prelude.{Option, Some, ◌==◌}
+use Rattle.std.proofs.Common.{◌≡◌, ℕ, suc, ◌+◌, ◌*◌, ◌≤◌, ◌<◌, ◌++◌, Bool, true, false, cond, List, [], ◌∷◌, length, drop, get_or, replicate, set, nat_lt, refl, sym, ap, ◌∙◌, subst, arith}
+use Rattle.std.specs.Prelude.{Option, Some, None, IfSome, IsSome, ◌==◌, ◌≢◌, nat_eq}
 use Rattle.std.specs.List.{Any}
 use Rattle.std.proofs.Math.ListN.{get_or-append}
 use Rattle.std.proofs.Math.Seq.{get_or-append_seam}
 use Rattle.std.proofs.lemmas.Bool.Decides.{nat_tests}
 use Rattle.std.proofs.lemmas.List.Elements.{All-drop, All-take}
-use Rattle.std.proofs.lemmas.List.{get_or-map, get_or_default, length-append, length-map}
+use Rattle.std.proofs.lemmas.List.{get_or-map, get_or-replicate, get_or-set_other, get_or-set_same, get_or_default, get_or_past, length-append, length-map, length-replicate}
 use Rattle.common_laws.specs.Maps.{Contents}
 use Rattle.catalog_types.specs.declared.catalogue.Container.{Container}
 use Rattle.col_value.specs.declared.kinds.Encoding.{Encoding}
@@ -17,7 +17,7 @@ use Rattle.ros_container.specs.Held.{HoldsContainer}
 use Rattle.ros_container.specs.Rows.{column_values, epoch_values, stored_values, AreWide}
 use Rattle.container_blocks.specs.Blocks.{AreBlock, rows_in}
 use Rattle.wanted_rows.specs.Picked.{blank}
-use Rattle.proj_store.specs.Candidates.{HaveRows, IsUnwanted, Narrows, NarrowsBy, Stays, row_of}
+use Rattle.proj_store.specs.Candidates.{AreRead, HaveRows, IsUnwanted, Narrows, NarrowsBy, Stays, columns_in, row_of, values_in}
 
 -- ---- a list that grows place by place
 
@@ -69,17 +69,15 @@ value_here i j xs vs is lt =
     let room : j < length xs = omega (arith, lt, ap length is, length-map xs (λ a. get_or a.row i value.Null)) in
     sym (ap (λ (ws : List Value). get_or ws j value.Null) is ∙ get_or-map (λ a. get_or a.row i value.Null) xs j blank value.Null room)
 
-pub narrows_column : (holds : Option Contents) (es : List Encoding) (k : Container) (b i : ℕ) (vs seen : List Value) (need : Asked → ℕ) (old new : List Bool) → i < length es → seen ≡ vs → length old ≡ length vs
-    → NarrowsBy i seen need old new → AreBlock holds es k i b vs → Narrows holds es k b need old new
-narrows_column holds es k b i vs seen need old new lt same long by_values are =
-    let each : NarrowsBy i vs need old new = subst (λ (ws : List Value). NarrowsBy i ws need old new) same by_values in
-    record {
-      only = λ j here e. stays_only i (get_or vs j value.Null) need (get_or old j false) (get_or new j false) (each j here) e;
-      gone = λ m told rows holding j here was e.
-          let q = get_or (rows_in b rows) j blank in
-          stays_gone i (get_or vs j value.Null) need (get_or old j false) (get_or new j false) (each j here) was e q
-          (value_here i j (rows_in b rows) vs (block_values holds es k b i vs lt are m told rows holding) (omega (arith, here, long)));
-    }
+pub narrows_column : (holds : Option Contents) (es : List Encoding) (k : Container) (b i : ℕ) (vs : List Value) (need : Asked → ℕ) (old new : List Bool) → i < length es → length old ≡ length vs
+    → NarrowsBy i vs need old new → AreBlock holds es k i b vs → Narrows holds es k b need old new
+narrows_column holds es k b i vs need old new lt long each are = record {
+  only = λ j here e. stays_only i (get_or vs j value.Null) need (get_or old j false) (get_or new j false) (each j here) e;
+  gone = λ m told rows holding j here was e.
+      let q = get_or (rows_in b rows) j blank in
+      stays_gone i (get_or vs j value.Null) need (get_or old j false) (get_or new j false) (each j here) was e q
+      (value_here i j (rows_in b rows) vs (block_values holds es k b i vs lt are m told rows holding) (omega (arith, here, long)));
+}
 
 pub narrows_none : (holds : Option Contents) (es : List Encoding) (k : Container) (b : ℕ) (need : Asked → ℕ) (alive : List Bool) → Narrows holds es k b need alive alive
 narrows_none holds es k b need alive = record { only = λ j here e. e; gone = λ m told rows holding j here was e. absurd (cc) }
@@ -96,16 +94,52 @@ narrows_join holds now es k b need old mid new same long one two = record {
 
 -- ---- the columns that are read so far
 
-abbrev pub AreColumns : Option Contents → List Encoding → Container → ℕ → List (List Value) → Type 0
-AreColumns holds es k b columns = (m : Contents) → holds ≡ Some m → (rows : List Asked) → HoldsContainer m es k rows → (j : ℕ) → j < length columns → get_or columns j [] ≡ column_values j (rows_in b rows)
+abbrev absent : Option (List Value)
+absent = None
 
-pub columns_none : (holds : Option Contents) (es : List Encoding) (k : Container) (b : ℕ) (columns : List (List Value)) → columns ≡ [] → AreColumns holds es k b columns
-columns_none holds es k b columns is m told rows holding j lt = absurd (omega (arith, lt, ap length is))
+pub read_none : (holds : Option Contents) (es : List Encoding) (k : Container) (b n : ℕ) (columns : List (Option (List Value))) → columns ≡ replicate n None → AreRead holds es k b columns
+read_none holds es k b n columns is i =
+    subst (λ (cs : List (Option (List Value))). IfSome (get_or cs i None) (AreBlock holds es k i b)) (sym is)
+    (subst (λ (o : Option (List Value)). IfSome o (AreBlock holds es k i b)) (sym (none_at n i)) tt)
+  where
+    none_at : (n i : ℕ) → get_or (replicate n absent) i None ≡ None
+    none_at n i = by (nat_lt i n) refl
+      where
+        by : (b : Bool) → nat_lt i n ≡ b → get_or (replicate n absent) i None ≡ None
+        by true e = let less : i < n = grind (arith, nat_tests) in get_or-replicate n i absent None less
+        by false e = let past : n ≤ i = grind (arith, nat_tests) in get_or_past (replicate n absent) i absent (omega (arith, past, length-replicate n absent))
 
-pub columns_more : (holds now : Option Contents) (es : List Encoding) (k : Container) (b i : ℕ) (columns next : List (List Value)) (vs : List Value) → now ≡ holds → i < length es → length columns ≡ i → next ≡ columns ++ vs ∷ []
-    → AreColumns holds es k b columns → AreBlock now es k i b vs → AreColumns holds es k b next
-columns_more holds now es k b i columns next vs same lt long is was are m told rows holding =
-    each_more (λ j. column_values j (rows_in b rows)) columns next vs [] i is long (block_values now es k b i vs lt are m (same ∙ told) rows holding) (was m told rows holding)
+pub read_same : (holds now : Option Contents) (es : List Encoding) (k : Container) (b : ℕ) (columns : List (Option (List Value))) → now ≡ holds → AreRead now es k b columns → AreRead holds es k b columns
+read_same holds now es k b columns same are = subst (λ (h : Option Contents). AreRead h es k b columns) same are
+
+-- one column more
+pub read_set : (holds now : Option Contents) (es : List Encoding) (k : Container) (b i : ℕ) (columns : List (Option (List Value))) (was new : Option (List Value)) → now ≡ holds → i < length columns → was ≡ get_or columns i None
+    → (IfSome was (AreBlock now es k i b) → IfSome new (AreBlock now es k i b)) → AreRead holds es k b columns → AreRead holds es k b (set columns i new)
+read_set holds now es k b i columns was new same lt is step are j = by (nat_eq j i) refl
+  where
+    by : (e : Bool) → nat_eq j i ≡ e → IfSome (get_or (set columns i new) j None) (AreBlock holds es k j b)
+    by true e =
+        let at : i ≡ j = grind (arith, nat_tests) in
+        let before : IfSome was (AreBlock now es k i b) =
+        subst (λ (o : Option (List Value)). IfSome o (AreBlock now es k i b)) (sym is) (subst (λ (h : Option Contents). IfSome (get_or columns i None) (AreBlock h es k i b)) (sym same) (are i)) in
+        let after : IfSome new (AreBlock holds es k i b) = subst (λ (h : Option Contents). IfSome new (AreBlock h es k i b)) same (step before) in
+        subst (λ (n : ℕ). IfSome (get_or (set columns i new) n None) (AreBlock holds es k n b)) at
+        (subst (λ (o : Option (List Value)). IfSome o (AreBlock holds es k i b)) (sym (get_or-set_same columns i new None lt)) after)
+    by false e =
+        let other : j ≢ i = grind (arith, nat_tests) in
+        subst (λ (o : Option (List Value)). IfSome o (AreBlock holds es k j b)) (sym (get_or-set_other columns i j new None other)) (are j)
+
+pub there_set : (columns : List (Option (List Value))) (i : ℕ) (new : Option (List Value)) → i < length columns → IsSome new → ((j : ℕ) → j < i → IsSome (get_or columns j None)) → (j : ℕ) → j < i + 1 → IsSome (get_or (set columns i new) j None)
+there_set columns i new lt some was j less = by (nat_eq j i) refl
+  where
+    by : (e : Bool) → nat_eq j i ≡ e → IsSome (get_or (set columns i new) j None)
+    by true e =
+        let at : i ≡ j = grind (arith, nat_tests) in
+        subst (λ (n : ℕ). IsSome (get_or (set columns i new) n None)) at (subst (λ (o : Option (List Value)). IsSome o) (sym (get_or-set_same columns i new None lt)) some)
+    by false e =
+        let other : j ≢ i = grind (arith, nat_tests) in
+        let before : j < i = grind (arith, nat_tests) in
+        subst (λ (o : Option (List Value)). IsSome o) (sym (get_or-set_other columns i j new None other)) (was j before)
 
 same_items : (xs ys : List Value) → length xs ≡ length ys → ((j : ℕ) → j < length xs → get_or xs j value.Null ≡ get_or ys j value.Null) → xs ≡ ys
 same_items [] [] long each = refl
@@ -119,19 +153,30 @@ same_items (x ∷ xs) (y ∷ ys) long each =
 wide_block : (n b : ℕ) (rows : List Asked) → AreWide n rows → AreWide n (rows_in b rows)
 wide_block n b rows wide = All-take (λ (a : Asked). length a.row ≡ n) 1024 (drop (1024 * b) rows) (All-drop (λ (a : Asked). length a.row ≡ n) (1024 * b) rows wide)
 
-pub rows_there : (holds : Option Contents) (es : List Encoding) (k : Container) (b : ℕ) (alive : List Bool) (columns : List (List Value)) → length columns ≡ length es
-    → ((m : Contents) → holds ≡ Some m → (rows : List Asked) → HoldsContainer m es k rows → length alive ≤ length (rows_in b rows)) → AreColumns holds es k b columns → HaveRows holds es k b alive columns
-rows_there holds es k b alive columns many room are m told rows holding i lt e =
+pub rows_there : (holds : Option Contents) (es : List Encoding) (k : Container) (b : ℕ) (alive : List Bool) (columns : List (Option (List Value))) → length columns ≡ length es
+    → ((m : Contents) → holds ≡ Some m → (rows : List Asked) → HoldsContainer m es k rows → length alive ≤ length (rows_in b rows)) → ((j : ℕ) → j < length columns → IsSome (get_or columns j None)) → AreRead holds es k b columns
+    → HaveRows holds es k b alive (columns_in columns)
+rows_there holds es k b alive columns many room there are m told rows holding i lt e =
     let xs = rows_in b rows in
     let in_rows : i < length xs = omega (arith, lt, room m told rows holding) in
     let a = get_or xs i blank in
-    let long : length (row_of columns i) ≡ length columns = length-map columns (λ c. get_or c i value.Null) in
-    same_items (row_of columns i) a.row (omega (arith, long, many, wide_block (length es) b rows holding.wide i blank in_rows))
+    let each = columns_in columns in
+    let as_many : length each ≡ length columns = length-map columns values_in in
+    let long : length (row_of each i) ≡ length each = length-map each (λ c. get_or c i value.Null) in
+    same_items (row_of each i) a.row (omega (arith, long, as_many, many, wide_block (length es) b rows holding.wide i blank in_rows))
     (λ j less.
-    let in_columns : j < length columns = omega (arith, less, long) in
-    get_or-map (λ c. get_or c i value.Null) columns j [] value.Null in_columns
-    ∙ ap (λ (c : List Value). get_or c i value.Null) (are m told rows holding j in_columns)
+    let in_each : j < length each = omega (arith, less, long) in
+    let in_columns : j < length columns = omega (arith, in_each, as_many) in
+    get_or-map (λ c. get_or c i value.Null) each j [] value.Null in_each
+    ∙ ap (λ (c : List Value). get_or c i value.Null) (get_or-map values_in columns j None [] in_columns ∙ column_at j (omega (arith, in_columns, many)) (get_or columns j None) (there j in_columns) (are j))
     ∙ get_or-map (λ x. get_or x.row j value.Null) xs i blank value.Null in_rows)
+  where
+    column_at : (j : ℕ) → j < length es → (o : Option (List Value)) → IsSome o → IfSome o (AreBlock holds es k j b) → values_in o ≡ column_values j (rows_in b rows)
+    column_at j own None some is = absurd (cc)
+    column_at j own (Some vs) some is = block_values holds es k b j vs own is m told rows holding
+
+pub rows_same : (holds now : Option Contents) (es : List Encoding) (k : Container) (b : ℕ) (alive : List Bool) (columns : List (List Value)) → now ≡ holds → HaveRows now es k b alive columns → HaveRows holds es k b alive columns
+rows_same holds now es k b alive columns same have = subst (λ (h : Option Contents). HaveRows h es k b alive columns) same have
 
 pub none_there : (holds : Option Contents) (es : List Encoding) (k : Container) (b : ℕ) (alive : List Bool) (columns : List (List Value)) → (Any (λ a. a ≡ true) alive → ⊥) → HaveRows holds es k b alive columns
 none_there holds es k b alive columns none m told rows holding i lt e = absurd (none (i, true, lt, get_or_default alive i true false lt ∙ e, refl))

@@ -1,10 +1,10 @@
 -- Candidates of a block, and blocks that have none.
 use Rattle.std.proofs.Common.{◌≡◌, ℕ, ◌+◌, ◌-◌, ◌*◌, ◌≤◌, ◌<◌, Bool, true, false, List, length, map, drop, get_or, min, refl, sym, ap, ap₂, ◌∙◌, subst, arith}
 use Rattle.std.specs.Prelude.{Option, Some, None, IfSome, IsSomeAnd, is_none, slice_get}
-use Rattle.std.specs.List.{All, list_all}
+use Rattle.std.specs.List.{All, Any, list_all}
 use Rattle.std.specs.Ordering.{is_le}
 use Rattle.std.proofs.lemmas.Option.{slice_get-get_or}
-use Rattle.std.proofs.lemmas.List.{get_or-drop, get_or-map, get_or-take, length-drop, length-map, length-take}
+use Rattle.std.proofs.lemmas.List.{get_or-drop, get_or-map, get_or-take, get_or_default, length-drop, length-map, length-take}
 use Rattle.std.proofs.lemmas.List.Folds.{list_all_at}
 use Rattle.common_laws.specs.Maps.{Contents}
 use Rattle.common_laws.proofs.Truths.{and_true}
@@ -27,9 +27,10 @@ use Rattle.wanted_rows.specs.Wanted.{asked_in}
 use Rattle.wanted_rows.specs.Picked.{blank}
 use Rattle.wanted_rows.proofs.Steps.{picks_past}
 use Rattle.proj_store.specs.Blocks.{HasIndexes, PicksOn, in_list}
-use Rattle.proj_store.specs.Candidates.{AreCandidates, HaveRows, MissesBlock, MissesEntry, MissesOne, Narrows, candidate, row_of}
+use Rattle.proj_store.specs.Candidates.{AreCandidates, HaveRows, MissesBlock, MissesEntry, MissesOne, Narrows, candidate, candidates, row_of}
 use Rattle.proj_store.proofs.BlockRows.{block_room, container_long, no_index}
-use Rattle.proj_store.proofs.Narrowing.{column_is, narrows_join}
+use Rattle.proj_store.proofs.Candidacy.{candidate_at, candidates_long}
+use Rattle.proj_store.proofs.Narrowing.{column_is}
 
 -- ---- the rows of a block stand in those of the container
 
@@ -67,52 +68,47 @@ make row ins = record { row = row; ins = ins }
 ins_here : (i : ℕ) (xs : List Asked) (stamps : List ℕ) → stamps ≡ map (λ a. a.ins) xs → i < length xs → get_or stamps i 0 ≡ (get_or xs i blank).ins
 ins_here i xs stamps is lt = ap (λ (ns : List ℕ). get_or ns i 0) is ∙ get_or-map (λ a. a.ins) xs i blank 0 lt
 
-pub candidates_stand : (holds : Option Contents) (es : List Encoding) (k : Container) (deletes : List (Option ℕ)) (b : ℕ) (need : Asked → ℕ) (first last : List Bool) (stamps : List ℕ) (columns : List (List Value)) (some : List (Option Inserted))
-    → b < blocks k.rows → length some ≡ min 1024 (k.rows - 1024 * b) → length first ≡ length some → length last ≡ length some
+candidates_stand : (holds : Option Contents) (es : List Encoding) (k : Container) (deletes : List (Option ℕ)) (b : ℕ) (need : Asked → ℕ) (first last : List Bool) (stamps : List ℕ) (columns : List (List Value))
+    → b < blocks k.rows → length last ≡ min 1024 (k.rows - 1024 * b) → length first ≡ length last
     → ((i : ℕ) → i < length first → get_or first i false ≡ is_none (in_list deletes (1024 * b + i)))
-    → Narrows holds es k b need first last → AreEpochs holds es k b stamps → HaveRows holds es k b last columns
-    → ((i : ℕ) → i < length some → get_or some i None ≡ candidate (get_or last i false) (get_or stamps i 0) columns i)
-    → AreCandidates holds es k (in_list deletes) b need some
-candidates_stand holds es k deletes b need first last stamps columns some lt long first_long last_long live narrows epochs have each m told rows holding =
+    → Narrows holds es k b need first last → (Any (λ a. a ≡ true) last → AreEpochs holds es k b stamps) → HaveRows holds es k b last columns
+    → AreCandidates holds es k (in_list deletes) b need (candidates last stamps columns)
+candidates_stand holds es k deletes b need first last stamps columns lt last_long long live narrows epochs have m told rows holding =
+    let some = candidates last stamps columns in
     let all : length rows ≡ k.rows = container_long m es k rows holding in
-    let here : length (rows_in b rows) ≡ length some = omega (arith, block_long b rows, all, long) in
+    let as_many : length some ≡ length last = candidates_long 0 last stamps columns in
+    let here : length (rows_in b rows) ≡ length some = omega (arith, block_long b rows, all, last_long, as_many) in
+    let each : (i : ℕ) → get_or some i None ≡ candidate (get_or last i false) (get_or stamps i 0) columns i = λ i. candidate_at some last stamps columns i refl in
     record {
-      within = omega (arith, long, all, block_room b k.rows lt);
+      within = omega (arith, last_long, as_many, all, block_room b k.rows lt);
       there = λ i less.
-          subst (λ (o : Option Inserted). IfSome o (λ r. (asked_in r ≡ get_or rows (1024 * b + i) blank) × (in_list deletes (1024 * b + i) ≡ None))) (sym (each i less))
+          subst (λ (o : Option Inserted). IfSome o (λ r. (asked_in r ≡ get_or rows (1024 * b + i) blank) × (in_list deletes (1024 * b + i) ≡ None))) (sym (each i))
           (there_by (get_or last i false) (get_or stamps i 0) columns i (λ r. (asked_in r ≡ get_or rows (1024 * b + i) blank) × (in_list deletes (1024 * b + i) ≡ None))
           (λ e. (
-            ap₂ make (have m told rows holding i (omega (arith, less, last_long)) e) (ins_here i (rows_in b rows) stamps (epochs m told rows holding) (omega (arith, less, here)))
+            ap₂ make (have m told rows holding i (omega (arith, less, as_many)) e)
+                (ins_here i (rows_in b rows) stamps (epochs (i, true, omega (arith, less, as_many), get_or_default last i true false (omega (arith, less, as_many)) ∙ e, refl) m told rows holding) (omega (arith, less, here)))
                 ∙ row_stands b i rows (omega (arith, less, here)),
-            none_told (in_list deletes (1024 * b + i)) (sym (live i (omega (arith, less, first_long))) ∙ narrows.only i (omega (arith, less, first_long)) e),
+            none_told (in_list deletes (1024 * b + i)) (sym (live i (omega (arith, less, as_many, long))) ∙ narrows.only i (omega (arith, less, as_many, long)) e),
           )));
       rest = λ i less gone live_here.
           ap need (sym (row_stands b i rows (omega (arith, less, here))))
-          ∙ narrows.gone m told rows holding i (omega (arith, less, first_long)) (live i (omega (arith, less, first_long)) ∙ none_tells (in_list deletes (1024 * b + i)) live_here)
-          (gone_by (get_or last i false) (get_or stamps i 0) columns i (sym (each i less) ∙ gone));
+          ∙ narrows.gone m told rows holding i (omega (arith, less, as_many, long)) (live i (omega (arith, less, as_many, long)) ∙ none_tells (in_list deletes (1024 * b + i)) live_here)
+          (gone_by (get_or last i false) (get_or stamps i 0) columns i (sym (each i) ∙ gone));
     }
 
 -- the same of lists that one call hands to the next
-pub candidates_made : (found one two : Option Contents) (es : List Encoding) (k : Container) (deletes : List (Option ℕ)) (b : ℕ) (need : Asked → ℕ) (alive first second third fourth last : List Bool) (stamps ins : List ℕ) (values columns : List (List Value))
-    (some : List (Option Inserted)) → b < blocks k.rows → one ≡ found → two ≡ one → first ≡ alive → third ≡ second → last ≡ fourth → ins ≡ stamps → columns ≡ values
-    → length stamps ≡ min 1024 (k.rows - 1024 * b) → length alive ≡ length stamps → length second ≡ length first → length fourth ≡ length third → length some ≡ length ins
+pub candidates_made : (holds now : Option Contents) (es : List Encoding) (k : Container) (deletes : List (Option ℕ)) (b : ℕ) (need : Asked → ℕ) (alive first last end seen : List Bool) (stamps : List ℕ) (columns read : List (List Value))
+    → b < blocks k.rows → now ≡ holds → first ≡ alive → end ≡ last → seen ≡ last → read ≡ columns → length alive ≡ min 1024 (k.rows - 1024 * b) → length last ≡ length first
     → ((i : ℕ) → i < length alive → get_or alive i false ≡ is_none (in_list deletes (1024 * b + i)))
-    → Narrows one es k b need first second → Narrows two es k b need third fourth → AreEpochs found es k b stamps → HaveRows two es k b fourth values
-    → ((i : ℕ) → i < length some → get_or some i None ≡ candidate (get_or last i false) (get_or ins i 0) columns i)
-    → AreCandidates found es k (in_list deletes) b need some
-candidates_made found one two es k deletes b need alive first second third fourth last stamps ins values columns some lt one_is two_is first_is third_is last_is ins_is columns_is long alive_long second_long fourth_long some_long live before behind epochs have each =
-    let start : Narrows found es k b need alive second =
-    subst (λ (xs : List Bool). Narrows found es k b need xs second) first_is (subst (λ (h : Option Contents). Narrows h es k b need first second) one_is before) in
-    let end : Narrows two es k b need second last =
-    subst (λ (xs : List Bool). Narrows two es k b need xs last) third_is (subst (λ (xs : List Bool). Narrows two es k b need third xs) (sym last_is) behind) in
-    let second_is : length second ≡ length alive = second_long ∙ ap length first_is in
-    let last_long : length last ≡ length stamps = ap length last_is ∙ fourth_long ∙ ap length third_is ∙ second_is ∙ alive_long in
-    let many : length some ≡ length stamps = some_long ∙ ap length ins_is in
-    let same : two ≡ found = two_is ∙ one_is in
-    candidates_stand found es k deletes b need alive last ins columns some lt (many ∙ long) (omega (arith, alive_long, many)) (omega (arith, last_long, many)) live
-    (narrows_join found two es k b need alive second last same second_is start end)
-    (subst (λ (ns : List ℕ). AreEpochs found es k b ns) (sym ins_is) epochs)
-    (subst (λ (xs : List Bool). HaveRows found es k b xs columns) (sym last_is) (subst (λ (cs : List (List Value)). HaveRows found es k b fourth cs) (sym columns_is) (subst (λ (h : Option Contents). HaveRows h es k b fourth values) same have))) each
+    → Narrows holds es k b need first last → (Any (λ a. a ≡ true) seen → AreEpochs now es k b stamps) → HaveRows holds es k b last columns
+    → AreCandidates holds es k (in_list deletes) b need (candidates end stamps read)
+candidates_made holds now es k deletes b need alive first last end seen stamps columns read lt kept first_is end_is seen_is read_is long same live narrows epochs have =
+    let as_long : length last ≡ length alive = same ∙ ap length first_is in
+    let found : AreCandidates holds es k (in_list deletes) b need (candidates last stamps columns) =
+    candidates_stand holds es k deletes b need alive last stamps columns lt (as_long ∙ long) (sym as_long) live (subst (λ (xs : List Bool). Narrows holds es k b need xs last) first_is narrows)
+    (λ some. subst (λ (h : Option Contents). AreEpochs h es k b stamps) kept (epochs (subst (Any (λ a. a ≡ true)) (sym seen_is) some))) have in
+    subst (λ (xs : List Bool). AreCandidates holds es k (in_list deletes) b need (candidates xs stamps read)) (sym end_is)
+    (subst (λ (cs : List (List Value)). AreCandidates holds es k (in_list deletes) b need (candidates last stamps cs)) (sym read_is) found)
 
 -- ---- blocks that an index passes over
 

@@ -1,5 +1,5 @@
 -- Rows of a block that may be wanted.
-use Rattle.std.specs.Prelude.{ℕ, ◌≡◌, ◌<◌, ◌*◌, Bool, true, false, List, length, map, get_or, slice_get, slice_index_or, if◌then◌else◌, IsSomeAnd, Option, Some, None}
+use Rattle.std.specs.Prelude.{ℕ, suc, ◌≡◌, ◌<◌, ◌*◌, Bool, true, false, List, [], ◌∷◌, length, unwrap_or, IfSome, map, get_or, slice_get, slice_index_or, if◌then◌else◌, IsSomeAnd, Option, Some, None}
 use Rattle.std.specs.Bool.{OnTrue, OnFalse}
 use Rattle.std.specs.Ordering.{is_le}
 use Rattle.common_laws.specs.Maps.{Contents}
@@ -12,7 +12,7 @@ use Rattle.col_value.specs.declared.value.Value.TheVariants as value
 use Rattle.pos_index.specs.declared.index.Entry.{Entry}
 use Rattle.pos_index.specs.declared.index.PosIndex.{PosIndex}
 use Rattle.ros_container.specs.Held.{HoldsContainer}
-use Rattle.container_blocks.specs.Blocks.{rows_in}
+use Rattle.container_blocks.specs.Blocks.{rows_in, AreBlock}
 use Rattle.write_store.specs.declared.held.Inserted.{Inserted}
 use Rattle.wanted_rows.specs.Picked.{StandFrom, blank}
 
@@ -56,6 +56,25 @@ row_of columns i = map (λ c. slice_index_or c i value.Null) columns
 
 abbrev pub candidate : Bool → ℕ → List (List Value) → ℕ → Option Inserted
 candidate alive ins columns i = if alive then Some (record { ins = ins; row = row_of columns i }) else None
+
+-- the candidates from place i on
+abbrev pub candidates_from : ℕ → List Bool → List ℕ → List (List Value) → List (Option Inserted)
+candidates_from i [] stamps columns = []
+candidates_from i (alive ∷ rest) stamps columns = candidate alive (get_or stamps i 0) columns i ∷ candidates_from (suc i) rest stamps columns
+
+abbrev pub candidates : List Bool → List ℕ → List (List Value) → List (Option Inserted)
+candidates alive stamps columns = candidates_from 0 alive stamps columns
+
+-- the values of a column, none where it isn't read
+abbrev pub values_in : Option (List Value) → List Value
+values_in column = unwrap_or column []
+
+abbrev pub columns_in : List (Option (List Value)) → List (List Value)
+columns_in columns = map values_in columns
+
+-- each column that is read has its values of block b
+abbrev pub AreRead : Option Contents → List Encoding → Container → ℕ → List (Option (List Value)) → Type 0
+AreRead holds encodings k b columns = (i : ℕ) → IfSome (get_or columns i None) (AreBlock holds encodings k i b)
 
 -- where a disk tells its contents, and the container holds rows, the rows of block b that may be wanted have these values
 abbrev pub HaveRows : Option Contents → List Encoding → Container → ℕ → List Bool → List (List Value) → Type 0

@@ -1,27 +1,27 @@
-//! The rows of a block that may be wanted.
+//! How the rows of a block that may be wanted are found.
 
-ghost use Rattle.std.specs.Prelude.{◌≡◌, ◌<◌, ◌+◌, ◌-◌, ◌*◌, ◌^◌, ℕ, min, length, IfOk, IfErr, OnOk};
-ghost use Rattle.std.specs.List.{All};
+ghost use Rattle.std.specs.Prelude.{◌≡◌, ◌<◌, ◌+◌, ◌-◌, ◌*◌, true, false, min, length, replicate, None, IfOk, IfErr, IfSome, IsSome, OnOk};
+ghost use Rattle.std.specs.List.{All, Any};
 ghost use Rattle.common_laws.specs.Causes.{HasCause};
 ghost use Rattle.col_disk.specs.Moved.{Moved, NoName};
 ghost use Rattle.pos_index.specs.Index.{blocks};
 ghost use Rattle.ros_container.specs.Encodings.{encodings_of};
 ghost use Rattle.ros_container.specs.Held.{BlamesContainer};
-ghost use Rattle.container_blocks.specs.Blocks.{AreBlock, HasIndex, IsIndexOf};
+ghost use Rattle.container_blocks.specs.Blocks.{AreBlock, AreEpochs, HasIndex, IsIndexOf};
 ghost use Rattle.wanted_rows.specs.Wanted.{need_in};
 ghost use Rattle.proj_store.specs.Sound.{HasFileNumbers};
 ghost use Rattle.proj_store.specs.Blocks.{HasIndexes, in_list};
-ghost use Rattle.proj_store.specs.Candidates.{AreCandidates, HaveRows, Narrows, NarrowsBy};
+ghost use Rattle.proj_store.specs.Candidates.{AreCandidates, AreRead, HaveRows, Narrows, NarrowsBy, columns_in};
 
-use crate::alive::{has_any, narrow, rows_alive, undeleted};
+use crate::alive::{has_any, narrow, undeleted};
+use crate::rows::Candidates;
+use block_codec::Block;
 use catalog_types::{Container, Projection};
 use col_disk::{Disk, StoreFault};
-use col_value::{List, Value};
 use container_blocks::{block, epochs};
 use pos_index::PosIndex;
 use std::alloc::{AllocError, Global};
 use wanted_rows::Wants;
-use write_store::Inserted;
 
 /// Whether a row of each value of block k may be wanted, as the index says.
 fn spares(at: &PosIndex, k: usize, column: usize, wants: &Wants) -> bool {
@@ -34,7 +34,7 @@ fn spares(at: &PosIndex, k: usize, column: usize, wants: &Wants) -> bool {
 /// Rows of block k with a value that no wanted row has in a column are alive no more. None is tried where the index spares it.
 fn narrow_spared(
     alive: &mut [bool],
-    values: &[Value],
+    values: &Block,
     at: &PosIndex,
     k: usize,
     column: usize,
@@ -49,8 +49,9 @@ fn narrow_spared(
     }
 }
 
-/// The values of a column in block k; rows with one that no wanted row has there are alive no more.
-fn column_alive<D: Disk>(
+/// Column i of block k is read, where it isn't yet; rows with a value that no wanted row has there are alive no more. Where only columns are
+/// wanted in which all wanted rows have one value, another one isn't read.
+fn look<D: Disk>(
     alloc: Global,
     disk: &mut D,
     entry: &Projection,
@@ -59,42 +60,9 @@ fn column_alive<D: Disk>(
     i: usize,
     k: usize,
     wants: &Wants,
+    singles: bool,
     alive: &mut [bool],
-) -> Result<List<Value>, StoreFault>
-    requires numbers { HasFileNumbers (length entry.now.columns) container.now }
-    requires column { i < length entry.now.columns }
-    requires index { IsIndexOf container.now.rows at.now }
-    requires block { k < blocks container.now.rows }
-    requires alive { length alive.old ≡ min 1024 (container.now.rows - 1024 * k) }
-    ensures long { length alive.new ≡ length alive.old }
-    ensures narrows { IfOk result (λ v. HasIndex container.now i at.now (D.holds disk.old) → Narrows (D.holds disk.old) (encodings_of entry.now) container.now k (need_in wants.now) alive.old alive.new) }
-    ensures found { IfOk result (λ v. HasIndex container.now i at.now (D.holds disk.old) → AreBlock (D.holds disk.old) (encodings_of entry.now) container.now i k v) }
-    ensures values { IfOk result (λ v. length v ≡ length alive.old) }
-    ensures blamed { IfErr result (λ fault. HasIndex container.now i at.now (D.holds disk.old) → BlamesContainer (encodings_of entry.now) container.now (D.holds disk.old) fault) }
-    ensures kept { D.holds disk.new ≡ D.holds disk.old }
-    ensures moved { Moved ⟦<D as Disk>⟧ NoName NoName disk.old disk.new }
-    ensures cause { HasCause StoreFault.Disk (D.faults disk.old) (D.faults disk.new) result }
-{
-    match block(alloc, disk, container, at, entry, i, k) {
-        Ok(values) => {
-            narrow_spared(alive, values.as_slice(), at, k, i, wants);
-            Ok(List::new(values))
-        }
-        Err(fault) => Err(fault),
-    }
-}
-
-/// The same by a column in which all wanted rows have one value; another column isn't read.
-fn narrow_single<D: Disk>(
-    alloc: Global,
-    disk: &mut D,
-    entry: &Projection,
-    container: &Container,
-    at: &PosIndex,
-    i: usize,
-    k: usize,
-    wants: &Wants,
-    alive: &mut [bool],
+    column: &mut Option<Block>,
 ) -> Result<(), StoreFault>
     requires numbers { HasFileNumbers (length entry.now.columns) container.now }
     requires column { i < length entry.now.columns }
@@ -103,22 +71,29 @@ fn narrow_single<D: Disk>(
     requires alive { length alive.old ≡ min 1024 (container.now.rows - 1024 * k) }
     ensures long { length alive.new ≡ length alive.old }
     ensures narrows { OnOk result (HasIndex container.now i at.now (D.holds disk.old) → Narrows (D.holds disk.old) (encodings_of entry.now) container.now k (need_in wants.now) alive.old alive.new) }
+    ensures there { OnOk result (singles ≡ false → IsSome column.new) }
+    ensures read { OnOk result (HasIndex container.now i at.now (D.holds disk.old) → IfSome column.old (AreBlock (D.holds disk.old) (encodings_of entry.now) container.now i k) → IfSome column.new (AreBlock (D.holds disk.old) (encodings_of entry.now) container.now i k)) }
     ensures blamed { IfErr result (λ fault. HasIndex container.now i at.now (D.holds disk.old) → BlamesContainer (encodings_of entry.now) container.now (D.holds disk.old) fault) }
     ensures kept { D.holds disk.new ≡ D.holds disk.old }
     ensures moved { Moved ⟦<D as Disk>⟧ NoName NoName disk.old disk.new }
     ensures cause { HasCause StoreFault.Disk (D.faults disk.old) (D.faults disk.new) result }
 {
-    if !wants.is_single(i) {
+    if column.is_some() || singles && !wants.is_single(i) {
         return Ok(());
     }
-    match column_alive(alloc, disk, entry, container, at, i, k, wants, alive) {
-        Ok(_) => Ok(()),
+    match block(alloc, disk, container, at, entry, i, k) {
+        Ok(values) => {
+            narrow_spared(alive, &values, at, k, i, wants);
+            *column = Some(values);
+            Ok(())
+        }
         Err(fault) => Err(fault),
     }
 }
 
-/// Rows are alive no more by the columns in which all wanted rows have one value.
-fn narrow_singles<D: Disk>(
+/// The columns of block k are read for as long as some row is alive, all of them or only those in which all wanted rows have one value; rows
+/// with a value that no wanted row has are alive no more.
+fn look_each<D: Disk>(
     alloc: Global,
     disk: &mut D,
     entry: &Projection,
@@ -126,22 +101,31 @@ fn narrow_singles<D: Disk>(
     indexes: &[PosIndex],
     k: usize,
     wants: &Wants,
+    singles: bool,
     alive: &mut [bool],
+    columns: &mut [Option<Block>],
 ) -> Result<(), StoreFault>
     requires numbers { HasFileNumbers (length entry.now.columns) container.now }
     requires many { length indexes.now ≡ length entry.now.columns + 1 }
     requires fit { All (IsIndexOf container.now.rows) indexes.now }
     requires block { k < blocks container.now.rows }
     requires alive { length alive.old ≡ min 1024 (container.now.rows - 1024 * k) }
+    requires columns { length columns.old ≡ length entry.now.columns }
     ensures long { length alive.new ≡ length alive.old }
+    ensures columns { length columns.new ≡ length columns.old }
     ensures narrows { OnOk result (HasIndexes container.now (D.holds disk.old) indexes.now → Narrows (D.holds disk.old) (encodings_of entry.now) container.now k (need_in wants.now) alive.old alive.new) }
+    ensures read { OnOk result (HasIndexes container.now (D.holds disk.old) indexes.now → AreRead (D.holds disk.old) (encodings_of entry.now) container.now k columns.old → AreRead (D.holds disk.old) (encodings_of entry.now) container.now k columns.new) }
+    ensures rows { OnOk result (singles ≡ false → HasIndexes container.now (D.holds disk.old) indexes.now → AreRead (D.holds disk.old) (encodings_of entry.now) container.now k columns.old → HaveRows (D.holds disk.old) (encodings_of entry.now) container.now k alive.new (columns_in columns.new)) }
     ensures blamed { IfErr result (λ fault. HasIndexes container.now (D.holds disk.old) indexes.now → BlamesContainer (encodings_of entry.now) container.now (D.holds disk.old) fault) }
     ensures kept { D.holds disk.new ≡ D.holds disk.old }
     ensures moved { Moved ⟦<D as Disk>⟧ NoName NoName disk.old disk.new }
     ensures cause { HasCause StoreFault.Disk (D.faults disk.old) (D.faults disk.new) result }
 {
-    for i in 0..entry.columns.as_slice().len() {
-        match narrow_single(
+    for i in 0..columns.len() {
+        if !has_any(alive) {
+            return Ok(());
+        }
+        match look(
             alloc,
             disk,
             entry,
@@ -150,7 +134,9 @@ fn narrow_singles<D: Disk>(
             i,
             k,
             wants,
+            singles,
             alive,
+            &mut columns[i],
         ) {
             Ok(()) => {}
             Err(fault) => return Err(fault),
@@ -159,8 +145,9 @@ fn narrow_singles<D: Disk>(
     Ok(())
 }
 
-/// The values of the columns in block k, for as long as some row is alive.
-fn columns_alive<D: Disk>(
+/// The columns of block k, none of which is read, are read for as long as some row is alive. Those in which all wanted rows have one value
+/// come first: where none of the rows has it, no other column is read.
+fn look_through<D: Disk>(
     alloc: Global,
     disk: &mut D,
     entry: &Projection,
@@ -169,51 +156,81 @@ fn columns_alive<D: Disk>(
     k: usize,
     wants: &Wants,
     alive: &mut [bool],
-) -> Result<Vec<List<Value>>, StoreFault>
+    columns: &mut [Option<Block>],
+) -> Result<(), StoreFault>
     requires numbers { HasFileNumbers (length entry.now.columns) container.now }
     requires many { length indexes.now ≡ length entry.now.columns + 1 }
     requires fit { All (IsIndexOf container.now.rows) indexes.now }
     requires block { k < blocks container.now.rows }
     requires alive { length alive.old ≡ min 1024 (container.now.rows - 1024 * k) }
+    requires columns { length columns.old ≡ length entry.now.columns }
     ensures long { length alive.new ≡ length alive.old }
-    ensures narrows { IfOk result (λ v. HasIndexes container.now (D.holds disk.old) indexes.now → Narrows (D.holds disk.old) (encodings_of entry.now) container.now k (need_in wants.now) alive.old alive.new) }
-    ensures rows { IfOk result (λ v. HasIndexes container.now (D.holds disk.old) indexes.now → HaveRows (D.holds disk.old) (encodings_of entry.now) container.now k alive.new v.items) }
-    ensures values { IfOk result (λ v. All (λ c. length c ≡ length alive.old) v.items) }
+    ensures columns { length columns.new ≡ length columns.old }
+    ensures narrows { OnOk result (HasIndexes container.now (D.holds disk.old) indexes.now → Narrows (D.holds disk.old) (encodings_of entry.now) container.now k (need_in wants.now) alive.old alive.new) }
+    ensures rows { OnOk result (HasIndexes container.now (D.holds disk.old) indexes.now → AreRead (D.holds disk.old) (encodings_of entry.now) container.now k columns.old → HaveRows (D.holds disk.old) (encodings_of entry.now) container.now k alive.new (columns_in columns.new)) }
     ensures blamed { IfErr result (λ fault. HasIndexes container.now (D.holds disk.old) indexes.now → BlamesContainer (encodings_of entry.now) container.now (D.holds disk.old) fault) }
     ensures kept { D.holds disk.new ≡ D.holds disk.old }
     ensures moved { Moved ⟦<D as Disk>⟧ NoName NoName disk.old disk.new }
     ensures cause { HasCause StoreFault.Disk (D.faults disk.old) (D.faults disk.new) result }
 {
-    let mut columns = Vec::new(alloc);
-    for i in 0..entry.columns.as_slice().len() {
-        if !has_any(alive) {
-            return Ok(columns);
-        }
-        let values = match column_alive(
-            alloc,
-            disk,
-            entry,
-            container,
-            &indexes[i],
-            i,
-            k,
-            wants,
-            alive,
-        ) {
-            Ok(values) => values,
-            Err(fault) => return Err(fault),
-        };
-        match columns.push(values) {
-            Ok(()) => {}
-            Err(_) => return Err(StoreFault::Memory),
-        }
+    match look_each(
+        alloc, disk, entry, container, indexes, k, wants, true, alive, columns,
+    ) {
+        Ok(()) => {}
+        Err(fault) => return Err(fault),
+    }
+    look_each(
+        alloc, disk, entry, container, indexes, k, wants, false, alive, columns,
+    )
+}
+
+/// So many columns, none of which is read.
+fn none_read(alloc: Global, count: usize) -> Result<Vec<Option<Block>>, AllocError>
+    ensures { IfOk result (λ v. v.items ≡ replicate count None) }
+{
+    let mut columns = Vec::with_capacity(alloc, count)?;
+    for _ in 0..count {
+        columns.push(None)?;
     }
     Ok(columns)
 }
 
-/// The rows of block k that may be wanted, each at its place. Columns in which all wanted rows have one value come first: where none of the
-/// rows has it, no other column is read.
-pub fn candidates<D: Disk>(
+/// The epochs that inserted the rows of block k; they aren't read where no row is alive.
+fn stamps<D: Disk>(
+    alloc: Global,
+    disk: &mut D,
+    entry: &Projection,
+    container: &Container,
+    at: &PosIndex,
+    k: usize,
+    alive: &[bool],
+) -> Result<Vec<u64>, StoreFault>
+    requires numbers { HasFileNumbers (length entry.now.columns) container.now }
+    requires index { IsIndexOf container.now.rows at.now }
+    requires block { k < blocks container.now.rows }
+    ensures found { IfOk result (λ v. Any (λ a. a ≡ true) alive.now → HasIndex container.now (length entry.now.columns) at.now (D.holds disk.old) → AreEpochs (D.holds disk.old) (encodings_of entry.now) container.now k v.items) }
+    ensures blamed { IfErr result (λ fault. HasIndex container.now (length entry.now.columns) at.now (D.holds disk.old) → BlamesContainer (encodings_of entry.now) container.now (D.holds disk.old) fault) }
+    ensures kept { D.holds disk.new ≡ D.holds disk.old }
+    ensures moved { Moved ⟦<D as Disk>⟧ NoName NoName disk.old disk.new }
+    ensures cause { HasCause StoreFault.Disk (D.faults disk.old) (D.faults disk.new) result }
+{
+    if has_any(alive) {
+        epochs(alloc, disk, container, at, entry, k)
+    } else {
+        Ok(Vec::new(alloc))
+    }
+}
+
+/// How many of so many rows stand in block k.
+fn rows_of(rows: u64, k: usize) -> usize
+    requires { k < blocks rows }
+    ensures { result ≡ min 1024 (rows - 1024 * k) }
+{
+    (rows - 1024 * k as u64).min(1024) as usize
+}
+
+/// The rows of block k that may be wanted.
+pub fn find_candidates<D: Disk>(
     alloc: Global,
     disk: &mut D,
     entry: &Projection,
@@ -222,38 +239,55 @@ pub fn candidates<D: Disk>(
     deletes: &[Option<u64>],
     k: usize,
     wants: &Wants,
-) -> Result<Vec<Option<Inserted>>, StoreFault>
+) -> Result<Candidates, StoreFault>
     requires numbers { HasFileNumbers (length entry.now.columns) container.now }
     requires many { length indexes.now ≡ length entry.now.columns + 1 }
     requires fit { All (IsIndexOf container.now.rows) indexes.now }
     requires block { k < blocks container.now.rows }
-    ensures found { IfOk result (λ v. HasIndexes container.now (D.holds disk.old) indexes.now → AreCandidates (D.holds disk.old) (encodings_of entry.now) container.now (in_list deletes.now) k (need_in wants.now) v.items) }
-    ensures long { IfOk result (λ v. length v.items ≡ min 1024 (container.now.rows - 1024 * k)) }
+    ensures found { IfOk result (λ v. HasIndexes container.now (D.holds disk.old) indexes.now → AreCandidates (D.holds disk.old) (encodings_of entry.now) container.now (in_list deletes.now) k (need_in wants.now) v) }
+    ensures long { IfOk result (λ v. length v ≡ min 1024 (container.now.rows - 1024 * k)) }
     ensures blamed { IfErr result (λ fault. HasIndexes container.now (D.holds disk.old) indexes.now → BlamesContainer (encodings_of entry.now) container.now (D.holds disk.old) fault) }
     ensures kept { D.holds disk.new ≡ D.holds disk.old }
     ensures moved { Moved ⟦<D as Disk>⟧ NoName NoName disk.old disk.new }
     ensures cause { HasCause StoreFault.Disk (D.faults disk.old) (D.faults disk.new) result }
 {
-    let columns = entry.columns.as_slice().len();
-    let stamps = match epochs(alloc, disk, container, &indexes[columns], entry, k) {
-        Ok(stamps) => stamps,
-        Err(fault) => return Err(fault),
-    };
-    let mut live = match undeleted(alloc, stamps.len(), deletes, 1024 * k) {
-        Ok(live) => live,
+    let count = entry.columns.as_slice().len();
+    let mut alive = match undeleted(alloc, rows_of(container.rows, k), deletes, 1024 * k) {
+        Ok(alive) => alive,
         Err(AllocError) => return Err(StoreFault::Memory),
     };
-    let alive = live.as_mut_slice();
-    match narrow_singles(alloc, disk, entry, container, indexes, k, wants, alive) {
+    let mut columns = match none_read(alloc, count) {
+        Ok(columns) => columns,
+        Err(AllocError) => return Err(StoreFault::Memory),
+    };
+    match look_through(
+        alloc,
+        disk,
+        entry,
+        container,
+        indexes,
+        k,
+        wants,
+        alive.as_mut_slice(),
+        columns.as_mut_slice(),
+    ) {
         Ok(()) => {}
         Err(fault) => return Err(fault),
     }
-    let values = match columns_alive(alloc, disk, entry, container, indexes, k, wants, alive) {
-        Ok(values) => values,
-        Err(fault) => return Err(fault),
-    };
-    match rows_alive(alloc, alive, stamps.as_slice(), values.as_slice()) {
-        Ok(some) => Ok(some),
-        Err(AllocError) => Err(StoreFault::Memory),
+    match stamps(
+        alloc,
+        disk,
+        entry,
+        container,
+        &indexes[count],
+        k,
+        alive.as_slice(),
+    ) {
+        Ok(stamps) => Ok(Candidates {
+            alive,
+            stamps,
+            columns,
+        }),
+        Err(fault) => Err(fault),
     }
 }

@@ -6,8 +6,8 @@
 //! `prepare_rows` or `make_room` makes room, and may fail; `apply_rows` takes no memory. For its deletes `prepare_marks` finds the places
 //! (`IsPrepared` of `specs/Marking.antt`) and makes room, and `apply_marks` takes no memory; `wanted_rows_are_deleted` says that
 //! marks at these places delete exactly what was wanted. A container of whose epochs no row is wanted isn't read for it, nor a block of
-//! which an index says so. Of the other blocks those rows are made that may be wanted by each of their values (`AreCandidates` of
-//! `specs/Candidates.antt`), and these alone are looked up, until nothing is wanted any more.
+//! which an index says so. Of the other blocks those rows are looked up that may be wanted by each of their values (`AreCandidates` of
+//! `specs/Candidates.antt`), until nothing is wanted any more; one that is the next in the order of what is wanted isn't even made.
 #![tactic(auto)]
 
 mod alive;
@@ -21,6 +21,7 @@ mod loading;
 mod marking;
 mod passing;
 mod picks;
+mod rows;
 mod saved;
 mod store;
 

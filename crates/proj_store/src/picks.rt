@@ -1,6 +1,6 @@
 //! Places of wanted rows in a projection's containers.
 
-ghost use Rattle.std.specs.Prelude.{◌≡◌, ◌≤◌, ◌<◌, ◌+◌, [], Some, List, length, map, IfOk, IfErr, OnOk};
+ghost use Rattle.std.specs.Prelude.{◌≡◌, ◌≤◌, ◌<◌, ◌+◌, ◌^◌, ℕ, [], None, Some, List, length, map, get_or, IfOk, IfErr, IfSome, IsTrue, OnOk};
 ghost use Rattle.std.specs.List.{All, AllZip};
 ghost use Rattle.common_laws.specs.Causes.{HasCause};
 ghost use Rattle.common_laws.specs.Maps.{Contents};
@@ -10,8 +10,8 @@ ghost use Rattle.ros_container.specs.Encodings.{encodings_of};
 ghost use Rattle.pos_index.specs.Index.{blocks};
 ghost use Rattle.ros_container.specs.Held.{HoldsContainer, BlamesContainer};
 ghost use Rattle.container_blocks.specs.Blocks.{IsIndexOf};
-ghost use Rattle.wanted_rows.specs.Wanted.{need_in};
-ghost use Rattle.wanted_rows.specs.Picked.{Picks};
+ghost use Rattle.wanted_rows.specs.Wanted.{asked_in, need_in, IsNext};
+ghost use Rattle.wanted_rows.specs.Picked.{Picks, PicksFrom, TriesSome};
 ghost use Rattle.proj_store.specs.Blocks.{HasIndexes, PicksOn, in_list};
 ghost use Rattle.proj_store.specs.Loaded.{beside_of};
 ghost use Rattle.proj_store.specs.Sound.{IsKept, IsSound, HasFileNumbers};
@@ -19,16 +19,66 @@ ghost use Rattle.proj_store.specs.Reading.{BlamesRows};
 ghost use Rattle.proj_store.specs.Marking.{PicksIn, PicksEach, ArePlaces};
 
 use crate::blocks::indexes_of;
-use crate::candidates::candidates;
+use crate::candidates::find_candidates;
 use crate::deletes::kept_deletes;
 use crate::kept::Kept;
 use crate::passing::misses_block;
+use crate::rows::Candidates;
 use catalog_types::{Container, Projection};
 use col_disk::{Disk, StoreFault};
 use col_value::List;
 use pos_index::{PosIndex, blocks_of};
 use std::alloc::{AllocError, Global};
-use wanted_rows::{Wants, pick_from};
+use wanted_rows::Wants;
+
+/// Whether the row at a place may be wanted and is the one that is expected next.
+fn is_next(some: &Candidates, i: usize, wants: &Wants) -> bool
+    ensures { IsTrue result → IfSome (get_or some.now i None) (λ row. IsNext wants.now (asked_in row)) }
+{
+    match wants.next() {
+        Some(asked) => some.is(i, asked),
+        None => false,
+    }
+}
+
+/// Takes the row at a place, where it is wanted; answers whether it did. It isn't made where it is the one that is expected next.
+fn try_at(alloc: Global, some: &Candidates, i: usize, wants: &mut Wants) -> Result<bool, AllocError>
+    ensures { IfOk result (λ taken. TriesSome taken (get_or some.now i None) (need_in wants.old) (need_in wants.new)) }
+{
+    if !some.has(i) || wants.is_done() {
+        return Ok(false);
+    }
+    if is_next(some, i, wants) {
+        wants.take_next();
+        return Ok(true);
+    }
+    match some.row(alloc, i)? {
+        Some(row) => wants.take(alloc, &row),
+        None => Ok(false),
+    }
+}
+
+/// Picks places of candidates that stand from a place on, each once for each time that it is wanted, until no other of them is wanted.
+/// The places come behind those that are there.
+fn pick_from(
+    alloc: Global,
+    some: &Candidates,
+    first: usize,
+    wants: &mut Wants,
+    places: &mut Vec<usize>,
+) -> Result<(), AllocError>
+    requires { first + length some.now < 2 ^ 64 }
+    ensures picked { OnOk result (PicksFrom first some.now places.old.items places.new.items (need_in wants.old) (need_in wants.new)) }
+    ensures inside { OnOk result ((n : ℕ) → first + length some.now ≤ n → All (λ p. p < n) places.old.items → All (λ p. p < n) places.new.items) }
+    ensures fewer { OnOk result ((q : ARow) → need_in wants.new q ≤ need_in wants.old q) }
+{
+    for i in 0..some.len() {
+        if try_at(alloc, some, i, wants)? {
+            places.push(first + i)?;
+        }
+    }
+    Ok(())
+}
 
 /// Places of block k come to those of the blocks before it. It isn't read where nothing is wanted any more, nor where an index says that
 /// none of its rows is.
@@ -62,11 +112,11 @@ fn pick_block<D: Disk>(
     if misses_block(indexes, columns, k, wants) {
         return Ok(());
     }
-    let some = match candidates(alloc, disk, entry, container, indexes, deletes, k, wants) {
+    let some = match find_candidates(alloc, disk, entry, container, indexes, deletes, k, wants) {
         Ok(some) => some,
         Err(fault) => return Err(fault),
     };
-    match pick_from(alloc, some.as_slice(), 1024 * k, wants, places) {
+    match pick_from(alloc, &some, 1024 * k, wants, places) {
         Ok(()) => Ok(()),
         Err(AllocError) => Err(StoreFault::Memory),
     }

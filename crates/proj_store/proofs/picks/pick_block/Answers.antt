@@ -26,12 +26,12 @@ returns-then-misses_block-clause-moved g c = moved_none g.D.Disk c.args.disk.now
 
 pub returns-in-Ok-pick_from-clause-found : goal.returns-in-Ok-pick_from-clause-found
 returns-in-Ok-pick_from-clause-found g c = λ held.
-    picks_on (g.D.Disk.holds c.args.disk.now) (encodings_of c.args.entry.now) c.args.container.now (in_list c.args.deletes.now) c.args.k c.in-Ok.some.items c.as_slice.result.now c.args.places.now.items c.pick_from.new.places.items
-    (need_in c.args.wants.now) (need_in c.pick_from.new.wants) c.as_slice.ensures.value c.in-Ok.ensures.long (c.in-Ok.ensures.found held) c.in-Ok-pick_from.ensures.picked
+    picks_on (g.D.Disk.holds c.args.disk.now) (encodings_of c.args.entry.now) c.args.container.now (in_list c.args.deletes.now) c.args.k c.in-Ok.some c.args.places.now.items c.pick_from.new.places.items
+    (need_in c.args.wants.now) (need_in c.pick_from.new.wants) c.in-Ok.ensures.long (c.in-Ok.ensures.found held) c.in-Ok-pick_from.ensures.picked
 
 pub returns-in-Ok-pick_from-clause-inside : goal.returns-in-Ok-pick_from-clause-inside
 returns-in-Ok-pick_from-clause-inside g c =
-    inside_on c.args.container.now c.args.k c.in-Ok.some.items c.as_slice.result.now c.args.places.now.items c.pick_from.new.places.items c.requires.block c.as_slice.ensures.value c.in-Ok.ensures.long c.in-Ok-pick_from.ensures.inside
+    inside_on c.args.container.now c.args.k c.in-Ok.some c.args.places.now.items c.pick_from.new.places.items c.requires.block c.in-Ok.ensures.long c.in-Ok-pick_from.ensures.inside
 
 pub overflow_mul-k : goal.overflow_mul-k
 overflow_mul-k g c =
@@ -39,6 +39,4 @@ overflow_mul-k g c =
     record { fits = omega (arith, fits) }
 
 pub pick_from-requires : goal.pick_from-requires
-pick_from-requires g c =
-    let few : length c.as_slice.result.now ≡ min 1024 (c.args.container.now.rows - 1024 * c.args.k) = ap length c.as_slice.ensures.value ∙ c.in-Ok.ensures.long in
-    block_fits c.args.container.now c.args.indexes.now _ c.args.k (length c.as_slice.result.now) c.requires.many c.requires.fit c.requires.block (omega (arith, few))
+pick_from-requires g c = block_fits c.args.container.now c.args.indexes.now _ c.args.k (length c.in-Ok.some) c.requires.many c.requires.fit c.requires.block (omega (arith, c.in-Ok.ensures.long))
