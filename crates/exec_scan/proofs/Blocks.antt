@@ -1,16 +1,17 @@
 -- What a block of a container gives.
-use Rattle.std.proofs.Common.{◌≡◌, ℕ, zero, suc, ◌+◌, ◌*◌, ◌≤◌, ◌<◌, ◌++◌, Bool, true, false, cond, List, [], ◌∷◌, length, map, take, drop, get_or, nat_le, sym, ap, ◌∙◌, arith}
+use Rattle.std.proofs.Common.{◌≡◌, ℕ, zero, suc, ◌+◌, ◌*◌, ◌≤◌, ◌<◌, ◌++◌, Bool, true, false, cond, List, [], ◌∷◌, length, map, take, drop, get_or, nat_le, sym, ap, ◌∙◌, arith, subst}
 use Rattle.std.specs.Prelude.{Option, Some, None, ◌==◌}
 use Rattle.std.specs.List.{All}
 use Rattle.std.proofs.lemmas.Bool.Decides.{nat_tests}
 use Rattle.std.proofs.lemmas.List.{append_assoc, map-append, take_more}
-use Rattle.std.proofs.lemmas.List.Elements.{All-drop, All-head, All-tail, All-take}
+use Rattle.std.proofs.lemmas.List.Elements.{All-drop, All-head, All-push, All-tail, All-take}
+use Rattle.col_value.specs.Order.{IsValue}
 use Rattle.col_value.specs.declared.row.Asked.{Asked}
 use Rattle.col_value.specs.declared.value.Value.{Value}
 use Rattle.ros_container.specs.Rows.{column_values, epoch_values, stored_values}
 use Rattle.container_blocks.specs.Blocks.{rows_in}
 use Rattle.query_cover.specs.Seen.{placed, value_at}
-use Rattle.exec_scan.specs.Reading.{AreInserted, column_at}
+use Rattle.exec_scan.specs.Reading.{AreInserted, values_at}
 
 -- ---- a row made value by value
 
@@ -21,6 +22,9 @@ put_more old now next places row i v lt is value was =
     ap (map (value_at row)) (take_more places i None lt) ∙ map-append (value_at row) (take i places) (get_or places i None ∷ []) in
     is ∙ ap (λ (xs : List Value). xs ++ v ∷ []) was ∙ append_assoc old (placed (take i places) row) (v ∷ [])
     ∙ ap (λ (x : Value). old ++ (placed (take i places) row ++ x ∷ [])) value ∙ ap (λ (xs : List Value). old ++ xs) (sym more)
+
+pub push_valid : (now next : List Value) (v : Value) → next ≡ now ++ v ∷ [] → All IsValue now → IsValue v → All IsValue next
+push_valid now next v is all one = subst (λ (xs : List Value). All IsValue xs) (sym is) (All-push IsValue now v all one)
 
 -- ---- the epochs
 
@@ -42,7 +46,7 @@ as_read epoch epochs rows is i = ap (λ (xs : List ℕ). nat_le (get_or xs i 0) 
 
 -- ---- the values of a column
 
-pub column_is : (columns place : ℕ) (rows : List Asked) → place < columns → stored_values columns place rows ≡ column_at (Some place) rows
+pub column_is : (columns place : ℕ) (rows : List Asked) → place < columns → stored_values columns place rows ≡ values_at place rows
 column_is columns place rows lt =
     let other : (place == columns) ≡ false = grind (arith, nat_tests) in
     ap (λ (b : Bool). cond b (epoch_values rows) (column_values place rows)) other

@@ -17,6 +17,16 @@ zip_long R [] (y ∷ ys) all = absurd all
 zip_long R (x ∷ xs) [] all = absurd all
 zip_long R (x ∷ xs) (y ∷ ys) all = ap suc (zip_long R xs ys all.1)
 
+-- what holds of two elements at a place
+pub zip_at : {A B : Type 0} (R : A → B → Type 0) (xs : List A) (ys : List B) (i : ℕ) (d : A) (y : B) → i < length xs → AllZip R xs ys → y ≡ get_or ys i y → R (get_or xs i d) y
+zip_at {A} {B} R xs ys i d y lt all is = subst (R (get_or xs i d)) (sym is) (by xs ys i lt all)
+  where
+    by : (us : List A) (vs : List B) (j : ℕ) → j < length us → AllZip R us vs → R (get_or us j d) (get_or vs j y)
+    by [] vs j lt all = absurd (omega (arith, lt))
+    by (u ∷ us) [] j lt all = absurd all
+    by (u ∷ us) (v ∷ vs) zero lt all = all.0
+    by (u ∷ us) (v ∷ vs) (suc j) lt all = by us vs j (omega (arith, lt)) all.1
+
 -- what holds of an element at a place
 pub some_at : {X : Type 0} (P : X → Type 0) (xs : List X) (i : ℕ) (d : X) → i < length xs → P (get_or xs i d) → IsSomeAnd (slice_get xs i) P
 some_at P [] i d lt is = absurd (omega (arith, lt))

@@ -1,12 +1,12 @@
+pub mod Alive
 pub mod Batched
 pub mod Blocks
-pub mod Cells
+pub mod Filled
 pub mod Gathered
 pub mod Handed
 pub mod Indexed
-pub mod Laid
-pub mod Long
 pub mod Keeping
+pub mod Long
+pub mod Narrowing
 pub mod Passed
-pub mod Shows
 pub mod Stepping

@@ -1,5 +1,5 @@
 -- Rows that are passed over lie out of the bounds.
-use Rattle.std.proofs.Common.{◌≡◌, ℕ, zero, suc, ◌+◌, ◌≤◌, ◌<◌, ◌⊎◌, inl, inr, ltb, ◌++◌, Bool, true, false, List, [], ◌∷◌, length, get_or, refl, sym, ap, ◌∙◌, arith, subst}
+use Rattle.std.proofs.Common.{◌≡◌, ℕ, zero, suc, ◌+◌, ◌≤◌, ◌<◌, ◌⊎◌, inl, inr, ltb, ◌++◌, Bool, true, false, List, [], ◌∷◌, length, map, filter, get_or, refl, sym, ap, ◌∙◌, arith, subst}
 use Rattle.std.specs.Prelude.{Option, Some, None, ◌&&◌, IsSomeAnd, IfSome as WhereSome}
 use Rattle.std.specs.List.{All, AllZip, list_all, slice_get}
 use Rattle.std.specs.Option.{IfSome}
@@ -7,7 +7,7 @@ use Rattle.std.specs.Ordering.{is_le}
 use Rattle.std.proofs.lemmas.Option.{slice_get-get_or}
 use borrow.Author.Tests.{ltb-true}
 use Rattle.std.proofs.lemmas.List.{length-map}
-use Rattle.std.proofs.lemmas.List.Elements.{All-cons, All-head, All-nil, All-tail}
+use Rattle.std.proofs.lemmas.List.Elements.{All-append, All-cons, All-head, All-nil, All-tail}
 use Rattle.common_laws.specs.Bags.{SameBag}
 use Rattle.common_laws.specs.Maps.{Contents}
 use Rattle.common_laws.proofs.BagLaws.{count_append}
@@ -25,6 +25,7 @@ use Rattle.col_value.specs.declared.value.Value.TheVariants as value
 use Rattle.pos_index.specs.Index.{blocks}
 use Rattle.pos_index.specs.declared.index.Entry.{Entry}
 use Rattle.pos_index.specs.declared.index.PosIndex.{PosIndex}
+use Rattle.row_history.specs.History.{is_visible, visible}
 use Rattle.ros_container.specs.Encodings.{encodings_of}
 use Rattle.ros_container.specs.Held.{HoldsContainer}
 use Rattle.ros_container.specs.Rows.{stored_values}
@@ -36,8 +37,8 @@ use Rattle.query_cover.specs.Seen.{placed, value_at}
 use Rattle.exec_scan.specs.Batches.{Shown}
 use Rattle.exec_scan.specs.Opened.{HasOpened, HoldsNeeded, IsNeeded, IsOpening, Opening}
 use Rattle.exec_scan.specs.Passing.{AreOut, IsPassed, Misses, MissesEntry}
-use Rattle.exec_scan.specs.Reading.{column_at, ShowsAll}
-use Rattle.exec_scan.specs.Scanning.{AreOwn, Place, Shows}
+use Rattle.exec_scan.specs.Reading.{values_at}
+use Rattle.exec_scan.specs.Scanning.{AreOwn, Place, Shows, start}
 use Rattle.exec_scan.proofs.Blocks.{column_is}
 
 -- the values of a block lie between the two of its entry
@@ -83,12 +84,12 @@ column_here columns k holds (o ∷ ps) (x ∷ xs) (suc c) at is needed held own 
 
 -- ---- rows whose values in a column lie out of a bound
 
-placed_at : (row : List Value) (ps : List (Option ℕ)) (c : ℕ) → get_or (placed ps row) c value.Null ≡ value_at row (get_or ps c None)
+pub placed_at : (row : List Value) (ps : List (Option ℕ)) (c : ℕ) → get_or (placed ps row) c value.Null ≡ value_at row (get_or ps c None)
 placed_at row [] c = refl
 placed_at row (p ∷ ps) zero = refl
 placed_at row (p ∷ ps) (suc c) = placed_at row ps c
 
-out_of_one : (bounds : List Bound) (i : ℕ) (b : Bound) (row : List Value) → slice_get bounds i ≡ Some b → lies_in b (get_or row b.column value.Null) ≡ false → within bounds row ≡ false
+pub out_of_one : (bounds : List Bound) (i : ℕ) (b : Bound) (row : List Value) → slice_get bounds i ≡ Some b → lies_in b (get_or row b.column value.Null) ≡ false → within bounds row ≡ false
 out_of_one [] i b row at out = absurd (cc)
 out_of_one (x ∷ bounds) zero b row at out =
     let same : x ≡ b = cc in
@@ -105,10 +106,10 @@ out_of_one (x ∷ bounds) (suc i) b row at out = by (lies_in x (get_or row x.col
     by false q is = refl
 
 rows_out : (bounds : List Bound) (i : ℕ) (b : Bound) (e : Entry) (ps : List (Option ℕ)) (place : ℕ) (rows : List Asked) → slice_get bounds i ≡ Some b → get_or ps b.column None ≡ Some place → MissesEntry b e
-    → list_all (is_between e) (column_at (Some place) rows) ≡ true → AreOut bounds ps rows
+    → list_all (is_between e) (values_at place rows) ≡ true → AreOut bounds ps rows
 rows_out bounds i b e ps place [] at here misses all = All-nil (λ (a : Asked). within bounds (placed ps a.row) ≡ false)
 rows_out bounds i b e ps place (a ∷ rows) at here misses all =
-    let two = and_true (is_between e (value_at a.row (Some place))) (list_all (is_between e) (column_at (Some place) rows)) all in
+    let two = and_true (is_between e (value_at a.row (Some place))) (list_all (is_between e) (values_at place rows)) all in
     let value : get_or (placed ps a.row) b.column value.Null ≡ value_at a.row (Some place) = placed_at a.row ps b.column ∙ ap (value_at a.row) here in
     All-cons (λ (x : Asked). within bounds (placed ps x.row) ≡ false) a rows (out_of_one bounds i b (placed ps a.row) at (ap (lies_in b) value ∙ misses (value_at a.row (Some place)) two.0))
     (rows_out bounds i b e ps place rows at here misses two.1)
@@ -183,6 +184,11 @@ none_out bounds ps (a ∷ passed) none out =
 bag_swap : {X : Type 0} (xs ys : List X) → SameBag (xs ++ ys) (ys ++ xs)
 bag_swap xs ys = record { counts = λ p. omega (arith, count_append p xs ys, count_append p ys xs) }
 
+-- the visible ones of some rows, made for the table's columns, and their insert epochs where they are told
+pub record ShowsAll (epoch : ℕ) (places : List (Option ℕ)) (stamps : Bool) (b : Shown) (came : List Stamped) : Type 0 where
+  pub rows : b.rows ≡ map (placed places) (visible epoch came)
+  pub inserted : stamps ≡ true → b.inserted ≡ map (λ a. a.ins) (filter (is_visible epoch) came)
+
 pub shows : (s : Place) (came passed next : List Stamped) (b : Shown) → next ≡ passed ++ came → All (λ a. within s.bounds (placed s.places a.row) ≡ false) passed → ShowsAll s.epoch s.places s.stamps b came → Shows s next b
 shows s came passed next b are out all = record {
   came = came;
@@ -192,4 +198,16 @@ shows s came passed next b are out all = record {
   rows = all.rows;
   inserted = all.inserted;
   whole = λ none. sym (are ∙ ap (λ (xs : List Stamped). xs ++ came) (none_out s.bounds s.places passed none out));
+}
+
+-- rows that are passed over, before others
+pub shows_later : (s : Place) (passed next : List Stamped) (b : Shown) → All (λ a. within s.bounds (placed s.places a.row) ≡ false) passed → Shows (start s.epoch s.places s.bounds s.stamps) next b → Shows s (passed ++ next) b
+shows_later s passed next b out later = record {
+  came = later.came;
+  passed = passed ++ later.passed;
+  parts = record { counts = λ p. omega (arith, count_append p passed next, later.parts.counts p, count_append p later.came later.passed, count_append p later.came (passed ++ later.passed), count_append p passed later.passed) };
+  out = All-append (λ (a : Stamped). within s.bounds (placed s.places a.row) ≡ false) passed later.passed out later.out;
+  rows = later.rows;
+  inserted = later.inserted;
+  whole = λ none. later.whole none ∙ sym (ap (λ (xs : List Stamped). xs ++ next) (none_out s.bounds s.places passed none out));
 }

@@ -31,11 +31,11 @@ use Rattle.query_cover.specs.Seen.{placed}
 use Rattle.exec_scan.specs.Batches.{Shown}
 use Rattle.exec_scan.specs.Opened.{HasOpened, IsOpening, Opening}
 use Rattle.exec_scan.specs.Passing.{AreOut, IsPassed}
-use Rattle.exec_scan.specs.Reading.{OfBlock, ShowsAll, ShowsRows}
+use Rattle.exec_scan.specs.Reading.{OfBlock, ShowsRows}
 use Rattle.exec_scan.specs.Scanning.{AreLeft, AreOwn, BlamesContainerAt, Gives, HasOpenedAt, IsScanOf, IsUnblamed, Place, rows_passed, steps_left}
 use Rattle.exec_scan.proofs.Handed.{at_some, blank, some_at}
 use Rattle.proj_store.proofs.BlockRows.{container_long}
-use Rattle.exec_scan.proofs.Passed.{Between, own_encodings, passed_out, shows}
+use Rattle.exec_scan.proofs.Passed.{Between, own_encodings, passed_out, shows, shows_later, ShowsAll}
 
 abbrev pub at_place : ℕ → List (Option ℕ) → List Bound → Bool → ℕ → ℕ → Option Opening → ℕ → Place
 at_place e ps w st i b o t = record { epoch = e; places = ps; bounds = w; stamps = st; container = i; block = b; opened = o; taken = t }
@@ -277,7 +277,7 @@ done_gives between m holds p e ps w st i b c o none opened t shown shape ks left
 pub block_gives : Between → (m : Contents) (holds : Option Contents) (p : Projected) (e : ℕ) (ps : List (Option ℕ)) (w : List Bound) (st : Bool) (i b c : ℕ) (o : Option Opening) (opened : Opening) (t : ℕ) (shown : Shown) (shape : Projection) (ks : List Container)
     (left : List Stamped) → holds ≡ Some m → shape ≡ p.entry → ks ≡ shape.containers → i < length p.entry.containers → b ≤ c → c < blocks (get_or ks i blank).rows
     → AreOwn p.entry ps → HasOpenedAt p i ps holds opened → IsSomeAnd (slice_get p.entry.containers i) (λ k. IsOpening k.rows ps opened) → ((j : ℕ) → b ≤ j → j < c → IsPassed w opened.indexes j)
-    → ((bes : Beside) → HasOpened (get_or ks i blank) (length shape.columns) bes ps holds opened → OfBlock (ShowsRows e ps st (mark_in bes) (1024 * c) shown) holds (encodings_of shape) (get_or ks i blank) c)
+    → ((bes : Beside) → HasOpened (get_or ks i blank) (length shape.columns) bes ps holds opened → OfBlock (ShowsRows e ps w st (mark_in bes) (1024 * c) shown) holds (encodings_of shape) (get_or ks i blank) c)
     → AreLeft m p (at_place e ps w st i b o t) left → Gives m p (at_place e ps w st i b o t) (at_place e ps w st i (c + 1) (Some opened) t) left (Some shown)
 block_gives between m holds p e ps w st i b c o opened t shown shape ks left told same are_ks lt from below owned has opening misses found are =
     let s = stores_at m (encodings_of p.entry) p.entry.containers p.beside i are.saved lt are.stored in
@@ -312,7 +312,7 @@ block_gives between m holds p e ps w st i b c o opened t shown shape ks left tol
       next,
       rest,
       split,
-      shows (at_place e ps w st i b o t) came skip.passed next shown refl skip.out (found s.kept shape_own m told s.asked shape_held),
+      shows_later (at_place e ps w st i b o t) skip.passed came shown skip.out (found s.kept shape_own m told s.asked shape_held),
       record {
         saved = are.saved;
         stored = are.stored;

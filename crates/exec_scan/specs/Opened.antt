@@ -30,8 +30,12 @@ HoldsNeeded k holds None index = Unit {0}
 HoldsNeeded k holds (Some place) None = ⊥
 HoldsNeeded k holds (Some place) (Some at) = HasIndex k place at holds
 
+-- so it is of each column
+abbrev pub HoldsAll : Container → Option Contents → List (Option ℕ) → List (Option PosIndex) → Type 0
+HoldsAll k holds places indexes = AllZip (HoldsNeeded k holds) places indexes
+
 -- these are what the files of the container hold, and each row has its delete epoch
 pub record HasOpened (k : Container) (columns : ℕ) (b : Beside) (places : List (Option ℕ)) (holds : Option Contents) (o : Opening) : Type 0 where
-  pub held : AllZip (HoldsNeeded k holds) places o.indexes
+  pub held : HoldsAll k holds places o.indexes
   pub epochs_held : HasIndex k columns o.epochs holds
   pub deleted : (i : ℕ) → i < k.rows → slice_index_or o.deletes i None ≡ mark_in b i

@@ -11,11 +11,13 @@
 #![tactic(auto)]
 
 mod batch;
+mod chosen;
 mod columns;
 mod opened;
 mod passing;
 mod reading;
 mod retained;
+mod ruling;
 mod scan;
 mod shown;
 mod whole;

@@ -262,6 +262,7 @@ impl Scan {
             shape,
             &opened,
             self.places.as_slice(),
+            self.bounds.as_slice(),
             block,
             self.epoch,
             self.stamps,

@@ -1,8 +1,9 @@
 //! Which rows of a block are shown at an epoch.
 
-ghost use Rattle.std.specs.Prelude.{◌≡◌, ◌<◌, ◌+◌, ◌*◌, ◌^◌, ◌++◌, ◌∷◌, [], map, false, if◌then◌else◌, IfOk, OnOk, nat_le, slice_index_or, None};
+ghost use Rattle.std.specs.Prelude.{◌≡◌, ◌<◌, ◌+◌, ◌^◌, ◌++◌, ◌∷◌, ◌↔◌, [], map, false, true, if◌then◌else◌, IfOk, OnOk, IsTrue, nat_le, slice_index_or, None};
+ghost use Rattle.std.specs.List.{Any, range_with_len};
 ghost use Rattle.std.specs.Option.{option_map_or};
-ghost use Rattle.exec_scan.specs.Batches.{epochs_at, is_shown, shown_places};
+ghost use Rattle.exec_scan.specs.Batches.{is_shown};
 
 use std::alloc::{AllocError, Global};
 
@@ -34,48 +35,30 @@ fn is_shown(epoch: u64, inserted: &[u64], deletes: &[Option<u64>], first: usize,
     is_early(epoch, inserted, i) && !is_gone(epoch, deletes, first + i)
 }
 
-/// Appends where a row begins, if it is shown.
-fn put_start(starts: &mut Vec<usize>, shown: bool, at: usize) -> Result<(), AllocError>
-    ensures { OnOk result (starts.new.items ≡ starts.old.items ++ (if shown then at ∷ [] else [])) }
-{
-    if shown {
-        starts.push(at)?;
-        return Ok(());
-    }
-    Ok(())
-}
-
-/// Where the rows of a block begin that are shown, in values of which each row has so many. The first row of the block stands at place
-/// `first` of the container.
-pub fn shown_starts(
+/// Which of the first rows of a block are shown, of which the first one stands at place `first` of the container.
+pub fn shown_rows(
     alloc: Global,
     epoch: u64,
     inserted: &[u64],
     deletes: &[Option<u64>],
     first: usize,
     count: usize,
-    width: usize,
-) -> Result<Vec<usize>, AllocError>
-    requires places { first + count < 2 ^ 64 }
-    requires values { count * width < 2 ^ 64 }
-    ensures { IfOk result (λ v. v.items ≡ map (λ i. i * width) (shown_places epoch inserted.now deletes.now first count)) }
+) -> Result<Vec<bool>, AllocError>
+    requires { first + count < 2 ^ 64 }
+    ensures { IfOk result (λ v. v.items ≡ map (is_shown epoch inserted.now deletes.now first) (range_with_len 0 count)) }
 {
-    let mut starts = Vec::new(alloc);
+    let mut shown = Vec::with_capacity(alloc, count)?;
     for i in 0..count {
-        let shown = is_shown(epoch, inserted, deletes, first, i);
-        put_start(&mut starts, shown, i * width)?;
+        shown.push(is_shown(epoch, inserted, deletes, first, i))?;
     }
-    Ok(starts)
+    Ok(shown)
 }
 
-/// The epoch at a place, 0 where there is none.
-fn epoch_at(inserted: &[u64], i: usize) -> u64
-    ensures { result ≡ slice_index_or inserted.now i 0 }
+/// Whether some row is alive.
+pub fn has_any(alive: &[bool]) -> bool
+    ensures { IsTrue result ↔ Any (λ a. a ≡ true) alive.now }
 {
-    match inserted.get(i) {
-        Some(ins) => *ins,
-        None => 0,
-    }
+    alive.iter().any(|a| *a)
 }
 
 /// Appends an epoch, if its row is shown.
@@ -87,24 +70,4 @@ pub fn put_epoch(epochs: &mut Vec<u64>, shown: bool, epoch: u64) -> Result<(), A
         return Ok(());
     }
     Ok(())
-}
-
-/// The epochs of the rows of a block that are shown.
-pub fn shown_epochs(
-    alloc: Global,
-    epoch: u64,
-    inserted: &[u64],
-    deletes: &[Option<u64>],
-    first: usize,
-    count: usize,
-) -> Result<Vec<u64>, AllocError>
-    requires places { first + count < 2 ^ 64 }
-    ensures { IfOk result (λ v. v.items ≡ epochs_at inserted.now (shown_places epoch inserted.now deletes.now first count)) }
-{
-    let mut epochs = Vec::new(alloc);
-    for i in 0..count {
-        let shown = is_shown(epoch, inserted, deletes, first, i);
-        put_epoch(&mut epochs, shown, epoch_at(inserted, i))?;
-    }
-    Ok(epochs)
 }

@@ -1,5 +1,4 @@
-use Rattle.exec_scan.proofs.Blocks.{put_more}
-use Rattle.exec_scan.proofs.Cells.{push_valid}
+use Rattle.exec_scan.proofs.Blocks.{push_valid, put_more}
 use Rattle.exec_scan.proofs.batch.put_row.Goals as goal
 
 pub loop-place-preserved : goal.loop-place-preserved

@@ -6,8 +6,8 @@ use Rattle.catalog_types.specs.declared.catalogue.Projection.{Projection}
 use Rattle.row_history.specs.History.{visible}
 use Rattle.write_store.specs.Memory.{stamp}
 use Rattle.query_cover.specs.Seen.{placed}
-use Rattle.exec_scan.specs.Reading.{ShowsAll}
 use Rattle.exec_scan.specs.Scanning.{AreLeft, Gives, Place}
+use Rattle.exec_scan.proofs.Passed.{ShowsAll}
 use Rattle.exec_scan.proofs.Stepping.{at_place, memory_gives}
 use Rattle.exec_scan.proofs.scan.Scan.next.Goals as goal
 

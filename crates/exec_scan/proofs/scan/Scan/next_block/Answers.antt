@@ -97,8 +97,9 @@ returns-clause-gives g c = λ m told left are.
     let entry = get_or c.as_slice-2.result.now s.container blank in
     let shape = c.entry-shape.result.now in
     let shown = c.in-Ok-read_block.batch in
-    let found = subst (λ (ps : List (Option ℕ)). (bes : Beside) → HasOpened entry (length shape.columns) bes ps (g.D.Disk.holds c.args.disk.now) c.in-Ok.opened → OfBlock (ShowsRows s.epoch ps s.stamps (mark_in bes) (1024 * block) shown) (g.D.Disk.holds c.args.disk.now) (encodings_of shape) entry block) c.as_slice-4.ensures.value
-    (subst (λ (h : Option Contents). (bes : Beside) → HasOpened entry (length shape.columns) bes c.as_slice-4.result.now h c.in-Ok.opened → OfBlock (ShowsRows s.epoch c.as_slice-4.result.now s.stamps (mark_in bes) (1024 * block) shown) h (encodings_of shape) entry block) c.at_hand.ensures.kept c.in-Ok-read_block.ensures.found) in
+    let found = subst (λ (w : List Bound). (bes : Beside) → HasOpened entry (length shape.columns) bes s.places.items (g.D.Disk.holds c.args.disk.now) c.in-Ok.opened → OfBlock (ShowsRows s.epoch s.places.items w s.stamps (mark_in bes) (1024 * block) shown) (g.D.Disk.holds c.args.disk.now) (encodings_of shape) entry block) c.as_slice-5.ensures.value
+    (subst (λ (ps : List (Option ℕ)). (bes : Beside) → HasOpened entry (length shape.columns) bes ps (g.D.Disk.holds c.args.disk.now) c.in-Ok.opened → OfBlock (ShowsRows s.epoch ps c.as_slice-5.result.now s.stamps (mark_in bes) (1024 * block) shown) (g.D.Disk.holds c.args.disk.now) (encodings_of shape) entry block) c.as_slice-4.ensures.value
+    (subst (λ (h : Option Contents). (bes : Beside) → HasOpened entry (length shape.columns) bes c.as_slice-4.result.now h c.in-Ok.opened → OfBlock (ShowsRows s.epoch c.as_slice-4.result.now c.as_slice-5.result.now s.stamps (mark_in bes) (1024 * block) shown) h (encodings_of shape) entry block) c.at_hand.ensures.kept c.in-Ok-read_block.ensures.found)) in
     subst (λ (x : Place). Gives m p x (at_place s.epoch s.places.items s.bounds.items s.stamps s.container (block + 1) (Some c.in-Ok.opened) s.taken) left (Some shown)) c.self.view_is
     (block_gives c.values_lie_between.ensures m (g.D.Disk.holds c.args.disk.now) p s.epoch s.places.items s.bounds.items s.stamps s.container s.block block s.opened c.in-Ok.opened s.taken shown shape c.as_slice-2.result.now left told
     c.entry-shape.ensures.entry c.as_slice-2.ensures there from below scan.own has opening misses found was)

@@ -1,0 +1,28 @@
+use Rattle.std.proofs.Common.{◌<◌, length, get_or, subst, sym}
+use Rattle.std.specs.Prelude.{None}
+use Rattle.col_disk.proofs.Moving.{moved_none}
+use Rattle.container_blocks.specs.Blocks.{rows_in}
+use Rattle.exec_scan.specs.Opened.{HoldsNeeded, IsNeeded}
+use Rattle.exec_scan.proofs.Filled.{fills_one}
+use Rattle.exec_scan.proofs.Handed.{zip_at, zip_long}
+use Rattle.exec_scan.proofs.columns.fill_column.Goals as goal
+
+pub returns-then-is_some-clause-moved : goal.returns-then-is_some-clause-moved
+returns-then-is_some-clause-moved g c = moved_none g.D.Disk c.args.disk.now
+
+pub bounds-indexes-column : goal.bounds-indexes-column
+bounds-indexes-column g c = subst (λ n. c.args.column < n) (zip_long (IsNeeded c.args.entry.now.rows) c.args.places.now c.args.indexes.now c.requires.needed) c.requires.column
+
+pub read_column-requires-clause-needed : goal.read_column-requires-clause-needed
+read_column-requires-clause-needed g c =
+    zip_at (IsNeeded c.args.entry.now.rows) c.args.places.now c.args.indexes.now c.args.column None c.index-indexes-column.result c.requires.column c.requires.needed c.index-indexes-column.is
+
+pub returns-in-Ok-clause-fills : goal.returns-in-Ok-clause-fills
+returns-in-Ok-clause-fills g c = λ held m told rows holding.
+    let here = zip_at (HoldsNeeded c.args.entry.now (g.D.Disk.holds c.args.disk.now)) c.args.places.now c.args.indexes.now c.args.column None c.index-indexes-column.result c.requires.column held c.index-indexes-column.is in
+    fills_one c.args.column c.args.places.now c.args.columns.now c.in-Ok.values (rows_in c.args.k rows) (subst (λ n. c.args.column < n) (sym c.requires.width) c.requires.column)
+    (c.in-Ok.ensures.found here m told rows holding)
+
+pub returns-in-Err-clause-blamed : goal.returns-in-Err-clause-blamed
+returns-in-Err-clause-blamed g c = λ held.
+    c.in-Err.ensures.blamed (zip_at (HoldsNeeded c.args.entry.now (g.D.Disk.holds c.args.disk.now)) c.args.places.now c.args.indexes.now c.args.column None c.index-indexes-column.result c.requires.column held c.index-indexes-column.is)

@@ -1,0 +1,87 @@
+//! Rows of a block that a bound rules out.
+
+ghost use Rattle.std.specs.Prelude.{◌≡◌, length, false, true, IsTrue, Some};
+ghost use Rattle.std.specs.Option.{IfSome, option_map_or};
+ghost use Rattle.std.specs.Ordering.{is_le};
+ghost use Rattle.col_value.specs.Order.{value_cmp};
+ghost use Rattle.col_value.specs.declared.value.Value.TheVariants.{Int};
+ghost use Rattle.row_bounds.specs.Bounds.{lies_in};
+ghost use Rattle.exec_scan.specs.Reading.{RulesOut, Stays};
+
+use block_codec::Block;
+use col_value::Value;
+use pos_index::PosIndex;
+use row_bounds::Bound;
+
+/// Whether a number is less than a least value.
+fn is_below(n: i64, least: &Option<Value>) -> bool
+    ensures { IsTrue result → option_map_or (λ least. is_le (value_cmp least (Int n))) least.now true ≡ false }
+{
+    match least {
+        Some(Value::Int(least)) => n < *least,
+        Some(Value::Text(_)) => true,
+        Some(Value::Null) | Some(Value::Bool(_)) | None => false,
+    }
+}
+
+/// Whether a number is greater than a greatest value.
+fn is_above(n: i64, greatest: &Option<Value>) -> bool
+    ensures { IsTrue result → option_map_or (λ greatest. is_le (value_cmp (Int n) greatest)) greatest.now true ≡ false }
+{
+    match greatest {
+        Some(Value::Int(greatest)) => *greatest < n,
+        Some(Value::Null) | Some(Value::Bool(_)) => true,
+        Some(Value::Text(_)) | None => false,
+    }
+}
+
+/// Whether a value lies out of a bound. Numbers are compared at once.
+fn lies_out(bound: &Bound, value: &Value) -> bool
+    ensures { IsTrue result → lies_in bound.now value.now ≡ false }
+{
+    match value {
+        Value::Int(n) => is_below(*n, &bound.least) || is_above(*n, &bound.greatest),
+        Value::Null | Value::Bool(_) | Value::Text(_) => bound.misses(value, value),
+    }
+}
+
+/// Whether all values of block k lie in a bound, as the index of their column says. A hint, which decides no answer.
+pub fn covers(bound: &Bound, index: &Option<PosIndex>, k: usize) -> bool {
+    match index {
+        Some(at) => match at.entries.as_slice().get(k) {
+            Some(entry) => !lies_out(bound, &entry.least) && !lies_out(bound, &entry.greatest),
+            None => false,
+        },
+        None => false,
+    }
+}
+
+/// Whether a row is alive still, by its value in the column of a bound.
+fn stays(alive: bool, bound: &Bound, value: &Value) -> bool
+    ensures { Stays bound.now value.now alive result }
+{
+    alive && !lies_out(bound, value)
+}
+
+/// Rows whose value lies out of a bound are alive no more.
+fn rule_out_values(alive: &mut [bool], bound: &Bound, values: &Block)
+    requires { length values.now ≡ length alive.old }
+    ensures long { length alive.new ≡ length alive.old }
+    ensures rules { RulesOut bound.now (Some values.now) alive.old alive.new }
+{
+    for i in 0..alive.len() {
+        alive[i] = stays(alive[i], bound, values.value(i));
+    }
+}
+
+/// The same by a column that may not have been read.
+pub fn rule_out(alive: &mut [bool], bound: &Bound, column: &Option<Block>)
+    requires { IfSome column.now (λ vs. length vs ≡ length alive.old) }
+    ensures long { length alive.new ≡ length alive.old }
+    ensures rules { RulesOut bound.now column.now alive.old alive.new }
+{
+    match column {
+        Some(values) => rule_out_values(alive, bound, values),
+        None => {},
+    }
+}
