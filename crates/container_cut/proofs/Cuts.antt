@@ -28,9 +28,9 @@ use Rattle.stored_rows.specs.Held.{HoldsVectorAt, HoldsVector, HoldsRows, stampe
 use Rattle.stored_rows.proofs.OneList.{OneContainer, one_marks, one_held}
 use Rattle.stored_rows.specs.Listed.{vector_file}
 use Rattle.container_writer.specs.Writing.{listed, HoldsBag, vector_number, with_vector, DataFrom, AreNumbered}
-use Rattle.early_rows.proofs.Cuts.{cut_same}
-use Rattle.early_rows.specs.Early.{EndsBy}
-use Rattle.early_rows.proofs.Held.{held_up}
+use Rattle.stored_rows.proofs.EarlyCuts.{cut_same}
+use Rattle.stored_rows.specs.Early.{EndsBy}
+use Rattle.stored_rows.proofs.EarlyHeld.{held_up}
 use Rattle.container_cut.specs.Listed.{IsBelow}
 use Rattle.container_cut.specs.Cutting.{CutsContainers, Between}
 use Rattle.container_cut.proofs.Stamps.{cut_stamps, epoch_is_delete}

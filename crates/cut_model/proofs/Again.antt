@@ -4,7 +4,7 @@ use Rattle.common_laws.specs.Bags.{SameBag}
 use Rattle.col_value.specs.declared.row.Stamped.{Stamped}
 use Rattle.row_history.specs.History.{retained, cut_rows}
 use Rattle.row_history.proofs.Histories.{retained_cut, bag_cut}
-use Rattle.early_rows.proofs.Cuts.{cut_twice}
+use Rattle.stored_rows.proofs.EarlyCuts.{cut_twice}
 
 -- rows that are, from the mark on, those of a cut, stay so where they are cut again
 pub bag_again : (mark epoch : ℕ) (new held : List Stamped) → mark ≤ epoch → SameBag (retained mark new) (retained mark (cut_rows epoch held)) → SameBag (retained mark (cut_rows epoch new)) (retained mark (cut_rows epoch held))

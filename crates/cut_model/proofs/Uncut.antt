@@ -22,8 +22,8 @@ use Rattle.db_model.specs.Database.{Shape}
 use Rattle.folder_model.specs.Projections.{shape_of}
 use Rattle.folder_model.proofs.LastGoods.{good_below}
 use Rattle.cut_model.specs.Cut.{CutsRows, IsCutEntry, IsCutTable, IsCutRoot}
-use Rattle.early_rows.specs.Early.{EndsBy}
-use Rattle.early_rows.proofs.Held.{entry_same}
+use Rattle.stored_rows.specs.Early.{EndsBy}
+use Rattle.stored_rows.proofs.EarlyHeld.{entry_same}
 use Rattle.cut_model.proofs.Least.{least_closed}
 
 -- the files of an entry whose containers end by an epoch hold rows that a cut there leaves

@@ -32,7 +32,8 @@ use Rattle.exec_scan.specs.Batches.{Shown}
 use Rattle.exec_scan.specs.Opened.{HasOpened, IsOpening, Opening}
 use Rattle.exec_scan.specs.Passing.{AreOut, IsPassed}
 use Rattle.exec_scan.specs.Reading.{OfBlock, ShowsRows}
-use Rattle.exec_scan.specs.Scanning.{AreLeft, AreOwn, BlamesContainerAt, Gives, HasOpenedAt, IsScanOf, IsUnblamed, Place, rows_passed, steps_left}
+use Rattle.col_disk.specs.Faults.{IsUnblamed}
+use Rattle.exec_scan.specs.Scanning.{AreLeft, AreOwn, BlamesContainerAt, Gives, HasOpenedAt, IsScanOf, Place, rows_passed, steps_left}
 use Rattle.exec_scan.proofs.Handed.{at_some, blank, some_at}
 use Rattle.proj_store.proofs.BlockRows.{container_long}
 use Rattle.exec_scan.proofs.Passed.{Between, own_encodings, passed_out, shows, shows_later, ShowsAll}

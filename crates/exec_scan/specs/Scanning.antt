@@ -5,7 +5,6 @@ use Rattle.std.specs.Option.{IfSome, IsSomeAnd, option_map_or}
 use Rattle.common_laws.specs.Bags.{SameBag}
 use Rattle.common_laws.specs.Maps.{Contents}
 use Rattle.col_disk.specs.declared.disk.StoreFault.{StoreFault}
-use Rattle.col_disk.specs.declared.disk.StoreFault.TheVariants.{Disk, Damaged, Memory}
 use Rattle.catalog_types.specs.declared.catalogue.Projection.{Projection}
 use Rattle.col_value.specs.declared.row.Stamped.{Stamped}
 use Rattle.pos_index.specs.Index.{blocks}
@@ -93,9 +92,3 @@ pub record AsksSame (old new : Place) : Type 0 where
   pub places : new.places ≡ old.places
   pub bounds : new.bounds ≡ old.bounds
   pub stamps : new.stamps ≡ old.stamps
-
--- no file is to blame
-abbrev pub IsUnblamed : StoreFault → Type 0
-IsUnblamed (Damaged q) = ⊥
-IsUnblamed Disk = Unit {0}
-IsUnblamed Memory = Unit {0}

@@ -13,7 +13,8 @@ ghost use Rattle.col_value.specs.Order.{IsRow};
 ghost use Rattle.query_cover.specs.Seen.{placed};
 ghost use Rattle.exec_scan.specs.Batches.{IsBatch, rows_at};
 ghost use Rattle.exec_scan.specs.Opened.{IsOpening};
-ghost use Rattle.exec_scan.specs.Scanning.{AreLeft, AreOwn, AsksSame, BlamesContainerAt, Gives, HasOpenedAt, IsScanOf, IsUnblamed, start, steps_left};
+ghost use Rattle.col_disk.specs.Faults.{IsUnblamed};
+ghost use Rattle.exec_scan.specs.Scanning.{AreLeft, AreOwn, AsksSame, BlamesContainerAt, Gives, HasOpenedAt, IsScanOf, start, steps_left};
 
 use crate::batch::{Batch, put_row};
 use crate::opened::{Opened, open};

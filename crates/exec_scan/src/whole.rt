@@ -10,7 +10,8 @@ ghost use Rattle.col_value.specs.declared.row.Stamped.{Stamped};
 ghost use Rattle.row_history.specs.History.{visible};
 ghost use Rattle.stored_rows.specs.Stored.{Stores};
 ghost use Rattle.query_cover.specs.Seen.{placed};
-ghost use Rattle.exec_scan.specs.Scanning.{AreOwn, IsUnblamed};
+ghost use Rattle.col_disk.specs.Faults.{IsUnblamed};
+ghost use Rattle.exec_scan.specs.Scanning.{AreOwn};
 
 use crate::batch::Batch;
 use crate::scan::Scan;

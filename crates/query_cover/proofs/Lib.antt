@@ -3,3 +3,4 @@ pub mod Blanked
 pub mod Same
 pub mod Permuted
 pub mod Placed
+pub mod Less

@@ -22,7 +22,8 @@ use Rattle.stored_rows.specs.Stored.{Projected, Stores}
 use Rattle.folder_model.specs.Projections.{ordinals}
 use Rattle.proj_store.specs.Loaded.{Loaded}
 use Rattle.store_commit.specs.Seen.{Seen}
-use Rattle.exec_scan.specs.Scanning.{AreOwn, IsUnblamed}
+use Rattle.col_disk.specs.Faults.{IsUnblamed}
+use Rattle.exec_scan.specs.Scanning.{AreOwn}
 use Rattle.row_matching.specs.Matching.{AreMatches, CanMatch}
 use Rattle.row_matching.specs.Seeing.{AreFound, AreOthers, IsSource, seen_rows}
 use Rattle.row_matching.proofs.Bags.{OneList, matches_are, source_stores}

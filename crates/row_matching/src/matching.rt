@@ -9,7 +9,7 @@ ghost use Rattle.sql_bound.specs.Bounds.{is_narrow};
 ghost use Rattle.sql_bound.specs.Outputs.{is_kept};
 ghost use Rattle.db_model.specs.Database.{Database};
 ghost use Rattle.db_model.specs.State.{pending_deletes, pending_rows};
-ghost use Rattle.exec_scan.specs.Scanning.{IsUnblamed};
+ghost use Rattle.col_disk.specs.Faults.{IsUnblamed};
 ghost use Rattle.row_matching.specs.Matching.{AreMatches, CanMatch};
 
 use crate::keeping::{kept_rows, other_rows};

@@ -12,7 +12,8 @@ ghost use Rattle.sql_bound.specs.Bounds.{is_narrow};
 ghost use Rattle.sql_bound.specs.Outputs.{is_kept};
 ghost use Rattle.stored_rows.specs.Stored.{Stores};
 ghost use Rattle.wanted_rows.specs.Wanted.{need_in, tally};
-ghost use Rattle.exec_scan.specs.Scanning.{AreOwn, IsUnblamed};
+ghost use Rattle.col_disk.specs.Faults.{IsUnblamed};
+ghost use Rattle.exec_scan.specs.Scanning.{AreOwn};
 ghost use Rattle.row_matching.specs.Seeing.{AreOthers, Keeps, Sifts, SiftsMore, asked, seen_rows, told_rows};
 
 use col_disk::{Disk, StoreFault};

@@ -19,7 +19,7 @@ use Rattle.folder_model.specs.Reopening.{Reopens}
 use Rattle.mover_policy.specs.First.{all_projections, behind_in, first_in}
 use Rattle.mover_policy.proofs.Shapes.{behind_are}
 use Rattle.store_commit.specs.Making.{ReopensToEither, Makes}
-use Rattle.table_store.specs.Faults.{IsUnblamed}
+use Rattle.col_disk.specs.Faults.{IsUnblamed}
 use Rattle.table_store.proofs.Standing.{reads_only}
 use Rattle.store_core.specs.Cuts.{ReopensFrom}
 use Rattle.store_core.specs.Events.{BeforeOrAfter, MovesFirstOf}

@@ -16,3 +16,4 @@ pub mod Shaped
 pub mod Unshaped
 pub mod Planned
 pub mod Loaded
+pub use Rattle.store_opening.proofs.Unblamed

@@ -5,3 +5,8 @@ pub mod Asking
 pub mod Cuts
 pub mod Moving
 pub mod Shaping
+pub use Rattle.row_matching.specs.Matching
+pub use Rattle.store_commit.specs.Seen
+pub use Rattle.store_opening.specs.Opening
+pub use Rattle.store_query.specs.Faults
+pub use Rattle.store_query.specs.declared.fault.SelectFault

@@ -12,7 +12,7 @@ use Rattle.db_model.specs.Epochs.{last_good}
 use Rattle.db_model.specs.Mover.{MovesAll}
 use Rattle.folder_model.specs.Projections.{shape_of}
 use Rattle.table_store.specs.Drawing.{DrawsEntry}
-use Rattle.table_store.specs.Faults.{IsUnblamed}
+use Rattle.col_disk.specs.Faults.{IsUnblamed}
 use Rattle.store_core.specs.Cuts.{ReopensFrom, IsKept}
 use Rattle.store_core.specs.Running.{Running, IsState}
 

@@ -14,4 +14,6 @@ pub use laws::{
     frames_are_of_the_state, pending_rows_stand, planned_projections_have_places, rollbacks_stand,
     sessions_stand,
 };
+pub use row_matching::{Matched, matches_are_the_matched_rows};
 pub use store::Store;
+pub use store_query::SelectFault;

@@ -31,7 +31,7 @@ ghost use Rattle.store_core.specs.Asking.{IsAsked};
 ghost use Rattle.store_core.specs.Events.{Does, MovesFirstOf};
 ghost use Rattle.store_core.specs.Moving.{MovedBehind};
 ghost use Rattle.table_store.specs.Drawing.{DrawsJob};
-ghost use Rattle.table_store.specs.Faults.{IsUnblamed as IsUnblamedStore};
+ghost use Rattle.col_disk.specs.Faults.{IsUnblamed as IsUnblamedStore};
 
 use catalog_types::Table;
 use col_disk::{Disk, DiskFault, StoreFault};

@@ -13,7 +13,7 @@ ghost use Rattle.row_bounds.specs.Bounds.{within};
 ghost use Rattle.db_model.specs.Database.{Database};
 ghost use Rattle.query_laws.specs.Bounded.{IsBoundedQuery};
 ghost use Rattle.query_run.specs.Runs.{IsRunOf};
-ghost use Rattle.exec_scan.specs.Scanning.{IsUnblamed};
+ghost use Rattle.col_disk.specs.Faults.{IsUnblamed};
 ghost use Rattle.store_query.specs.Feeding.{HasRead, TakesItem};
 ghost use Rattle.store_query.specs.Lessening.{cleared, deletes_of, HasChanges};
 ghost use Rattle.store_query.specs.Reading.{epoch_of, pending_of, IsOver, IsRead, IsSeen};

@@ -24,7 +24,7 @@ use Rattle.store_core.specs.Cuts.{ReopensFrom, CutBeforeOrAfter}
 use Rattle.store_core.specs.Events.{BeforeOrAfter, Does}
 use Rattle.store_step.specs.declared.answer.Answer.{Answer}
 use Rattle.store_step.specs.Arms.{IsAnswer, AnsweredTo, Answers, Holds, of_memory, told}
-use Rattle.store_step.specs.Faults.{IsUnblamedStore}
+use Rattle.col_disk.specs.Faults.{IsUnblamed as IsUnblamedStore}
 use Rattle.store_step.specs.Forms.{is_served}
 use Rattle.store_step.specs.Texts.{Refused, Says}
 

@@ -40,20 +40,20 @@ use Rattle.folder_model.specs.Reopening.{Reopens}
 use Rattle.statement_plan.specs.Bare.{bare_table}
 use Rattle.statement_plan.specs.Places.{table_place}
 use Rattle.statement_plan.specs.Planned.{select_refusal, IsBoundIn}
-use Rattle.table_store.specs.Faults as table
-use Rattle.store_commit.specs.Seen.{Stands}
+use Rattle.col_disk.specs.Faults as disk_faults
+use Rattle.store_core.specs.Seen.{Stands}
 use Rattle.store_core.specs.Asking.{IsAsked}
 use Rattle.alike_laws.proofs.Changes.{has_alike}
 use Rattle.store_core.proofs.Sessions.{own_alike}
 use Rattle.store_core.specs.Running.{Running, IsState}
 use Rattle.store_core.specs.Sessions.{own_of}
 use Rattle.store_core.specs.Cuts.{CutBeforeOrAfter}
-use Rattle.store_query.specs.declared.fault.SelectFault.{SelectFault}
-use Rattle.store_query.specs.declared.fault.SelectFault.TheVariants as select
-use Rattle.store_query.specs.Faults.{IsUnblamed}
+use Rattle.store_core.specs.SelectFault.{SelectFault}
+use Rattle.store_core.specs.SelectFault.TheVariants as select
+use Rattle.store_core.specs.Faults.{IsUnblamed}
 use Rattle.store_step.specs.declared.answer.Answer.{Answer}
 use Rattle.store_step.specs.Arms.{IsAnswer, AnsweredTo, Answers, told}
-use Rattle.store_step.specs.Faults.{IsUnblamedStore}
+use Rattle.col_disk.specs.Faults.{IsUnblamed as IsUnblamedStore}
 use Rattle.store_step.specs.Texts.{IsMade, IsMissed, Refused, Says}
 use Rattle.store_step.proofs.Moved.{unblamed_here}
 use Rattle.store_step.proofs.Answered.{from_good, refused_answer, says_answer, Event, ShortBy}
@@ -196,7 +196,7 @@ disk_unblamed (Err disk.Memory) = tt
 pub store_short : ShortBy (λ (f : StoreFault). f) store.Memory
 store_short f is = is
 
-pub store_unblamed : (did : Result (Unit {0}) StoreFault) → IfErr did table.IsUnblamed → IfErr did (λ (f : StoreFault). IsUnblamedStore f)
+pub store_unblamed : (did : Result (Unit {0}) StoreFault) → IfErr did disk_faults.IsUnblamed → IfErr did (λ (f : StoreFault). IsUnblamedStore f)
 store_unblamed (Ok u) is = tt
 store_unblamed (Err f) is = unblamed_here f is
 

@@ -7,3 +7,4 @@ mod Moved
 mod Served
 mod Rows
 mod Copied
+pub use Rattle.store_core.proofs.Unblamed

@@ -19,7 +19,7 @@ use Rattle.db_model.specs.Mover.{first_behind, MovesAll, MovesFirst, MovesOrBegi
 use Rattle.db_model.specs.Numbers.{are_spent}
 use Rattle.db_model.specs.Run.{all_dropped}
 use Rattle.db_laws.proofs.Goods.{good_itself, good_least, good_mover}
-use Rattle.table_store.specs.Faults as table
+use Rattle.col_disk.specs.Faults as disk_faults
 use Rattle.store_core.specs.Running.{Running, IsState}
 use Rattle.store_core.specs.Cuts.{ReopensFrom, CutBeforeOrAfter}
 use Rattle.store_core.specs.Events.{BeforeOrAfter, MovesIf, MovesFirstOf}
@@ -27,13 +27,13 @@ use Rattle.store_core.specs.Moving.{MovesAllOf}
 use Rattle.store_core.proofs.Placed.{first_moved, sound_moved}
 use Rattle.store_step.specs.declared.answer.Answer.{Answer}
 use Rattle.store_step.specs.Arms.{IsAnswer, AnsweredTo, Answers, moved, stopped_or, told}
-use Rattle.store_step.specs.Faults.{IsUnblamedStore}
+use Rattle.col_disk.specs.Faults.{IsUnblamed as IsUnblamedStore}
 use Rattle.store_step.specs.Steps.{EndedAs, Ends, MoverStepped}
 use Rattle.store_step.specs.Texts.{Refused, Says}
 use Rattle.store_step.proofs.Answered.{from_good, good_closed, refused_answer, says_answer, still_leaves, Images}
 
 -- the two definitions of a fault that blames no file
-pub unblamed_here : (f : StoreFault) → table.IsUnblamed f → IsUnblamedStore f
+pub unblamed_here : (f : StoreFault) → disk_faults.IsUnblamed f → IsUnblamedStore f
 unblamed_here store.Disk is = tt
 unblamed_here (store.Damaged q) is = is
 unblamed_here store.Memory is = tt
@@ -98,7 +98,7 @@ spent_stepped disk r now state here images spent = record {
   any_moment = still_leaves disk now state (MoverSteps state) here.sound.database images;
 }
 
-pub first_stepped : {D : Type 0} (disk : Ghosts D) (was is : Running) {old new : D} (r : Result Bool StoreFault) (state : State) → IsState disk was old state → are_spent state ≡ false → OnErr r (is ≡ was) → IfErr r table.IsUnblamed
+pub first_stepped : {D : Type 0} (disk : Ghosts D) (was is : Running) {old new : D} (r : Result Bool StoreFault) (state : State) → IsState disk was old state → are_spent state ≡ false → OnErr r (is ≡ was) → IfErr r disk_faults.IsUnblamed
     → MovesFirstOf disk store.Memory was is old new r state → MoverStepped disk is old new (moved r) state
 first_stepped disk was is {old} {new} (Ok b) state here left same unblamed first =
     let (after, moves, there) = first.done in

@@ -40,8 +40,8 @@ use Rattle.db_model.specs.State.{Changes, State, own_changes, pending_rows}
 use Rattle.db_model.specs.Views.{columns_found, table_found}
 use Rattle.folder_model.specs.Reopening.{Reopens}
 use Rattle.alike_laws.proofs.Changes.{pending_alike}
-use Rattle.exec_scan.specs.Scanning.{IsUnblamed}
-use Rattle.row_matching.specs.Matching.{AreMatches, AreMatchesIn, committed_matches}
+use Rattle.col_disk.specs.Faults.{IsUnblamed}
+use Rattle.store_core.specs.Matching.{AreMatches, AreMatchesIn, committed_matches}
 use Rattle.change_laws.proofs.Known.{places_there}
 use Rattle.statement_plan.specs.declared.plans.Plan.{Plan}
 use Rattle.statement_plan.specs.Planned.{IsPlanned}
@@ -54,7 +54,7 @@ use Rattle.store_core.proofs.Sessions.{own_alike}
 use Rattle.store_step.specs.declared.answer.Answer.{Answer}
 use Rattle.store_step.specs.Arms.{Answers, AnsweredTo, Holds, of_memory}
 use Rattle.store_step.specs.Matches.{DeleteMatches, UpdateMatches}
-use Rattle.store_step.specs.Faults.{IsUnblamedStore}
+use Rattle.col_disk.specs.Faults.{IsUnblamed as IsUnblamedStore}
 use Rattle.store_step.specs.Texts.{Says}
 use Rattle.store_step.proofs.Answered.{from_good, said_holds, short_holds}
 

@@ -21,7 +21,8 @@ use Rattle.store_step.specs.declared.answer.Answer.{Answer}
 use Rattle.store_step.specs.declared.answer.StepFault.{StepFault}
 use Rattle.store_step.specs.declared.answer.StepFault.TheVariants as step
 use Rattle.store_step.specs.Arms.{IsAnswer, AnsweredTo, Answers, of_memory, of_text}
-use Rattle.store_step.specs.Faults.{of_store, IsUnblamed, IsUnblamedStore}
+use Rattle.col_disk.specs.Faults.{IsUnblamed as IsUnblamedStore}
+use Rattle.store_step.specs.Faults.{of_store, IsUnblamed}
 use Rattle.store_step.specs.Forms.{is_served}
 use Rattle.store_step.specs.Steps.{Steps, SteppedTo}
 use Rattle.store_step.specs.Texts.{Refused}

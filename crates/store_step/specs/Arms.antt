@@ -14,7 +14,8 @@ use Rattle.store_core.specs.Cuts.{CutBeforeOrAfter, IsKept}
 use Rattle.store_step.specs.declared.answer.Answer.{Answer}
 use Rattle.store_step.specs.declared.answer.StepFault.{StepFault}
 use Rattle.store_step.specs.Forms.{is_served}
-use Rattle.store_step.specs.Faults.{of_store, IsUnblamedStore}
+use Rattle.col_disk.specs.Faults.{IsUnblamed as IsUnblamedStore}
+use Rattle.store_step.specs.Faults.{of_store}
 
 -- a statement was refused or not, and printed and left this
 pub record IsAnswer (state : State) (files : Files) (s : Statement) (printed : List ℕ) (why : Option Refusal) (new : State) : Type 0 where

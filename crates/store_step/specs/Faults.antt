@@ -15,8 +15,3 @@ IsUnblamed step.Read = Unit {0}
 IsUnblamed step.Disk = Unit {0}
 IsUnblamed (step.Damaged q) = ⊥
 IsUnblamed step.Memory = Unit {0}
-
-abbrev pub IsUnblamedStore : StoreFault → Type 0
-IsUnblamedStore store.Disk = Unit {0}
-IsUnblamedStore (store.Damaged q) = ⊥
-IsUnblamedStore store.Memory = Unit {0}

@@ -5,3 +5,7 @@ pub mod Steps
 pub mod Texts
 pub mod Arms
 pub mod Matches
+pub use Rattle.store_core.specs.Running
+pub use Rattle.store_core.specs.Events
+pub use Rattle.store_core.specs.Cuts
+pub use Rattle.store_core.specs.Opening

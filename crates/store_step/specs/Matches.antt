@@ -9,7 +9,7 @@ use Rattle.db_model.specs.Database.{Table}
 use Rattle.db_model.specs.State.{State, own_changes}
 use Rattle.db_model.specs.Events.{delete_keep, update_keep, update_sets}
 use Rattle.db_model.specs.Views.{table_found}
-use Rattle.row_matching.specs.Matching.{AreMatchesIn}
+use Rattle.store_core.specs.Matching.{AreMatchesIn}
 
 -- these are the rows of its table on which the conditions of a DELETE are true
 pub record DeleteMatches (state : State) (d : Delete) (keep : List Expr) (committed : List Asked) (pending : List (List Value)) : Type 0 where

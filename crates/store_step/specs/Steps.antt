@@ -16,7 +16,8 @@ use Rattle.store_step.specs.declared.answer.Answer.{Answer}
 use Rattle.store_step.specs.declared.answer.StepFault.{StepFault}
 use Rattle.store_step.specs.declared.answer.StepFault.TheVariants as step
 use Rattle.store_step.specs.Forms.{is_served}
-use Rattle.store_step.specs.Faults.{IsUnblamed, IsUnblamedStore}
+use Rattle.col_disk.specs.Faults.{IsUnblamed as IsUnblamedStore}
+use Rattle.store_step.specs.Faults.{IsUnblamed}
 
 -- what a statement text may leave of a state
 abbrev pub SteppedTo : Files → List ℕ → State → State → Type 0

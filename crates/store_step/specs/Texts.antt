@@ -9,8 +9,8 @@ use Rattle.sql_tree.specs.Spells.{Spells}
 use Rattle.name_binder.specs.declared.fault.BindFault.{BindFault}
 use Rattle.col_disk.specs.declared.disk.StoreFault.{StoreFault}
 use Rattle.col_disk.specs.declared.disk.StoreFault.TheVariants as store
-use Rattle.store_query.specs.declared.fault.SelectFault.{SelectFault}
-use Rattle.store_query.specs.declared.fault.SelectFault.TheVariants as select
+use Rattle.store_core.specs.SelectFault.{SelectFault}
+use Rattle.store_core.specs.SelectFault.TheVariants as select
 use Rattle.store_step.specs.declared.answer.Answer.{Answer}
 use Rattle.store_step.specs.declared.reading.Reading.{Reading}
 

@@ -13,7 +13,7 @@ use name_binder::BindFault;
 use sql_tree::Refusal;
 use statement_text::listing;
 use std::alloc::{AllocError, Global};
-use store_query::SelectFault;
+use store_core::SelectFault;
 
 /// The ERROR line of a refusal.
 pub fn refused(alloc: Global, refusal: Refusal) -> Result<Answer, AllocError>

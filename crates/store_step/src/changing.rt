@@ -30,14 +30,15 @@ use col_disk::{Disk, StoreFault};
 use col_value::{Asked, Row};
 use folder_model::{every_image_reopens, moving_files_reopen, other_files_move};
 use name_binder::BindFault;
-use row_matching::{Matched, matches_are_the_matched_rows};
 use row_setting::{set_rows, settings_see_a_bag};
 use sql_bound::{BoundQuery, Expr};
 use sql_tree::{Delete, Update};
 use statement_plan::change_refusal;
 use statement_text::{deleted_text, updated_text};
 use std::alloc::{AllocError, Global};
-use store_core::{Store, changed_rows_stand, frames_are_of_the_state};
+use store_core::{
+    Matched, Store, changed_rows_stand, frames_are_of_the_state, matches_are_the_matched_rows,
+};
 
 /// These rows of a table are pending from now on, and these committed ones are pending deletes, too. The text was made before.
 fn change(

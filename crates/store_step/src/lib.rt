@@ -20,3 +20,4 @@ mod stepping;
 pub use answer::{Answer, StepFault};
 pub use moving::{end, mover_step};
 pub use stepping::step;
+pub use store_core::Store;

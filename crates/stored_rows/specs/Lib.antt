@@ -1,3 +1,4 @@
 pub mod Listed
 pub mod Held
 pub mod Stored
+pub mod Early

@@ -36,7 +36,8 @@ use Rattle.folder_model.specs.Projections.{HasHistory, HasRows}
 use Rattle.folder_model.specs.Tables.{StandForTables}
 use Rattle.folder_model.proofs.Committing.{stands_moved}
 use Rattle.store_commit.specs.Seen.{Seen, Stands}
-use Rattle.table_store.specs.Faults.{IsUnblamed, IsReadable}
+use Rattle.col_disk.specs.Faults.{IsUnblamed}
+use Rattle.table_store.specs.Faults.{IsReadable}
 use Rattle.table_store.specs.Held.{at_epoch, projections_of, seen_of, IsHeld}
 use Rattle.table_store.specs.Moving.{IsFreshAt}
 use Rattle.table_store.proofs.Makes.{moved_stands}

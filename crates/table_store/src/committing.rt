@@ -12,7 +12,8 @@ ghost use Rattle.db_model.specs.State.{pending_rows, pending_deletes};
 ghost use Rattle.table_store.specs.Held.{projections_of};
 ghost use Rattle.table_store.specs.Changing.{CanApply, tables_applied};
 ghost use Rattle.table_store.specs.Committing.{ready_with, AreReady};
-ghost use Rattle.table_store.specs.Faults.{IsReadable, IsUnblamed};
+ghost use Rattle.col_disk.specs.Faults.{IsUnblamed};
+ghost use Rattle.table_store.specs.Faults.{IsReadable};
 
 use crate::parts::{Parts, ReadyTable};
 use catalog_types::Table;

@@ -10,7 +10,8 @@ ghost use Rattle.col_value.specs.declared.value.Value.TheVariants.{Null};
 ghost use Rattle.row_history.specs.History.{asked_on};
 ghost use Rattle.folder_model.specs.Projections.{ordinals};
 ghost use Rattle.table_store.specs.Changing.{applied, coming, in_order, with_coming, AreWhole, CanApply, IsReady};
-ghost use Rattle.table_store.specs.Faults.{IsReadable, IsUnblamed};
+ghost use Rattle.col_disk.specs.Faults.{IsUnblamed};
+ghost use Rattle.table_store.specs.Faults.{IsReadable};
 
 use catalog_types::{ProjColumn, Projection};
 use col_disk::{Disk, StoreFault};

@@ -10,7 +10,8 @@ ghost use Rattle.sound_laws.specs.Moves.{change_at};
 ghost use Rattle.table_store.specs.Held.{projections_of};
 ghost use Rattle.table_store.specs.Creating.{bare};
 ghost use Rattle.table_store.specs.Changing.{all_applied, all_coming, is_at, with_coming, AreWholeAt, CanApply, IsReady};
-ghost use Rattle.table_store.specs.Faults.{IsReadable, IsUnblamed};
+ghost use Rattle.col_disk.specs.Faults.{IsUnblamed};
+ghost use Rattle.table_store.specs.Faults.{IsReadable};
 
 use crate::part::{ReadyPart, apply_part, can_take, prepare_part, with_coming};
 use catalog_types::Projection;

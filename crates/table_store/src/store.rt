@@ -17,7 +17,8 @@ ghost use Rattle.catalog_types.specs.Valid.{IsValid};
 ghost use Rattle.sound_laws.specs.Moves.{moved_at};
 ghost use Rattle.table_store.specs.Held.{at_epoch, projections_of, IsHeld};
 ghost use Rattle.table_store.specs.Drawing.{Draws, DrawsJob, DrawsOne};
-ghost use Rattle.table_store.specs.Faults.{IsReadable, IsUnblamed};
+ghost use Rattle.col_disk.specs.Faults.{IsUnblamed};
+ghost use Rattle.table_store.specs.Faults.{IsReadable};
 ghost use Rattle.table_store.specs.Moving.{IsFreshAt, IsRewritten};
 ghost use Rattle.table_store.specs.Creating.{bare, created, dropped, first_entry, first_table, place_of, with_table};
 

@@ -13,9 +13,9 @@ use Rattle.db_model.specs.Run.{Setting, RunTexts, EndsUnless}
 use Rattle.db_laws.proofs.Goods.{good_itself}
 use Rattle.db_laws.proofs.NeverFalls.{step_never_falls}
 use Rattle.folder_model.proofs.Committing.{stands_reopens}
-use Rattle.store_core.specs.Running.{Running, IsState}
-use Rattle.store_core.specs.Events.{ReopensTo}
-use Rattle.store_core.specs.Cuts.{ReopensFrom, CutBeforeOrAfter}
+use Rattle.store_step.specs.Running.{Running, IsState}
+use Rattle.store_step.specs.Events.{ReopensTo}
+use Rattle.store_step.specs.Cuts.{ReopensFrom, CutBeforeOrAfter}
 use Rattle.store_step.specs.Forms.{is_served}
 use Rattle.store_step.specs.Steps.{SteppedTo}
 use Rattle.vert_cli.specs.Statements.{CutInMover}

@@ -12,11 +12,11 @@ use Rattle.db_model.specs.State.{State, opened_with}
 use Rattle.db_model.specs.Loading.{Files}
 use Rattle.db_model.specs.Run.{Setting, RunTexts, EndsUnless}
 use Rattle.folder_model.specs.Reopening.{Reopens}
-use Rattle.store_core.specs.Running.{Running, IsState}
-use Rattle.store_core.specs.Cuts.{CutBeforeOrAfter}
-use Rattle.store_opening.specs.Opening.{BlamesOpening}
-use Rattle.store_opening.proofs.Unblamed.{reopening_unblamed}
-use Rattle.store_step.specs.Faults.{IsUnblamedStore}
+use Rattle.store_step.specs.Running.{Running, IsState}
+use Rattle.store_step.specs.Cuts.{CutBeforeOrAfter}
+use Rattle.store_step.specs.Opening.{BlamesOpening}
+use Rattle.store_step.proofs.Unblamed.{reopening_unblamed}
+use Rattle.col_disk.specs.Faults.{IsUnblamed as IsUnblamedStore}
 use Rattle.store_step.specs.Steps.{EndedAs, Ends}
 use Rattle.vert_cli.specs.declared.faults.RunFault.{RunFault}
 use Rattle.vert_cli.specs.Runs.{setting_of, RanWhole, RanFront, TookNext, CutInText, IsOnTheWay, IsUnblamed, RanText, RanTexts}

@@ -10,11 +10,11 @@ use Rattle.sql_tree.specs.declared.refusal.Refusal.{Refusal}
 use Rattle.db_model.specs.State.{State}
 use Rattle.db_model.specs.Loading.{Files}
 use Rattle.db_model.specs.Mover.{MoverSteps, MoverRuns}
-use Rattle.store_core.specs.Running.{Running, IsState}
-use Rattle.store_core.specs.Cuts.{CutBeforeOrAfter}
+use Rattle.store_step.specs.Running.{Running, IsState}
+use Rattle.store_step.specs.Cuts.{CutBeforeOrAfter}
 use Rattle.store_step.specs.declared.answer.Answer.{Answer}
 use Rattle.store_step.specs.declared.answer.StepFault.{StepFault}
-use Rattle.store_step.specs.Faults.{IsUnblamedStore}
+use Rattle.col_disk.specs.Faults.{IsUnblamed as IsUnblamedStore}
 use Rattle.store_step.specs.Steps.{Steps, SteppedTo, MoverStepped}
 use Rattle.vert_cli.specs.declared.faults.Outcome.{Outcome}
 use Rattle.vert_cli.specs.declared.faults.RunFault.{RunFault}

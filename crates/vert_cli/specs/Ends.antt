@@ -11,7 +11,7 @@ use Rattle.db_model.specs.State.{State, opened_with}
 use Rattle.db_model.specs.Loading.{Files}
 use Rattle.db_model.specs.Run.{Setting, EndsUnless}
 use Rattle.folder_model.specs.Reopening.{Reopens}
-use Rattle.store_core.specs.Events.{ReopensTo}
+use Rattle.store_step.specs.Events.{ReopensTo}
 use Rattle.store_step.specs.declared.answer.StepFault.{StepFault}
 use Rattle.vert_cli.specs.declared.faults.RunFault.{RunFault}
 use Rattle.vert_cli.specs.declared.faults.Status.{Status}

@@ -9,8 +9,8 @@ use Rattle.db_model.specs.Loading.{Files}
 use Rattle.db_model.specs.Mover.{MoverSteps, MoverRuns}
 use Rattle.sql_tree.specs.declared.refusal.Refusal.{Refusal}
 use Rattle.db_model.specs.Run.{Setting, Passes, RunTexts, EndsUnless}
-use Rattle.store_core.specs.Running.{Running, IsState}
-use Rattle.store_core.specs.Cuts.{CutBeforeOrAfter}
+use Rattle.store_step.specs.Running.{Running, IsState}
+use Rattle.store_step.specs.Cuts.{CutBeforeOrAfter}
 use Rattle.store_step.specs.Forms.{is_served}
 use Rattle.store_step.specs.Steps.{SteppedTo}
 use Rattle.vert_cli.specs.declared.faults.RunFault.{RunFault}

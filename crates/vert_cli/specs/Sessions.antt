@@ -1,6 +1,6 @@
 -- A session as it is seen: its running store, and whether the disk failed at an earlier call.
 use Rattle.std.specs.Prelude.{Bool}
-use Rattle.store_core.specs.Running.{Running}
+use Rattle.store_step.specs.Running.{Running}
 
 pub record Sitting : Type 0 where
   pub running : Running

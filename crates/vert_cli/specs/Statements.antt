@@ -10,8 +10,8 @@ use Rattle.db_model.specs.Loading.{Files}
 use Rattle.db_model.specs.Epochs.{last_good}
 use Rattle.db_model.specs.Mover.{MoverSteps, MoverRuns}
 use Rattle.db_model.specs.Step.{Step}
-use Rattle.store_core.specs.Running.{Running, IsState}
-use Rattle.store_core.specs.Cuts.{ReopensFrom, CutBeforeOrAfter, IsKept}
+use Rattle.store_step.specs.Running.{Running, IsState}
+use Rattle.store_step.specs.Cuts.{ReopensFrom, CutBeforeOrAfter, IsKept}
 use Rattle.store_step.specs.Forms.{is_served}
 use Rattle.store_step.specs.Steps.{SteppedTo}
 use Rattle.vert_cli.specs.declared.faults.Outcome.{Outcome}

@@ -8,7 +8,7 @@ ghost use Rattle.db_model.specs.Database.{Database as Logical};
 ghost use Rattle.db_model.specs.Loading.{Files as LoadFiles};
 ghost use Rattle.db_model.specs.State.{State};
 ghost use Rattle.sql_words.specs.Texts.{cut, statement_texts, LiesWithin};
-ghost use Rattle.store_core.specs.Running.{IsState};
+ghost use Rattle.store_step.specs.Running.{IsState};
 ghost use Rattle.vert_cli.specs.declared.faults.RunFault.TheVariants.{Sink as sink_failed, Disk as disk_failed, Read as read_failed, Halted as halted};
 ghost use Rattle.vert_cli.specs.declared.faults.Status.TheVariants.{SinkFault as sink_fault, DiskFault as disk_fault, ReadFault as read_fault};
 ghost use Rattle.vert_cli.specs.Runs.{RanText, RanTexts, setting_of};

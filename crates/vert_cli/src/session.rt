@@ -10,9 +10,9 @@ ghost use Rattle.db_model.specs.Database.{Database as Logical};
 ghost use Rattle.db_model.specs.Loading.{Files as LoadFiles};
 ghost use Rattle.db_model.specs.State.{State, opened_with};
 ghost use Rattle.folder_model.specs.Reopening.{Reopens};
-ghost use Rattle.store_opening.specs.Opening.{BlamesOpening};
-ghost use Rattle.store_core.specs.Running.{Running, IsState};
-ghost use Rattle.store_step.specs.Faults.{IsUnblamedStore};
+ghost use Rattle.store_step.specs.Opening.{BlamesOpening};
+ghost use Rattle.store_step.specs.Running.{Running, IsState};
+ghost use Rattle.col_disk.specs.Faults.{IsUnblamed as IsUnblamedStore};
 ghost use Rattle.store_step.specs.Steps.{Ends};
 ghost use Rattle.vert_cli.specs.declared.faults.RunFault.TheVariants.{Sink as sink_failed, Disk as stopped, Read as read_failed, Halted as halted};
 ghost use Rattle.vert_cli.specs.Statements.{Executed, IsOfMover, MovedOn};
@@ -22,8 +22,7 @@ use col_disk::{Disk, StoreFault};
 use col_io::{Files, Sink, SinkFault, write_all};
 use std::alloc::Global;
 use std::marker::Model;
-use store_core::Store;
-use store_step::{Answer, end, mover_step, step};
+use store_step::{Answer, Store, end, mover_step, step};
 
 /// A running store that statements are run on. Over a disk it is a state of the database with its eight sessions; once the disk has
 /// failed it is halted.

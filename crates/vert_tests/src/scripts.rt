@@ -1,8 +1,8 @@
 //! Scripts that run to their end.
 
+use crate::running::{NONE, ran};
 use std::test::Fail;
 use vert_cli::Status;
-use vert_harness::{NONE, ran};
 
 const ROW: &str =
     "CREATE TABLE t (a INTEGER); INSERT INTO t VALUES (2), (1); COMMIT; SELECT a FROM t;";

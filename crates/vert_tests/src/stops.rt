@@ -1,11 +1,11 @@
 //! Runs that stop, and runs that don't begin.
 
+use crate::running::{NONE, Trouble, ran, words};
 use col_disk::{Disk, MemDisk};
 use col_io::{MemFiles, MemSink};
 use run_words::dir_of;
 use std::test::Fail;
 use vert_cli::{Outcome, Session, Status, run};
-use vert_harness::{NONE, Trouble, ran, words};
 
 const SCRIPT: &[u8] =
     b"CREATE TABLE t (a INTEGER); INSERT INTO t VALUES (2), (1); SELECT a FROM t; nothing; COMMIT";

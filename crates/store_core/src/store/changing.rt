@@ -8,7 +8,7 @@ ghost use Rattle.col_value.specs.Order.{IsRow};
 ghost use Rattle.sql_bound.specs.Bounds.{is_narrow};
 ghost use Rattle.sql_bound.specs.Outputs.{is_kept};
 ghost use Rattle.db_model.specs.State.{State, own_changes, pending_rows};
-ghost use Rattle.exec_scan.specs.Scanning.{IsUnblamed};
+ghost use Rattle.col_disk.specs.Faults.{IsUnblamed};
 ghost use Rattle.row_matching.specs.Matching.{AreMatches};
 ghost use Rattle.store_core.specs.Running.{IsState};
 ghost use Rattle.store_core.specs.Sessions.{own_of, with_marked};

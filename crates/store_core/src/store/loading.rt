@@ -12,7 +12,7 @@ ghost use Rattle.db_model.specs.Sound.{RowFits};
 ghost use Rattle.db_model.specs.State.{State};
 ghost use Rattle.store_core.specs.Events.{Does};
 ghost use Rattle.store_core.specs.Running.{IsState};
-ghost use Rattle.table_store.specs.Faults.{IsUnblamed as IsUnblamedStore};
+ghost use Rattle.col_disk.specs.Faults.{IsUnblamed as IsUnblamedStore};
 
 use super::Store;
 use col_disk::{Disk, StoreFault};

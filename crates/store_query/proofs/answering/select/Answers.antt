@@ -2,7 +2,7 @@ use Rattle.std.proofs.Common.{◌≡◌, ◌∙◌, List, ◌∷◌, Err, refl, 
 use Rattle.col_disk.proofs.Moving.{moved_none}
 use Rattle.query_run.specs.declared.fault.QueryFault.{QueryFault}
 use Rattle.query_run.specs.declared.fault.QueryFault.TheVariants as query
-use Rattle.query_bounds.proofs.Less.{great_less, not_great_less, printed_less}
+use Rattle.query_cover.proofs.Less.{great_less, not_great_less, printed_less}
 use Rattle.query_cover.proofs.Permuted.{great_seen, not_great_seen, printed_seen}
 use Rattle.store_query.specs.declared.fault.SelectFault.{SelectFault}
 use Rattle.store_query.specs.declared.fault.SelectFault.TheVariants as select

@@ -7,7 +7,7 @@ use Rattle.sql_bound.specs.declared.expr.Expr.{Expr}
 use Rattle.sql_bound.specs.Bounds.{is_narrow}
 use Rattle.sql_tree.specs.declared.statement.Statement.{Statement}
 use Rattle.db_model.specs.State.{own_changes}
-use Rattle.row_matching.specs.Matching.{AreMatches}
+use Rattle.store_core.specs.Matching.{AreMatches}
 use Rattle.statement_plan.specs.declared.plans.Plan.{Plan}
 use Rattle.store_step.specs.declared.answer.Answer.{Answer}
 use Rattle.store_step.specs.Arms.{Answers}

@@ -8,7 +8,7 @@ use Rattle.db_model.specs.Events.{changes_committed}
 use Rattle.db_model.specs.Printing.{commit_text}
 use Rattle.db_model.specs.State.{has_changes}
 use Rattle.sql_tree.specs.declared.statement.Statement.{Statement}
-use Rattle.table_store.specs.Faults.{IsUnblamed}
+use Rattle.col_disk.specs.Faults.{IsUnblamed}
 use Rattle.store_core.specs.Sessions.{own_of}
 use Rattle.store_step.specs.declared.answer.Answer.{Answer}
 use Rattle.store_step.specs.Arms.{Answers}

@@ -10,7 +10,7 @@ use Rattle.db_model.specs.Events.{rows_loaded, rows_pending}
 use Rattle.db_model.specs.Printing.{copy_text}
 use Rattle.db_model.specs.Sound.{IsSound, RowFits}
 use Rattle.db_model.specs.State.{has_changes, is_empty}
-use Rattle.table_store.specs.Faults.{IsUnblamed}
+use Rattle.col_disk.specs.Faults.{IsUnblamed}
 use Rattle.store_core.specs.Sessions.{own_of}
 use Rattle.store_step.specs.declared.answer.Answer.{Answer}
 use Rattle.store_step.specs.Arms.{Answers}

@@ -3,7 +3,8 @@ use Rattle.std.specs.Prelude.{Some, IfErr}
 use Rattle.std.specs.List.{All}
 use Rattle.common_laws.specs.Maps.{Contents}
 use Rattle.proj_store.specs.Loaded.{Loaded}
-use Rattle.table_store.specs.Faults.{IsReadable, IsUnblamed}
+use Rattle.col_disk.specs.Faults.{IsUnblamed}
+use Rattle.table_store.specs.Faults.{IsReadable}
 use Rattle.table_store.specs.Held.{projections_of}
 use Rattle.table_store.proofs.committing.prepare_all.Goals as goal
 

@@ -5,7 +5,7 @@ use Rattle.proj_store.specs.Loaded.{Loaded}
 use Rattle.table_store.specs.Held.{projections_of}
 use Rattle.table_store.proofs.Drawn.{move_draws, move_job}
 use Rattle.table_store.proofs.Moved.{drawn_later, entry_there, fresh_table, fresh_place, rewritten}
-use Rattle.table_store.specs.Faults.{IsUnblamed}
+use Rattle.col_disk.specs.Faults.{IsUnblamed}
 use Rattle.table_store.proofs.Unblamed.{moved_unblamed, of_disk}
 use Rattle.table_store.proofs.store.prepare_move.Goals as goal
 

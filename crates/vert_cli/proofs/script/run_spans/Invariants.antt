@@ -3,7 +3,7 @@ use Rattle.std.specs.Prelude.{Some}
 use Rattle.db_model.specs.Loading.{Files as LoadFiles}
 use Rattle.db_model.specs.State.{State}
 use Rattle.sql_words.specs.Texts.{cut}
-use Rattle.store_core.specs.Running.{IsState}
+use Rattle.store_step.specs.Running.{IsState}
 use Rattle.vert_cli.specs.Runs.{setting_of}
 use Rattle.vert_cli.proofs.Ending.{RanSoFar}
 use Rattle.vert_cli.proofs.script.run_spans.Given as goal

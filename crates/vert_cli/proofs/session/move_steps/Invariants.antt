@@ -1,6 +1,6 @@
 use Rattle.std.proofs.Common.{◌≤◌}
 use Rattle.db_model.specs.State.{State}
-use Rattle.store_core.specs.Running.{IsState}
+use Rattle.store_step.specs.Running.{IsState}
 use Rattle.vert_cli.proofs.Executing.{Moving}
 use Rattle.vert_cli.proofs.session.move_steps.Given as goal
 

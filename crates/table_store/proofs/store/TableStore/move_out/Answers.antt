@@ -13,7 +13,8 @@ use Rattle.table_store.proofs.Drawn.{job_done, some_drawn}
 use Rattle.table_store.specs.Moving.{IsFreshAt, IsRewritten}
 use Rattle.table_store.proofs.Moved.{fresh_table, fresh_place, rewritten_catalogue}
 use Rattle.table_store.proofs.Makes.{move_short, move_made, move_seen, move_held, store_makes, store_done}
-use Rattle.table_store.specs.Faults.{IsReadable, IsUnblamed}
+use Rattle.col_disk.specs.Faults.{IsUnblamed}
+use Rattle.table_store.specs.Faults.{IsReadable}
 use Rattle.table_store.proofs.Unblamed.{move_unblamed, of_disk}
 use Rattle.table_store.proofs.store.TableStore.move_out.Goals as goal
 
