@@ -21,7 +21,7 @@ use Rattle.db_model.specs.Leaving.{CallLeaves, CopyLeaves, Leaves}
 use Rattle.db_model.specs.Loading.{Files, Load, Loads}
 use Rattle.db_model.specs.Numbers.{are_spent}
 use Rattle.db_model.specs.Printing.{CallPrints, CopyPrints, Prints, copy_text, counted_line}
-use Rattle.db_model.specs.Refusals.{CallRefuses, CopyRefuses, FileRefuses, LoadRefuses, Refuses, SumRefuses, is_large_file, joining_limit, load_refusal, locked, query_refusal_in}
+use Rattle.db_model.specs.Refusals.{CallRefuses, CopyRefuses, FileRefuses, LoadRefuses, Refuses, SumRefuses, UnlockedRefuses, is_large_file, joining_limit, load_refusal, locked, query_refusal_in}
 use Rattle.db_model.specs.Refusing.{commit_refusal, epoch_refusal}
 use Rattle.db_model.specs.Sound.{IsSound}
 use Rattle.db_model.specs.State.{State}
@@ -69,9 +69,8 @@ module _ (a b : State) (alike : AreAlikeStates a b) (sound : IsSound a) where
   load_same : (name : List ℕ) (load : Load) → load_refusal a name load ≡ load_refusal b name load
   load_same name (Load.Wrong line field) = refl
   load_same name (Load.Rows rows) =
-      ap₂ (λ (o p : Cause). first_of o (first_of p (commit_refusal (rows_pending name rows a)))) (joining_alike a b name (length rows) alike.sessions alike.current)
-      (locked_alike a b name false alike.sessions alike.current)
-      ∙ ap (λ (o : Cause). first_of (joining_limit b name (length rows)) (first_of (locked b name false) o)) (load_alike a b name rows alike.sessions alike.current alike.database.last)
+      ap₂ (λ (o p : Cause). first_of o p) (joining_alike a b name (length rows) alike.sessions alike.current)
+      (load_alike a b name rows alike.sessions alike.current alike.database.last)
 
   load_refused : (e f : ℕ × Table) (bytes : List ℕ) (large : Bool) (why also : Cause) → Found e f → LoadRefuses a e bytes large why → LoadRefuses b f bytes large also → why ≡ also
   load_refused e f bytes true why also both first second = first ∙ sym second
@@ -83,11 +82,18 @@ module _ (a b : State) (alike : AreAlikeStates a b) (sound : IsSound a) where
   file_refused e f None why also both first second = first ∙ sym second
   file_refused e f (Some bytes) why also both first second = load_refused e f bytes (is_large_file bytes) why also both first second
 
+  unlocked_refused : (o p : Cause) (e f : ℕ × Table) (held : Option (List ℕ)) (why also : Cause) → o ≡ p → Found e f → UnlockedRefuses o a e held why → UnlockedRefuses p b f held also → why ≡ also
+  unlocked_refused (Some r) (Some s) e f held why also same both first second = first ∙ same ∙ sym second
+  unlocked_refused (Some r) None e f held why also same both first second = absurd (cc)
+  unlocked_refused None (Some s) e f held why also same both first second = absurd (cc)
+  unlocked_refused None None e f held why also same both first second = file_refused e f held why also both first second
+
   copy_refused : (table : List ℕ) (o p : Option (ℕ × Table)) (held : Option (List ℕ)) (why also : Cause) → BothThere Found o p → CopyRefuses a table o held why → CopyRefuses b table p held also → why ≡ also
   copy_refused table None None held why also both first second = first ∙ sym second
   copy_refused table None (Some f) held why also both first second = absurd both
   copy_refused table (Some e) None held why also both first second = absurd both
-  copy_refused table (Some e) (Some f) held why also both first second = file_refused e f held why also both first second
+  copy_refused table (Some e) (Some f) held why also both first second =
+      unlocked_refused (locked a table false) (locked b table false) e f held why also (locked_alike a b table false alike.sessions alike.current) both first second
 
   copy_printed : (o p : Option (ℕ × Table)) (held : Option (List ℕ)) (x y : List ℕ) → BothThere Found o p → CopyPrints a o held x → CopyPrints b p held y → x ≡ y
   copy_printed None p held x y both first second = absurd first

@@ -119,11 +119,15 @@ rows_updated_refusal state u =
 abbrev pub is_large_file : List ℕ → Bool
 is_large_file bytes = nat_lt 67108864 (length bytes)
 
--- good rows meet the limit on rows, and then the lock; their commit closes an epoch
+-- a COPY needs its table, and no other session in its way, before its file is looked for
+abbrev pub copy_table_refusal : State → List ℕ → Option Refusal
+copy_table_refusal state name = first_of (unknown_table_refusal state name) (locked state name false)
+
+-- good rows meet the limit on rows; their commit closes an epoch
 abbrev pub load_refusal : State → List ℕ → Load → Option Refusal
 load_refusal state table (Load.Wrong line field) = Some (Refusal.BadLoadLine line field)
 load_refusal state table (Load.Rows rows) =
-    first_of (joining_limit state table (length rows)) (first_of (locked state table false) (commit_refusal (rows_pending table rows state)))
+    first_of (joining_limit state table (length rows)) (commit_refusal (rows_pending table rows state))
 
 abbrev pub LoadRefuses : State → ℕ × Table → List ℕ → Bool → Option Refusal → Type 0
 LoadRefuses state e bytes true why = why ≡ Some Refusal.FileTooLarge
@@ -133,9 +137,13 @@ abbrev pub FileRefuses : State → ℕ × Table → Option (List ℕ) → Option
 FileRefuses state e None why = why ≡ Some Refusal.NoFile
 FileRefuses state e (Some bytes) why = LoadRefuses state e bytes (is_large_file bytes) why
 
+abbrev pub UnlockedRefuses : Option Refusal → State → ℕ × Table → Option (List ℕ) → Option Refusal → Type 0
+UnlockedRefuses (Some refusal) state e held why = why ≡ Some refusal
+UnlockedRefuses None state e held why = FileRefuses state e held why
+
 abbrev pub CopyRefuses : State → List ℕ → Option (ℕ × Table) → Option (List ℕ) → Option Refusal → Type 0
 CopyRefuses state table None held why = why ≡ Some (Refusal.UnknownTable table)
-CopyRefuses state table (Some e) held why = FileRefuses state e held why
+CopyRefuses state table (Some e) held why = UnlockedRefuses (locked state table false) state e held why
 
 -- A sum that is too great is a fact of the rows, and looked at last.
 abbrev pub SumRefuses : Option Refusal → BoundQuery → List (List (List Value)) → Option Refusal → Type 0

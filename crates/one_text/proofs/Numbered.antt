@@ -23,7 +23,7 @@ use Rattle.db_model.specs.Leaving.{CallLeaves, CopyLeaves, Leaves, RefusedCallLe
 use Rattle.db_model.specs.Loading.{Files, Load}
 use Rattle.db_model.specs.Numbers.{IsDrawn, are_spent}
 use Rattle.db_model.specs.Printing.{CallPrints, CopyPrints, Prints}
-use Rattle.db_model.specs.Refusals.{CallRefuses, CopyRefuses, LoadRefuses, Refuses, SumRefuses, is_large_file, last_super_refusal, load_refusal, locked, owner, projection_refusal_over, query_refusal_in, unknown_table_refusal}
+use Rattle.db_model.specs.Refusals.{CallRefuses, CopyRefuses, LoadRefuses, Refuses, SumRefuses, UnlockedRefuses, is_large_file, last_super_refusal, load_refusal, locked, owner, projection_refusal_over, query_refusal_in, unknown_table_refusal}
 use Rattle.db_model.specs.Refusing.{create_refusal, epoch_refusal, if_taken}
 use Rattle.db_model.specs.State.{Changes, State, committed, has_changes, own_changes, with_changes}
 use Rattle.db_model.specs.Step.{Decides, Effect, Reads, RefusedTextLeaves, RefusesForm, Step}
@@ -83,10 +83,14 @@ module _ (a : State) (n k p : ℕ) where
   load_other e bytes true why is = is
   load_other e bytes false why (load, loads, is) = (load, loads, is ∙ load_same e.1.name load)
 
+  unlocked_other : (before : Option Refusal) (e : ℕ × Table) (held : Option (List ℕ)) (why : Option Refusal) → UnlockedRefuses before (renumbered a n k p) e held why → UnlockedRefuses before a e held why
+  unlocked_other (Some refusal) e held why is = is
+  unlocked_other None e None why is = is
+  unlocked_other None e (Some bytes) why is = load_other e bytes (is_large_file bytes) why is
+
   copy_other : (table : List ℕ) (found : Option (ℕ × Table)) (held : Option (List ℕ)) (why : Option Refusal) → CopyRefuses (renumbered a n k p) table found held why → CopyRefuses a table found held why
   copy_other table None held why is = is
-  copy_other table (Some e) None why is = is
-  copy_other table (Some e) (Some bytes) why is = load_other e bytes (is_large_file bytes) why is
+  copy_other table (Some e) held why is = unlocked_other (locked a table false) e held why is
 
   call_other : (f : Function) (why : Option Refusal) → IsOther (Statement.Call f) → CallRefuses (renumbered a n k p) f why → CallRefuses a f why
   call_other Function.Lge why quiet is = is

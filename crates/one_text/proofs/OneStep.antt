@@ -18,7 +18,7 @@ use Rattle.db_model.specs.Answers.{listing_text}
 use Rattle.db_model.specs.Database.{Table}
 use Rattle.db_model.specs.Loading.{Files, Load}
 use Rattle.db_model.specs.Printing.{CallPrints, CopyPrints, Prints, copy_text}
-use Rattle.db_model.specs.Refusals.{CallRefuses, CopyRefuses, FileRefuses, LoadRefuses, Refuses, SumRefuses, is_large_file, load_refusal, query_refusal_in}
+use Rattle.db_model.specs.Refusals.{CallRefuses, CopyRefuses, FileRefuses, LoadRefuses, Refuses, SumRefuses, UnlockedRefuses, is_large_file, load_refusal, locked, query_refusal_in}
 use Rattle.db_model.specs.Refusing.{epoch_refusal}
 use Rattle.db_model.specs.State.{State}
 use Rattle.db_model.specs.Events.{rows_pending}
@@ -89,9 +89,13 @@ file_refused : (state : State) (e : ℕ × Table) (held : Option (List ℕ)) (wh
 file_refused state e None why also first second = first ∙ sym second
 file_refused state e (Some bytes) why also first second = load_refused state e bytes (is_large_file bytes) why also first second
 
+unlocked_refused : (before : Cause) (state : State) (e : ℕ × Table) (held : Option (List ℕ)) (why also : Cause) → UnlockedRefuses before state e held why → UnlockedRefuses before state e held also → why ≡ also
+unlocked_refused (Some refusal) state e held why also first second = first ∙ sym second
+unlocked_refused None state e held why also first second = file_refused state e held why also first second
+
 copy_refused : (state : State) (table : List ℕ) (found : Option (ℕ × Table)) (held : Option (List ℕ)) (why also : Cause) → CopyRefuses state table found held why → CopyRefuses state table found held also → why ≡ also
 copy_refused state table None held why also first second = first ∙ sym second
-copy_refused state table (Some e) held why also first second = file_refused state e held why also first second
+copy_refused state table (Some e) held why also first second = unlocked_refused (locked state table false) state e held why also first second
 
 sum_refused : (before : Cause) (q : BoundQuery) (rows : List (List (List Value))) (why also : Cause) → SumRefuses before q rows why → SumRefuses before q rows also → why ≡ also
 sum_refused (Some refusal) q rows why also first second = first ∙ sym second

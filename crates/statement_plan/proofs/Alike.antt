@@ -177,8 +177,7 @@ inserted_same bare state i is =
 pub loaded_same : (bare state : State) (name : List ℕ) (load : Load) → IsBare bare state → load_refusal bare name load ≡ load_refusal state name load
 loaded_same bare state name (Load.Wrong line field) is = refl
 loaded_same bare state name (Load.Rows rows) is =
-    ap₂ (λ (o p : Option Refusal). first_of o p) (joining_same bare state name (length rows) is)
-    (ap₂ (λ (o p : Option Refusal). first_of o p) (locked_same bare state name false is) (load_alike bare state name rows is.sessions is.current is.last))
+    ap₂ (λ (o p : Option Refusal). first_of o p) (joining_same bare state name (length rows) is) (load_alike bare state name rows is.sessions is.current is.last)
 
 committed_same : (bare state : State) → IsBare bare state → commit_refusal bare ≡ commit_refusal state
 committed_same bare state is = commit_alike bare state is.sessions is.current is.last
@@ -271,7 +270,8 @@ early_same bare state (Statement.DropProjection name) is = undone_same bare stat
 early_same bare state (Statement.Insert i) is = inserted_same bare state i is
 early_same bare state (Statement.Delete d) is = deleted_same bare state d is
 early_same bare state (Statement.Update u) is = updated_same bare state u is
-early_same bare state (Statement.Copy table file) is = unknown_same table bare state is
+early_same bare state (Statement.Copy table file) is =
+    ap₂ (λ (o p : Option Refusal). first_of o p) (unknown_same table bare state is) (locked_same bare state table false is)
 early_same bare state Statement.Commit is = committed_same bare state is
 early_same bare state Statement.Rollback is = refl
 early_same bare state (Statement.Select at q) is = selected_same bare state at q is

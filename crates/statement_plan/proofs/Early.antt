@@ -1,5 +1,5 @@
 -- A refusal before a row is looked at is the statement's.
-use Rattle.std.proofs.Common.{◌≡◌, ℕ, List, true, refl, sym, ap}
+use Rattle.std.proofs.Common.{◌≡◌, ℕ, List, false, true, refl, sym, ap}
 use Rattle.std.specs.Prelude.{Option, Some, None, option_and_then}
 use Rattle.std.specs.Option.{option_map_or}
 use Rattle.col_value.specs.declared.value.Value.{Value}
@@ -11,14 +11,18 @@ use Rattle.sql_binding.specs.Firsts.{first_of}
 use Rattle.db_model.specs.Database.{Table}
 use Rattle.db_model.specs.Loading.{Files}
 use Rattle.db_model.specs.State.{State}
-use Rattle.db_model.specs.Refusals.{CopyRefuses, Refuses, SumRefuses, update_refusal_over}
+use Rattle.db_model.specs.Refusals.{CopyRefuses, Refuses, SumRefuses, UnlockedRefuses, locked, update_refusal_over}
 use Rattle.db_model.specs.Views.{bound_in, inputs, table_found}
 use Rattle.statement_plan.specs.Planned.{early_refusal, is_settled, is_settled_call, select_refusal}
 
+unlocked_refused : (before : Option Refusal) (state : State) (e : ℕ × Table) (held : Option (List ℕ)) (r : Refusal) → before ≡ Some r → UnlockedRefuses before state e held (Some r)
+unlocked_refused None state e held r is = absurd (cc)
+unlocked_refused (Some x) state e held r is = sym is
+
 copy_refused : (state : State) (table : List ℕ) (found : Option (ℕ × Table)) (held : Option (List ℕ)) (r : Refusal)
-    → option_map_or (λ (e : ℕ × Table). None) found (Some (Refusal.UnknownTable table)) ≡ Some r → CopyRefuses state table found held (Some r)
+    → first_of (option_map_or (λ (e : ℕ × Table). None) found (Some (Refusal.UnknownTable table))) (locked state table false) ≡ Some r → CopyRefuses state table found held (Some r)
 copy_refused state table None held r is = sym is
-copy_refused state table (Some e) held r is = absurd (cc)
+copy_refused state table (Some e) held r is = unlocked_refused (locked state table false) state e held r is
 
 sum_refused : (o : Option Refusal) (b : BoundQuery) (rows : List (List (List Value))) (r : Refusal) → o ≡ Some r → SumRefuses o b rows (Some r)
 sum_refused None b rows r is = absurd (cc)

@@ -14,7 +14,7 @@ use Rattle.sql_binding.specs.Inserts.{inserted_rows}
 use Rattle.db_model.specs.State.{State}
 use Rattle.db_model.specs.Views.{bound_in, columns_found}
 use Rattle.db_model.specs.Refusing.{commit_refusal, epoch_refusal}
-use Rattle.db_model.specs.Refusals.{projection_created_refusal, projection_dropped_refusal, query_refusal_in, rows_deleted_refusal, rows_inserted_refusal, table_created_refusal, table_dropped_refusal, unknown_table_refusal}
+use Rattle.db_model.specs.Refusals.{copy_table_refusal, projection_created_refusal, projection_dropped_refusal, query_refusal_in, rows_deleted_refusal, rows_inserted_refusal, table_created_refusal, table_dropped_refusal}
 use Rattle.query_laws.specs.Bounded.{IsBoundedQuery}
 use Rattle.statement_plan.specs.Places.{IsDeleteOf, IsProjectionOf, IsUpdateOf, projection_places, table_place}
 use Rattle.statement_plan.specs.declared.plans.Plan.{Plan}
@@ -64,7 +64,7 @@ early_refusal state (Statement.DropProjection name) = projection_dropped_refusal
 early_refusal state (Statement.Insert i) = rows_inserted_refusal state i
 early_refusal state (Statement.Delete d) = rows_deleted_refusal state d
 early_refusal state (Statement.Update u) = update_refusal (columns_found state.database.tables u.table) u
-early_refusal state (Statement.Copy table file) = unknown_table_refusal state table
+early_refusal state (Statement.Copy table file) = copy_table_refusal state table
 early_refusal state Statement.Commit = commit_refusal state
 early_refusal state (Statement.Select at q) = select_refusal state at q
 early_refusal state (Statement.Explain q) = query_refusal_in state q

@@ -23,9 +23,8 @@ mod querying;
 mod refusing;
 
 pub use changing::change_refusal;
-pub use dropping::known_table;
 pub use frame::Frame;
 pub use laws::{catalogues_give_frames, early_refusals_stand, rows_decide_nothing_here};
-pub use loading::load_refusal;
+pub use loading::{load_refusal, loadable_table};
 pub use planning::make_plan;
 pub use plans::Plan;

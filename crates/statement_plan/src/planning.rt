@@ -6,9 +6,10 @@ ghost use Rattle.statement_plan.specs.Planned.{early_refusal, is_planned, IsPlan
 
 use crate::changing::{plan_delete, plan_update};
 use crate::creating::plan_table;
-use crate::dropping::{known_table, plan_drop, plan_projection_drop};
+use crate::dropping::{plan_drop, plan_projection_drop};
 use crate::frame::Frame;
 use crate::inserting::plan_insert;
+use crate::loading::loadable_table;
 use crate::plans::Plan;
 use crate::projecting::plan_projection;
 use crate::querying::{plan_query, plan_select};
@@ -36,7 +37,7 @@ pub fn make_plan(alloc: Global, frame: &Frame<'_>, statement: &Statement) -> Res
         },
         Statement::Delete(delete) => plan_delete(alloc, frame, delete),
         Statement::Update(update) => plan_update(alloc, frame, update),
-        Statement::Copy(table, _) => match known_table(alloc, frame, table) {
+        Statement::Copy(table, _) => match loadable_table(alloc, frame, table) {
             Ok(place) => Ok(Plan::Copy(place)),
             Err(fault) => Err(fault),
         },

@@ -20,7 +20,7 @@ use Rattle.db_model.specs.Leaving.{CopyLeaves, Leaves, RefusedLeaves}
 use Rattle.db_model.specs.Loading.{Files, Load, Loads}
 use Rattle.db_model.specs.Mover.{MovesAll}
 use Rattle.db_model.specs.Printing.{commit_text, copy_text, counted_line, explain_text, on_found, CopyPrints, Prints}
-use Rattle.db_model.specs.Refusals.{is_large_file, load_refusal, projection_created_refusal, projection_dropped_refusal, query_refusal_in, rows_deleted_refusal, rows_inserted_refusal, rows_updated_refusal, table_created_refusal, table_dropped_refusal, CopyRefuses, LoadRefuses, Refuses, SumRefuses}
+use Rattle.db_model.specs.Refusals.{is_large_file, load_refusal, locked, projection_created_refusal, projection_dropped_refusal, query_refusal_in, rows_deleted_refusal, rows_inserted_refusal, rows_updated_refusal, table_created_refusal, table_dropped_refusal, CopyRefuses, LoadRefuses, Refuses, SumRefuses, UnlockedRefuses}
 use Rattle.db_model.specs.Refusing.{commit_refusal, epoch_refusal}
 use Rattle.db_model.specs.State.{State}
 use Rattle.db_model.specs.Step.{Effect}
@@ -105,11 +105,24 @@ record Copying (old : State) (table : List ℕ) (found : Option (ℕ × Table)) 
   refuses : CopyRefuses old table found held refusal
   effect : CopyEffect old found held refusal printed new
 
+record Unlocked (old : State) (before : Option Refusal) (e : ℕ × Table) (held : Option (List ℕ)) : Type 0 where
+  refusal : Option Refusal
+  printed : List ℕ
+  new : State
+  refuses : UnlockedRefuses before old e held refusal
+  effect : CopyEffect old (Some e) held refusal printed new
+
+unlocked_told : (old : State) (before : Option Refusal) (e : ℕ × Table) (held : Option (List ℕ)) → Unlocked old before e held
+unlocked_told old (Some r) e held = record { refusal = Some r; printed = refusal_text r; new = old; refuses = refl; effect = (refl, refl) }
+unlocked_told old None e None = record { refusal = Some Refusal.NoFile; printed = refusal_text Refusal.NoFile; new = old; refuses = refl; effect = (refl, refl) }
+unlocked_told old None e (Some bytes) =
+    let is = file_told old e bytes (is_large_file bytes) in
+    record { refusal = is.refusal; printed = is.printed; new = is.new; refuses = is.refuses; effect = is.effect }
+
 copy_told : (old : State) (table : List ℕ) (found : Option (ℕ × Table)) (held : Option (List ℕ)) → Copying old table found held
 copy_told old table None held = record { refusal = Some (Refusal.UnknownTable table); printed = refusal_text (Refusal.UnknownTable table); new = old; refuses = refl; effect = (refl, refl) }
-copy_told old table (Some e) None = record { refusal = Some Refusal.NoFile; printed = refusal_text Refusal.NoFile; new = old; refuses = refl; effect = (refl, refl) }
-copy_told old table (Some e) (Some bytes) =
-    let is = file_told old e bytes (is_large_file bytes) in
+copy_told old table (Some e) held =
+    let is = unlocked_told old (locked old table false) e held in
     record { refusal = is.refusal; printed = is.printed; new = is.new; refuses = is.refuses; effect = is.effect }
 
 copy_effect : (old : State) (files : Files) (table file : List ℕ) (why : Option Refusal) (printed : List ℕ) (new : State)

@@ -18,7 +18,6 @@ use Rattle.sql_tree.specs.declared.refusal.Refusal.{Refusal}
 use Rattle.sql_tree.specs.declared.statement.Statement.{Statement}
 use Rattle.sql_tree.specs.Spells.{Spells}
 use Rattle.sql_words.specs.Symbols.{symbols_of}
-use Rattle.sql_binding.specs.Firsts.{first_of}
 use Rattle.db_model.specs.Database.{Table, table_named}
 use Rattle.db_model.specs.State.{State, has_changes, is_empty, own_changes, with_rows}
 use Rattle.db_model.specs.Sound.{IsSound, IsSoundDatabase}
@@ -29,8 +28,7 @@ use Rattle.load_reader.specs.declared.fields.LoadColumn.{LoadColumn}
 use Rattle.load_reader.specs.Load.{Load as FileLoad, Loads as FileLoads}
 use Rattle.col_value.specs.Order.{IsRow}
 use Rattle.db_model.specs.Printing.{copy_text, CopyPrints}
-use Rattle.db_model.specs.Refusals.{is_large_file, joining_limit, load_refusal, locked, CopyRefuses, FileRefuses, LoadRefuses, Refuses}
-use Rattle.db_model.specs.Refusing.{commit_refusal}
+use Rattle.db_model.specs.Refusals.{is_large_file, load_refusal, locked, CopyRefuses, FileRefuses, LoadRefuses, Refuses, UnlockedRefuses}
 use Rattle.db_model.specs.Step.{RefusesForm}
 use Rattle.db_model.specs.Views.{table_found}
 use Rattle.db_model.specs.Leaving.{CopyLeaves}
@@ -151,39 +149,31 @@ is_found r state name place is same = some_too (table_found name (frame_of r).da
 
 -- ---- why a COPY is refused
 
-pub decided_absent : (state : State) (files : Files) (table file : List ℕ) (e : ℕ × Table) → table_found table state.database.tables ≡ Some e → files file ≡ None → Refuses state files (Statement.Copy table file) (Some Refusal.NoFile)
-decided_absent state files table file e found none =
-    subst (λ (o : Option (ℕ × Table)). CopyRefuses state table o (files file) (Some Refusal.NoFile)) (sym found)
-    (subst (λ (held : Option (List ℕ)). FileRefuses state e held (Some Refusal.NoFile)) (sym none) refl)
+-- behind the lock, the file decides
+file_decided : (state : State) (files : Files) (table file : List ℕ) (e : ℕ × Table) (why : Option Refusal) → table_found table state.database.tables ≡ Some e → locked state table false ≡ None → FileRefuses state e (files file) why
+    → Refuses state files (Statement.Copy table file) why
+file_decided state files table file e why found free refuses =
+    subst (λ (o : Option (ℕ × Table)). CopyRefuses state table o (files file) why) (sym found)
+    (subst (λ (before : Option Refusal). UnlockedRefuses before state e (files file) why) (sym free) refuses)
 
-pub decided_large : (state : State) (files : Files) (table file bytes : List ℕ) (e : ℕ × Table) → table_found table state.database.tables ≡ Some e → files file ≡ Some bytes → is_large_file bytes ≡ true
+pub decided_absent : (state : State) (files : Files) (table file : List ℕ) (e : ℕ × Table) → table_found table state.database.tables ≡ Some e → locked state table false ≡ None → files file ≡ None → Refuses state files (Statement.Copy table file) (Some Refusal.NoFile)
+decided_absent state files table file e found free none =
+    file_decided state files table file e (Some Refusal.NoFile) found free (subst (λ (held : Option (List ℕ)). FileRefuses state e held (Some Refusal.NoFile)) (sym none) refl)
+
+pub decided_large : (state : State) (files : Files) (table file bytes : List ℕ) (e : ℕ × Table) → table_found table state.database.tables ≡ Some e → locked state table false ≡ None → files file ≡ Some bytes → is_large_file bytes ≡ true
     → Refuses state files (Statement.Copy table file) (Some Refusal.FileTooLarge)
-decided_large state files table file bytes e found held large =
-    subst (λ (o : Option (ℕ × Table)). CopyRefuses state table o (files file) (Some Refusal.FileTooLarge)) (sym found)
+decided_large state files table file bytes e found free held large =
+    file_decided state files table file e (Some Refusal.FileTooLarge) found free
     (subst (λ (h : Option (List ℕ)). FileRefuses state e h (Some Refusal.FileTooLarge)) (sym held)
     (subst (λ (b : Bool). LoadRefuses state e bytes b (Some Refusal.FileTooLarge)) (sym large) refl))
 
 pub decided_load : (state : State) (files : Files) (table file bytes : List ℕ) (e : ℕ × Table) (load : Load) (why : Option Refusal) → IsLoadable state files table file bytes e → Loads e.1.columns bytes load → why ≡ load_refusal state table load
     → Refuses state files (Statement.Copy table file) why
 decided_load state files table file bytes e load why is loads told =
-    subst (λ (o : Option (ℕ × Table)). CopyRefuses state table o (files file) why) (sym is.found)
+    file_decided state files table file e why is.found is.free
     (subst (λ (h : Option (List ℕ)). FileRefuses state e h why) (sym is.held)
     (subst (λ (b : Bool). LoadRefuses state e bytes b why) (sym is.small)
     (load, loads, told ∙ ap (λ (n : List ℕ). load_refusal state n load) (sym (called table state.database.tables e is.found)))))
-
-first_none : {X : Type 0} (a b : Option X) → first_of a b ≡ None → a ≡ None
-first_none None b is = refl
-first_none (Some x) b is = absurd (cc)
-
-second_none : {X : Type 0} (a b : Option X) → first_of a b ≡ None → b ≡ None
-second_none None b is = is
-second_none (Some x) b is = absurd (cc)
-
--- a COPY that isn't refused finds no other session in its way
-pub free : (state : State) (table : List ℕ) (rows : List (List Value)) → load_refusal state table (Load.Rows rows) ≡ None → locked state table false ≡ None
-free state table rows accepted =
-    first_none (locked state table false) (commit_refusal (rows_pending table rows state))
-    (second_none (joining_limit state table (length rows)) (first_of (locked state table false) (commit_refusal (rows_pending table rows state))) accepted)
 
 -- what a store's frame tells of the rows
 pub load_told : {D : Type 0} (disk : Ghosts D) (r : Running) (now : D) (state : State) (name : List ℕ) (rows slice : List (List Value)) (frame : State) (why : Option Refusal) → frame ≡ frame_of r → slice ≡ rows → IsState disk r now state

@@ -6,7 +6,7 @@ ghost use Rattle.common_laws.specs.Causes.{HasCause};
 ghost use Rattle.col_value.specs.Order.{IsRow};
 ghost use Rattle.db_model.specs.Database.{Table as ATable};
 ghost use Rattle.db_model.specs.Loading.{load_column, Files as LoadFiles, Load, Loads};
-ghost use Rattle.db_model.specs.Refusals.{is_large_file, load_refusal};
+ghost use Rattle.db_model.specs.Refusals.{is_large_file, load_refusal, locked};
 ghost use Rattle.db_model.specs.State.{has_changes, is_empty, State};
 ghost use Rattle.sql_tree.specs.declared.statement.Statement.{Statement};
 ghost use Rattle.sql_tree.specs.Spells.{Spells};
@@ -28,7 +28,9 @@ use folder_model::every_image_reopens;
 use load_reader::{LoadColumn, LoadFault, read};
 use sql_tree::Refusal;
 use state_laws::{commits_of_a_session_are_sound, loaded_rows_fit, pending_rows_are_sound};
-use statement_plan::{early_refusals_stand, known_table, load_refusal, rows_decide_nothing_here};
+use statement_plan::{
+    early_refusals_stand, load_refusal, loadable_table, rows_decide_nothing_here,
+};
 use statement_text::copy_text;
 use std::alloc::{AllocError, Global};
 use store_core::{Store, frames_are_of_the_state};
@@ -130,7 +132,7 @@ fn load_bytes<D: Disk>(
     disk: &mut D,
 ) -> Result<Answer, StoreFault>
     requires { table_place table.now (frame_of store.old).database.tables ≡ Some place }
-    ensures answers { (files : LoadFiles) (file : Items ℕ) (state : State) → IsState ⟦<D as Disk>⟧ store.old disk.old state → files file ≡ Some bytes.now → is_large_file bytes.now ≡ false
+    ensures answers { (files : LoadFiles) (file : Items ℕ) (state : State) → IsState ⟦<D as Disk>⟧ store.old disk.old state → locked state table.now false ≡ None → files file ≡ Some bytes.now → is_large_file bytes.now ≡ false
         → Answers ⟦<D as Disk>⟧ files (Statement.Copy table.now file) store.new disk.old disk.new result state }
     ensures cause { HasCause StoreFault.Disk (D.faults disk.old) (D.faults disk.new) result }
 {
@@ -161,7 +163,8 @@ fn load_file<F: Files, D: Disk>(
     files: &mut F,
     disk: &mut D,
 ) -> Result<Answer, StepFault>
-    requires { table_place table.now (frame_of store.old).database.tables ≡ Some place }
+    requires place { table_place table.now (frame_of store.old).database.tables ≡ Some place }
+    requires free { locked (frame_of store.old) table.now false ≡ None }
     ensures steps { (text : Items ℕ) (there : LoadFiles) (state : State) → Spells (symbols_of text) (Statement.Copy table.now file.now) → F.content files.old ≡ Some there → IsState ⟦<D as Disk>⟧ store.old disk.old state
         → Steps ⟦<D as Disk>⟧ there text store.new disk.old disk.new result state }
     ensures content { F.content files.new ≡ F.content files.old }
@@ -205,7 +208,7 @@ pub fn copy<F: Files, D: Disk>(
     every_image_reopens::<D>();
     frames_are_of_the_state::<D>();
     early_refusals_stand();
-    match known_table(alloc, &store.frame(), table) {
+    match loadable_table(alloc, &store.frame(), table) {
         Ok(place) => load_file(alloc, store, table.as_slice(), place, file, files, disk),
         Err(fault) => of_text(in_memory(unplanned(alloc, fault))),
     }

@@ -16,7 +16,7 @@ use Rattle.store_step.specs.declared.answer.Answer.{Answer}
 use Rattle.store_step.specs.Arms.{Answers}
 use Rattle.store_step.specs.Texts.{Says}
 use Rattle.store_step.proofs.Answered.{event_answers, unmade}
-use Rattle.store_step.proofs.Copied.{copy_says, free, loaded_event, made_text, named}
+use Rattle.store_step.proofs.Copied.{copy_says, loaded_event, made_text, named}
 use Rattle.store_step.proofs.Doing.{store_short, store_unblamed}
 use Rattle.store_step.proofs.loading.commit_rows.Goals as goal
 
@@ -32,8 +32,7 @@ returns-clause-answers g c = λ files file bytes e state here loadable loads acc
     let s = Statement.Copy table file in
     let there = named table state.database.tables e loadable.found in
     let fit : All (RowFits e.1.columns) rows = c.loaded_rows_fit.ensures.fit e.1.columns bytes rows loads in
-    let unlocked = free state table rows accepted in
-    let pending : IsSound (rows_pending table rows state) = c.pending_rows_are_sound.ensures state table rows e.1 here.asked there fit unlocked here.sound in
+    let pending : IsSound (rows_pending table rows state) = c.pending_rows_are_sound.ensures state table rows e.1 here.asked there fit loadable.free here.sound in
     let loaded : IsSound (rows_loaded table rows state) = c.commits_of_a_session_are_sound.ensures (rows_pending table rows state) here.asked pending in
     let told : Says (made_text (length rows) r.seen.catalogue.last c.closes-commits.result) c.printed.result = record {
       text = c.printed.ensures.text ∙ c.in-Ok.ensures ∙ ap₂ (λ (n last : ℕ). made_text n last c.closes-commits.result) (ap (λ (rs : List (List Value)). length rs) c.as_slice-loaded.ensures.value) c.last.ensures;
@@ -44,4 +43,4 @@ returns-clause-answers g c = λ files file bytes e state here loadable loads acc
     subst (λ (o : Result Answer StoreFault). Answers g.D.Disk files s c.load.new.self c.args.disk.now c.load.new.disk o state) (sym c.in_store.ensures)
     (event_answers g.D.Disk Memory (λ fault. fault) r c.load.new.self c.load.result c.printed.result state files s (copy_text (rows_pending table rows state) (length rows)) (λ new. new ≡ rows_loaded table rows state) here
     (copy_says g.D.Disk r c.args.disk.now state c.printed.result table rows c.closes-commits.result here commits told) (loaded_event state files table file bytes e rows loadable loads accepted here.sound loaded)
-    store_short (store_unblamed c.load.result unblamed) c.load.ensures.same (c.load.ensures.does state e.1 here there fit unlocked))
+    store_short (store_unblamed c.load.result unblamed) c.load.ensures.same (c.load.ensures.does state e.1 here there fit loadable.free))

@@ -5,7 +5,7 @@ use Rattle.sql_tree.specs.declared.refusal.Refusal.{Refusal}
 use Rattle.sql_tree.specs.declared.statement.Statement.{Statement}
 use Rattle.sql_tree.specs.Spells.{Spells}
 use Rattle.sql_words.specs.Symbols.{symbols_of}
-use Rattle.db_model.specs.Refusals.{unknown_table_refusal}
+use Rattle.db_model.specs.Refusals.{copy_table_refusal}
 use Rattle.db_model.specs.State.{State}
 use Rattle.store_step.specs.declared.answer.Answer.{Answer}
 use Rattle.store_step.specs.declared.answer.StepFault.{StepFault}
@@ -24,7 +24,7 @@ returns-in-Err-clause-steps g c = λ text there state spelled told here.
     let r = c.args.store.now in
     let table = c.args.table.now in
     let s = Statement.Copy table c.args.file.now in
-    let same = ap (λ (f : State). unknown_table_refusal f table) c.frame.ensures ∙ c.frames_are_of_the_state.ensures.refusal c.args.disk.now r state s here in
+    let same = ap (λ (f : State). copy_table_refusal f table) c.frame.ensures ∙ c.frames_are_of_the_state.ensures.refusal c.args.disk.now r state s here in
     let early = subst (λ (o : Option Refusal). RefusesBy o c.in-Err.fault) same c.in-Err.ensures.refused in
     subst (λ (o : Result Answer StepFault). Steps g.D.Disk there text r c.args.disk.now c.args.disk.now o state) (sym c.of_text.ensures)
     (steps_of g.D.Disk there text s r c.in_memory.result state spelled

@@ -15,7 +15,7 @@ pub columns_of-requires : goal.columns_of-requires
 columns_of-requires g c = subst (λ (ts : List kept.Table). c.args.place < length ts) (sym c.tables.ensures) (is_within c.args.table.now c.args.store.now.seen.catalogue.tables c.args.place c.requires)
 
 pub returns-in-Err-clause-answers : goal.returns-in-Err-clause-answers
-returns-in-Err-clause-answers g c = λ files file state here held small.
+returns-in-Err-clause-answers g c = λ files file state here free held small.
     unmade g.D.Disk files _ c.args.store.now c.args.disk.now state here (c.every_image_reopens.ensures c.args.store.now.seen.catalogue c.args.store.now.seen.stores c.args.disk.now state.database here.database)
 
 pub load_rows-requires : goal.load_rows-requires
@@ -26,18 +26,18 @@ load_rows-requires g c =
     (subst (λ (cs : List LoadColumn). FileLoads cs c.args.bytes.now (FileLoad.Rows rows)) c.as_slice.ensures.value c.in-Ok-read.ensures.rows) c.loaded_rows_fit.ensures.rows
 
 pub returns-in-Ok-read-clause-answers : goal.returns-in-Ok-read-clause-answers
-returns-in-Ok-read-clause-answers g c = λ files file state here held small.
+returns-in-Ok-read-clause-answers g c = λ files file state here free held small.
     let r = c.args.store.now in
     let table = c.args.table.now in
     let bytes = c.args.bytes.now in
     let rows = c.in-Ok-read.rows.items in
     let same = c.rows_decide_nothing_here.ensures.columns (frame_of r) state table (c.frames_are_of_the_state.ensures.bare c.args.disk.now r state here) in
     let (e, found, columns) = columns_in r state table c.args.place c.tables.result.now c.in-Ok.columns.items c.tables.ensures c.requires c.in-Ok.ensures same in
-    c.load_rows.ensures.answers files file bytes e state here (record { found = found; held = held; small = small })
+    c.load_rows.ensures.answers files file bytes e state here (record { found = found; free = free; held = held; small = small })
     (subst (λ (cs : List LoadColumn). FileLoads cs bytes (FileLoad.Rows rows)) (c.as_slice.ensures.value ∙ columns) c.in-Ok-read.ensures.rows)
 
 pub returns-in-Err-Bad-clause-answers : goal.returns-in-Err-Bad-clause-answers
-returns-in-Err-Bad-clause-answers g c = λ files file state here held small.
+returns-in-Err-Bad-clause-answers g c = λ files file state here free held small.
     let r = c.args.store.now in
     let table = c.args.table.now in
     let bytes = c.args.bytes.now in
@@ -50,8 +50,8 @@ returns-in-Err-Bad-clause-answers g c = λ files file state here held small.
     let wrong = subst (λ (cs : List LoadColumn). FileLoads cs bytes (FileLoad.BadRecord line field)) (c.as_slice.ensures.value ∙ columns) bad in
     memory_answers g.D.Disk files s s r c.args.disk.now c.refused.result c.in_memory.result state refl c.in_memory.ensures here.sound.database (c.every_image_reopens.ensures r.seen.catalogue r.seen.stores c.args.disk.now state.database here.database)
     (refused_holds g.D.Disk files s r c.args.disk.now (Refusal.BadLoadLine line field) c.refused.result state c.refused.ensures
-    (decided_load state files table file bytes e (Load.Wrong line field) (Some (Refusal.BadLoadLine line field)) (record { found = found; held = held; small = small }) wrong refl) here)
+    (decided_load state files table file bytes e (Load.Wrong line field) (Some (Refusal.BadLoadLine line field)) (record { found = found; free = free; held = held; small = small }) wrong refl) here)
 
 pub returns-clause-answers : goal.returns-clause-answers
-returns-clause-answers g c = λ files file state here held small.
+returns-clause-answers g c = λ files file state here free held small.
     unmade g.D.Disk files _ c.args.store.now c.args.disk.now state here (c.every_image_reopens.ensures c.args.store.now.seen.catalogue c.args.store.now.seen.stores c.args.disk.now state.database here.database)
