@@ -2,7 +2,6 @@ use Rattle.std.specs.Vec.{vec_len, vec_capacity}
 use Rattle.std.proofs.Common.{◌≡◌, ◌++◌, ◌∷◌, [], true, List, ℕ, refl, sym, ◌∙◌, ap, subst, arith}
 use Rattle.col_disk.specs.declared.did.Did.{Did}
 use Rattle.col_disk.specs.declared.did.Did.TheVariants.{Placed, Wrote, Removed, Kept, Synced}
-use Rattle.std.specs.FinMap.{insert}
 use Rattle.col_disk.specs.Dids.{IsKept}
 use Rattle.col_disk.proofs.Keeping.{kept_more}
 use Rattle.col_disk.proofs.memory.MemDisk.put.Goals as goal
