@@ -1,7 +1,9 @@
 -- The numbers of what was put fit.
-use Rattle.std.proofs.Common.{◌≡◌, ℕ, ◌<◌, ◌≤◌, ◌+◌, ◌^◌, List, [], ◌∷◌, length, take, get_or, subst, take_all}
+use Rattle.std.proofs.Common.{◌≡◌, ℕ, ◌<◌, ◌≤◌, ◌+◌, ◌^◌, List, [], ◌∷◌, ◌++◌, length, take, get_or, sym, ap, ◌∙◌, subst, take_all, append_assoc}
 use Rattle.std.specs.Prelude.{Option, Some, None, IfSome}
-use Rattle.std.specs.List.{All, AllByRecursion}
+use Rattle.std.specs.List.{All, AllByRecursion, flat_map}
+use Rattle.std.proofs.lemmas.Grind.{flat_map-append}
+use Rattle.std.proofs.lemmas.List.{append-nil, take_more}
 use Rattle.std.proofs.lemmas.List.Elements.{All-more}
 use Rattle.catalog_types.proofs.Pairs.{all_cons}
 use Rattle.catalog_types.specs.declared.catalogue.Projection.{Projection}
@@ -11,6 +13,18 @@ use Rattle.catalog_types.specs.Valid.{IsValid}
 use Rattle.col_bytes.specs.Spellings.{FitsList}
 use Rattle.catalog_bytes.specs.Spelling.{FitsProjColumn, FitsColumn, FitsContainer, FitsProjection, FitsTable, Fits}
 use Rattle.catalog_bytes.specs.Put.{IsMarked, IsProjectionMarked, IsTableMarked, ContainerPut, ProjectionPut, TablePut}
+
+-- one part more is spelled
+pub spelled_on : {X : Type 0} (spell : X → List ℕ) (xs : List X) (i : ℕ) (x : X) (old mid new : List ℕ) → i < length xs → x ≡ get_or xs i x → mid ≡ old ++ flat_map spell (take i xs) → new ≡ mid ++ spell x
+    → new ≡ old ++ flat_map spell (take (i + 1) xs)
+spelled_on {X} spell xs i x old mid new lt is so_far put =
+    let step : take (i + 1) xs ≡ take i xs ++ x ∷ [] = subst (λ (y : X). take (i + 1) xs ≡ take i xs ++ y ∷ []) (sym is) (take_more xs i x lt) in
+    let split : flat_map spell (take (i + 1) xs) ≡ flat_map spell (take i xs) ++ spell x =
+    ap (flat_map spell) step ∙ flat_map-append spell (take i xs) (x ∷ []) ∙ ap (λ (s : List ℕ). flat_map spell (take i xs) ++ s) (append-nil (spell x)) in
+    put ∙ ap (λ (s : List ℕ). s ++ spell x) so_far ∙ append_assoc old (flat_map spell (take i xs)) (spell x) ∙ ap (λ (s : List ℕ). old ++ s) (sym split)
+
+pub spelled_all : {X : Type 0} (spell : X → List ℕ) (xs : List X) (i : ℕ) (old new : List ℕ) → length xs ≤ i → new ≡ old ++ flat_map spell (take i xs) → new ≡ old ++ flat_map spell xs
+spelled_all {X} spell xs i old new le so_far = so_far ∙ ap (λ (ys : List X). old ++ flat_map spell ys) (take_all i xs le)
 
 -- one part more
 pub puts_on : {X : Type 0} (P : X → Type 0) (xs : List X) (i : ℕ) (x : X) → i < length xs → x ≡ get_or xs i x → P x → All P (take i xs) → All P (take (i + 1) xs)

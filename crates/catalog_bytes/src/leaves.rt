@@ -6,7 +6,7 @@ ghost use Rattle.col_bytes.specs.Fronts.{vint_at, text_at};
 ghost use Rattle.catalog_bytes.specs.Spelling.{flag, kind, encoding, marks, FitsKind};
 ghost use Rattle.catalog_bytes.specs.Put.{MarksPut};
 ghost use Rattle.col_bytes.specs.Parts.{Gives};
-ghost use Rattle.catalog_bytes.specs.Fronts.{flag_at, narrow_at, kind_at, encoding_at, marks_at};
+ghost use Rattle.catalog_bytes.specs.Fronts.{flag_at, narrow_at, kind_at, encoding_at, marks_of, marks_at};
 
 use col_bytes::{Stop, put_text, put_vint, read_vint, take_text};
 use col_value::{ColType, Encoding, Name};
@@ -135,15 +135,17 @@ pub fn encoding_of(bytes: &[u8]) -> Result<(Encoding, &[u8]), Stop>
     }
 }
 
+fn marks_from(n: u64) -> Option<u64>
+    ensures { result ≡ marks_of n }
+{
+    if n == 0 { None } else { Some(n) }
+}
+
 pub fn marks_of(bytes: &[u8]) -> Result<(Option<u64>, &[u8]), Stop>
     ensures { Gives (λ x. (x.0, x.1.now)) result (marks_at bytes.now) }
 {
     let (n, rest) = read_vint(bytes)?;
-    if n == 0 {
-        Ok((None, rest))
-    } else {
-        Ok((Some(n), rest))
-    }
+    Ok((marks_from(n), rest))
 }
 
 pub fn name_of(alloc: Global, bytes: &[u8]) -> Result<(Name, &[u8]), Stop>

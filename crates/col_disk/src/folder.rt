@@ -81,11 +81,15 @@ impl<R: Files + Clone + Drop> Folder<R> {
     pub(crate) fn remove(&mut self, name: u64) -> Result<(), DiskFault> {
         self.settle()?;
         let path = self.path_of(name)?;
-        if self.size_at(path.as_str())?.is_none() {
+        self.remove_at(path.as_str())
+    }
+
+    fn remove_at(&mut self, path: &str) -> Result<(), DiskFault> {
+        if self.size_at(path)?.is_none() {
             return Ok(());
         }
         self.is_changed = true;
-        match fs::remove_file(&self.rt, path.as_str()) {
+        match fs::remove_file(&self.rt, path) {
             Ok(()) => Ok(()),
             Err(_) => Err(DiskFault::Failed),
         }
@@ -197,9 +201,14 @@ impl<R: Files + Clone + Drop> Folder<R> {
         if bytes.is_empty() {
             return Ok(());
         }
+        let mut file = self.open_at(path, at)?;
+        file.read_exact(bytes)
+    }
+
+    fn open_at(&self, path: &str, at: u64) -> io::Result<R::File> {
         let mut file = fs::open(&self.rt, path)?;
         file.seek(SeekFrom::Start(at))?;
-        file.read_exact(bytes)
+        Ok(file)
     }
 
     // the length of the file; None where no file is there
@@ -280,8 +289,14 @@ fn number_of(alloc: Global, text: &str) -> Result<Option<u64>, AllocError>
 fn is_spelling(alloc: Global, number: u64, text: &str) -> Result<bool, AllocError>
     ensures { IfOk result (λ b. IsTrue b ↔ (text.now ≡ decimal number)) }
 {
-    let spelled = format!(in alloc; "{number}")?;
+    let spelled = spelling(alloc, number)?;
     Ok(spelled.as_str() == text)
+}
+
+fn spelling(alloc: Global, number: u64) -> Result<String, AllocError>
+    ensures { IfOk result (λ s. string_bytes s ≡ decimal number) }
+{
+    format!(in alloc; "{number}")
 }
 
 fn fault_of(error: &io::Error) -> DiskFault {

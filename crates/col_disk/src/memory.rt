@@ -1,4 +1,4 @@
-ghost use Rattle.std.specs.Prelude.{◌⊎◌, ◌++◌, ◌∷◌, [], true, false, ◌≡◌, ◌==◌, ◌≤◌, ◌/◌, IsTrue, IfOk, OnOk, OnErr, IfErr, Some, length, take, drop};
+ghost use Rattle.std.specs.Prelude.{◌⊎◌, ◌++◌, ◌∷◌, [], true, false, ◌≡◌, ◌==◌, ◌≤◌, ◌+◌, ◌/◌, IsTrue, IfOk, OnOk, OnErr, IfErr, Some, length, take, drop, vec_len, vec_capacity};
 ghost use Rattle.std.specs.Option.{option_map};
 ghost use Rattle.std.specs.List.{list_any};
 ghost use Rattle.std.specs.FinMap.{get, insert, remove};
@@ -141,9 +141,7 @@ impl MemDisk {
         ensures err { OnErr result (self.new ≡ self.old) }
     {
         let kept = Blob::new(Vec::from_slice(self.alloc, bytes)?);
-        let blob = Blob::new(Vec::from_slice(self.alloc, bytes)?);
-        self.done.reserve(2)?;
-        self.held.put(name, blob)?;
+        hold(self.alloc, &mut self.held, &mut self.done, name, bytes)?;
         self.done.push_reserved(Did::Placed(name, kept));
         self.dirty = true;
         Ok(())
@@ -154,9 +152,7 @@ impl MemDisk {
         ensures err { OnErr result (self.new ≡ self.old) }
     {
         let kept = Blob::new(Vec::from_slice(self.alloc, bytes)?);
-        let blob = Blob::new(Vec::from_slice(self.alloc, bytes)?);
-        self.done.reserve(2)?;
-        self.held.put(name, blob)?;
+        hold(self.alloc, &mut self.held, &mut self.done, name, bytes)?;
         self.done.push_reserved(Did::Wrote(name, kept));
         self.changed = true;
         self.dirty = true;
@@ -198,6 +194,26 @@ impl MemDisk {
             self.dirty = false;
         }
     }
+}
+
+// the name holds the bytes, and there is room to note it
+fn hold(
+    alloc: Global,
+    held: &mut Held,
+    done: &mut Vec<Did>,
+    name: u64,
+    bytes: &[u8],
+) -> Result<(), AllocError>
+    ensures put { OnOk result (held.new ≡ insert held.old name bytes.now) }
+    ensures same { OnErr result (held.new ≡ held.old) }
+    ensures items { done.new.items ≡ done.old.items }
+    ensures len { vec_len done.new ≡ vec_len done.old }
+    ensures capacity { vec_capacity done.old ≤ vec_capacity done.new }
+    ensures room { OnOk result (vec_len done.new + 2 ≤ vec_capacity done.new) }
+{
+    let blob = Blob::new(Vec::from_slice(alloc, bytes)?);
+    done.reserve(2)?;
+    held.put(name, blob)
 }
 
 fn is_among(calls: &[u64], call: u64) -> bool

@@ -171,18 +171,36 @@ fn is_synced(did: &Did) -> bool
 fn note(written: &mut BTreeMap<u64, bool>, did: &Did) -> Result<(), AllocError> {
     match did {
         Did::Placed(name, _) => {
-            written.remove(name);
+            forget(written, *name);
+            Ok(())
         }
-        Did::Wrote(name, _) => {
-            written.insert(*name, true)?;
+        Did::Wrote(name, _) => note_as(written, *name, true),
+        Did::Removed(name) => note_gone(written, *name),
+        Did::Kept(name) => note_gone(written, *name),
+        Did::Synced => {
+            written.clear();
+            Ok(())
         }
-        Did::Removed(name) | Did::Kept(name) => {
-            let before = written.get(name).copied().unwrap_or(false);
-            written.insert(*name, before)?;
-        }
-        Did::Synced => written.clear(),
     }
+}
+
+fn forget(written: &mut BTreeMap<u64, bool>, name: u64) {
+    written.remove(&name);
+}
+
+fn note_as(
+    written: &mut BTreeMap<u64, bool>,
+    name: u64,
+    is_written: bool,
+) -> Result<(), AllocError> {
+    written.insert(name, is_written)?;
     Ok(())
+}
+
+// what was written and is gone counts as written
+fn note_gone(written: &mut BTreeMap<u64, bool>, name: u64) -> Result<(), AllocError> {
+    let before = written.get(&name).copied().unwrap_or(false);
+    note_as(written, name, before)
 }
 
 fn are_picks(names: &[Unsynced], picks: &[Keep]) -> bool {

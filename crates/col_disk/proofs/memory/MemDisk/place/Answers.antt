@@ -11,12 +11,12 @@ use Rattle.col_disk.proofs.memory.MemDisk.place.Goals as goal
 
 pub invariant_of-self-2 : goal.invariant_of-self-2
 invariant_of-self-2 c =
-    let items : c.push_reserved.new.self.items ≡ c.self.inside.done.items ++ Placed c.args.name c.args.bytes.now ∷ [] = c.push_reserved.ensures.items ∙ ap (λ (v : List ℕ). c.reserve.new.self.items ++ Placed c.args.name v ∷ []) (c.new-kept.ensures ∙ c.in_ok-from_slice.ensures.items) ∙ ap (λ (ds : List Did). ds ++ Placed c.args.name c.args.bytes.now ∷ []) c.in_ok-reserve.ensures.items in
-    subst (λ (ds : List Did). IsKept c.put.new.self ds true (vec_len c.push_reserved.new.self) (vec_capacity c.push_reserved.new.self)) (sym items)
-    (kept_more c.self.inside.held c.put.new.self c.self.inside.done.items (Placed c.args.name c.args.bytes.now) c.self.inside.dirty (vec_len c.self.inside.done) (vec_capacity c.self.inside.done) (vec_len c.push_reserved.new.self) (vec_capacity c.push_reserved.new.self) (c.in_ok-put.ensures.ok ∙ ap (λ (v : List ℕ). insert c.self.inside.held c.args.name v) (c.new-blob.ensures ∙ c.in_ok-from_slice-2.ensures.items))
-    (omega (arith, c.in_ok-reserve.ensures.ok, c.push_reserved.ensures.len, c.push_reserved.ensures.capacity)) c.self.invariant)
+    let items : c.push_reserved.new.self.items ≡ c.self.inside.done.items ++ Placed c.args.name c.args.bytes.now ∷ [] = c.push_reserved.ensures.items ∙ ap (λ (v : List ℕ). c.hold.new.done.items ++ Placed c.args.name v ∷ []) (c.new-kept.ensures ∙ c.in_ok-from_slice.ensures.items) ∙ ap (λ (ds : List Did). ds ++ Placed c.args.name c.args.bytes.now ∷ []) c.in_ok-hold.ensures.items in
+    subst (λ (ds : List Did). IsKept c.hold.new.held ds true (vec_len c.push_reserved.new.self) (vec_capacity c.push_reserved.new.self)) (sym items)
+    (kept_more c.self.inside.held c.hold.new.held c.self.inside.done.items (Placed c.args.name c.args.bytes.now) c.self.inside.dirty (vec_len c.self.inside.done) (vec_capacity c.self.inside.done) (vec_len c.push_reserved.new.self) (vec_capacity c.push_reserved.new.self) c.in_ok-hold.ensures.put
+    (omega (arith, c.in_ok-hold.ensures.room, c.push_reserved.ensures.len, c.push_reserved.ensures.capacity)) c.self.invariant)
 
 pub returns-clause-held : goal.returns-clause-held
 returns-clause-held c =
-    let items : c.push_reserved.new.self.items ≡ c.self.inside.done.items ++ Placed c.args.name c.args.bytes.now ∷ [] = c.push_reserved.ensures.items ∙ ap (λ (v : List ℕ). c.reserve.new.self.items ++ Placed c.args.name v ∷ []) (c.new-kept.ensures ∙ c.in_ok-from_slice.ensures.items) ∙ ap (λ (ds : List Did). ds ++ Placed c.args.name c.args.bytes.now ∷ []) c.in_ok-reserve.ensures.items in
+    let items : c.push_reserved.new.self.items ≡ c.self.inside.done.items ++ Placed c.args.name c.args.bytes.now ∷ [] = c.push_reserved.ensures.items ∙ ap (λ (v : List ℕ). c.hold.new.done.items ++ Placed c.args.name v ∷ []) (c.new-kept.ensures ∙ c.in_ok-from_slice.ensures.items) ∙ ap (λ (ds : List Did). ds ++ Placed c.args.name c.args.bytes.now ∷ []) c.in_ok-hold.ensures.items in
     ap contents_of items ∙ replayed_more empty c.self.inside.done.items (Placed c.args.name c.args.bytes.now) ∙ ap (λ (d : Memory). insert (held_by d) c.args.name c.args.bytes.now) c.self.view_is
