@@ -32,23 +32,24 @@ impl Tree {
     pub fn copy(&self, alloc: Global) -> Result<Tree, AllocError>
         ensures { IfOk result (λ t. t ≡ self.now) }
     {
-        match self {
-            Tree::Lit(value) => Ok(Tree::Lit(value.copy(alloc)?)),
-            Tree::Col(column) => Ok(Tree::Col(column.copy(alloc)?)),
-            Tree::Neg(part) => Ok(Tree::Neg(boxed_copy(alloc, part)?)),
-            Tree::Sum(terms) => Ok(Tree::Sum(terms_copy(alloc, terms.as_slice())?)),
-            Tree::Product(parts) => Ok(Tree::Product(trees_copy(alloc, parts.as_slice())?)),
+        let copied = match self {
+            Tree::Lit(value) => Tree::Lit(value.copy(alloc)?),
+            Tree::Col(column) => Tree::Col(column.copy(alloc)?),
+            Tree::Neg(part) => Tree::Neg(boxed_copy(alloc, part)?),
+            Tree::Sum(terms) => Tree::Sum(terms_copy(alloc, terms.as_slice())?),
+            Tree::Product(parts) => Tree::Product(trees_copy(alloc, parts.as_slice())?),
             Tree::Compare(left, cmp, right) => {
                 let left = boxed_copy(alloc, left)?;
-                Ok(Tree::Compare(left, *cmp, boxed_copy(alloc, right)?))
+                Tree::Compare(left, *cmp, boxed_copy(alloc, right)?)
             }
-            Tree::IsNull(part) => Ok(Tree::IsNull(boxed_copy(alloc, part)?)),
-            Tree::Not(part) => Ok(Tree::Not(boxed_copy(alloc, part)?)),
-            Tree::And(parts) => Ok(Tree::And(trees_copy(alloc, parts.as_slice())?)),
-            Tree::Or(parts) => Ok(Tree::Or(trees_copy(alloc, parts.as_slice())?)),
-            Tree::Agg(kind, Some(part)) => Ok(Tree::Agg(*kind, Some(boxed_copy(alloc, part)?))),
-            Tree::Agg(kind, None) => Ok(Tree::Agg(*kind, None)),
-        }
+            Tree::IsNull(part) => Tree::IsNull(boxed_copy(alloc, part)?),
+            Tree::Not(part) => Tree::Not(boxed_copy(alloc, part)?),
+            Tree::And(parts) => Tree::And(trees_copy(alloc, parts.as_slice())?),
+            Tree::Or(parts) => Tree::Or(trees_copy(alloc, parts.as_slice())?),
+            Tree::Agg(kind, Some(part)) => Tree::Agg(*kind, Some(boxed_copy(alloc, part)?)),
+            Tree::Agg(kind, None) => Tree::Agg(*kind, None),
+        };
+        Ok(copied)
     }
 }
 

@@ -1,4 +1,4 @@
-ghost use Rattle.std.specs.Prelude.{◌≡◌, false, ◌∷◌, map, IfOk};
+ghost use Rattle.std.specs.Prelude.{◌≡◌, false, [], ◌∷◌, map, IfOk};
 ghost use Rattle.std.specs.List.{list_any};
 ghost use Rattle.sql_tree.specs.Makers.{constant, column, negated, denied, is_null, compared, between, equals, one_of, chained, addend, term, summed, aggregated, count_all};
 
@@ -75,12 +75,8 @@ impl Part {
     pub fn between(self, alloc: Global, low: Part, high: Part) -> Result<Part, AllocError>
         ensures { IfOk result (λ p. p ≡ between self low high) }
     {
-        let once_more = self.tree.copy(alloc)?;
-        let mut both = Vec::with_capacity(alloc, 2)?;
-        both.push(compare(alloc, self.tree, Cmp::Ge, low.tree)?)?;
-        both.push(compare(alloc, once_more, Cmp::Le, high.tree)?)?;
         Ok(Part {
-            tree: Tree::And(List::new(both)),
+            tree: within(alloc, self.tree, low.tree, high.tree)?,
             holds: true,
         })
     }
@@ -186,6 +182,31 @@ fn compare(alloc: Global, left: Tree, cmp: Cmp, right: Tree) -> Result<Tree, All
     Ok(Tree::Compare(left, cmp, Boxed::new(alloc, right)?))
 }
 
+/// `left cmp right`, of a left that is wanted once more
+fn compare_again(alloc: Global, left: &Tree, cmp: Cmp, right: Tree) -> Result<Tree, AllocError>
+    ensures { IfOk result (λ t. t ≡ Tree.Compare left.now cmp right) }
+{
+    let left = left.copy(alloc)?;
+    compare(alloc, left, cmp, right)
+}
+
+/// `left AND right`
+fn pair(alloc: Global, left: Tree, right: Tree) -> Result<Tree, AllocError>
+    ensures { IfOk result (λ t. t ≡ Tree.And (left ∷ (right ∷ []))) }
+{
+    let both = Vec::from_array(alloc, [left, right])?;
+    Ok(Tree::And(List::new(both)))
+}
+
+/// `part >= low AND part <= high`
+fn within(alloc: Global, part: Tree, low: Tree, high: Tree) -> Result<Tree, AllocError>
+    ensures { IfOk result (λ t. t ≡ Tree.And (Tree.Compare part Cmp.Ge low ∷ (Tree.Compare part Cmp.Le high ∷ []))) }
+{
+    let upper = compare_again(alloc, &part, Cmp::Le, high)?;
+    let lower = compare(alloc, part, Cmp::Ge, low)?;
+    pair(alloc, lower, upper)
+}
+
 /// The trees of the parts, in order.
 fn trees(alloc: Global, first: Part, more: List<Part>) -> Result<Vec<Tree>, AllocError>
     ensures { IfOk result (λ ts. ts.items ≡ map (λ p. p.tree) (first ∷ more)) }
@@ -250,9 +271,9 @@ fn equals_each(
     ensures { IfOk result (λ ts. ts ≡ map (equals part.now) (first ∷ more)) }
 {
     let mut out = Vec::new(alloc);
-    out.push(compare(alloc, part.tree.copy(alloc)?, Cmp::Eq, first.tree)?)?;
+    out.push(compare_again(alloc, &part.tree, Cmp::Eq, first.tree)?)?;
     for other in more.into_vec() {
-        out.push(compare(alloc, part.tree.copy(alloc)?, Cmp::Eq, other.tree)?)?;
+        out.push(compare_again(alloc, &part.tree, Cmp::Eq, other.tree)?)?;
     }
     Ok(List::new(out))
 }
