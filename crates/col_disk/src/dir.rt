@@ -32,7 +32,9 @@ use std::rt::Files;
 ///   it was written, and what an earlier process left before the first change. So the contents are all that a crash can
 ///   leave. It never succeeds after a write, a removal or a sync that failed, since a machine tells a failed sync once
 ///   and may then forget the bytes.
-/// - **Reading and listing change nothing**, but that the first call makes the folder.
+/// - **Reading and listing change nothing**, but that the first call makes the folder. Files that were read stay open, with their length and
+///   what was read ahead of what was asked for, until a file is written or removed or a call fails: no other program writes into the
+///   folder, so that is what the file holds.
 ///
 /// It takes from the operating system that a file's sync answers Ok only after the file's bytes and length last, that a
 /// folder's sync answers Ok only after its entries last, that a crash leaves of a file or an entry that wasn't touched

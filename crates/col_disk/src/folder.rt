@@ -3,9 +3,10 @@ ghost use Rattle.std.specs.Fmt.{decimal};
 ghost use Rattle.col_disk.specs.Folder.{IsNumberOf};
 
 use crate::DiskFault;
+use crate::opened::OpenedFiles;
 use std::alloc::{AllocError, Global};
 use std::fs::{DirEntry, OpenFile};
-use std::io::{ErrorKind, Read, Seek, SeekFrom, Write};
+use std::io::{ErrorKind, Write};
 use std::path::Path;
 use std::rt::Files;
 use std::{fs, io};
@@ -18,6 +19,8 @@ pub(crate) struct Folder<R: Files + Clone + Drop> {
     is_made: bool,
     // how many folders of the path, from the last one up, were absent before they were made
     absent: usize,
+    // the files that were read last; none behind a write, a removal, a listing or a failed read
+    opened: OpenedFiles<R::File>,
     // what an earlier process left has been synced
     is_settled: bool,
     // an entry may have come or gone since the last sync
@@ -33,6 +36,7 @@ impl<R: Files + Clone + Drop> Folder<R> {
             path: String::from_str(alloc, path)?,
             is_made: false,
             absent: 0,
+            opened: OpenedFiles::new(alloc),
             is_settled: false,
             is_changed: false,
             is_broken: false,
@@ -41,8 +45,13 @@ impl<R: Files + Clone + Drop> Folder<R> {
 
     pub(crate) fn size(&mut self, name: u64) -> Result<Option<u64>, DiskFault> {
         self.make()?;
-        let path = self.path_of(name)?;
-        self.size_at(path.as_str())
+        match self.opened.size(name) {
+            Some(size) => Ok(Some(size)),
+            None => {
+                let path = self.path_of(name)?;
+                self.size_at(path.as_str())
+            }
+        }
     }
 
     pub(crate) fn read(
@@ -53,23 +62,48 @@ impl<R: Files + Clone + Drop> Folder<R> {
         len: usize,
     ) -> Result<Option<Vec<u8>>, DiskFault> {
         self.make()?;
-        let path = self.path_of(name)?;
-        match self.size_at(path.as_str())? {
-            Some(size) => {
-                let count = size.saturating_sub(at).min(len as u64);
-                let mut bytes = vec![in alloc; 0u8; count as usize]?;
-                match self.read_at(path.as_str(), at, &mut bytes) {
-                    Ok(()) => Ok(Some(bytes)),
-                    Err(error) => Err(fault_of(&error)),
-                }
+        if !self.open(name)? {
+            return Ok(None);
+        }
+        match self.opened.read(alloc, name, at, len) {
+            Ok(bytes) => Ok(bytes),
+            Err(error) => {
+                self.opened.close();
+                Err(fault_of(&error))
             }
-            None => Ok(None),
+        }
+    }
+
+    // Opens the file of a name for reading, unless it is open; whether it is there. Where too many files are open on the machine, those
+    // of this folder are closed first.
+    fn open(&mut self, name: u64) -> Result<bool, DiskFault> {
+        if self.opened.size(name).is_some() {
+            return Ok(true);
+        }
+        let path = self.path_of(name)?;
+        let Some(size) = self.size_at(path.as_str())? else {
+            return Ok(false);
+        };
+        let file = match fs::open(&self.rt, path.as_str()) {
+            Ok(file) => file,
+            Err(_) => self.open_alone(path.as_str())?,
+        };
+        self.opened.keep(self.rt.1, name, file, size)?;
+        Ok(true)
+    }
+
+    fn open_alone(&mut self, path: &str) -> Result<R::File, DiskFault> {
+        self.opened.close();
+        match fs::open(&self.rt, path) {
+            Ok(file) => Ok(file),
+            Err(error) => Err(fault_of(&error)),
         }
     }
 
     /// Replaces the file, and syncs it.
     pub(crate) fn write(&mut self, name: u64, bytes: &[u8]) -> Result<(), DiskFault> {
         self.settle()?;
+        self.opened.close();
         let path = self.path_of(name)?;
         self.is_changed = true;
         match self.replace(path.as_str(), bytes) {
@@ -80,6 +114,7 @@ impl<R: Files + Clone + Drop> Folder<R> {
 
     pub(crate) fn remove(&mut self, name: u64) -> Result<(), DiskFault> {
         self.settle()?;
+        self.opened.close();
         let path = self.path_of(name)?;
         self.remove_at(path.as_str())
     }
@@ -98,6 +133,7 @@ impl<R: Files + Clone + Drop> Folder<R> {
     /// The names, in ascending order.
     pub(crate) fn names(&mut self, alloc: Global) -> Result<Vec<u64>, DiskFault> {
         self.make()?;
+        self.opened.close();
         let listing = match fs::read_dir(&self.rt, self.path.as_str()) {
             Ok(listing) => listing,
             Err(error) => return Err(fault_of(&error)),
@@ -195,20 +231,6 @@ impl<R: Files + Clone + Drop> Folder<R> {
         let mut file = fs::create(&self.rt, path)?;
         file.write_all(bytes)?;
         file.sync_all()
-    }
-
-    fn read_at(&self, path: &str, at: u64, bytes: &mut [u8]) -> io::Result<()> {
-        if bytes.is_empty() {
-            return Ok(());
-        }
-        let mut file = self.open_at(path, at)?;
-        file.read_exact(bytes)
-    }
-
-    fn open_at(&self, path: &str, at: u64) -> io::Result<R::File> {
-        let mut file = fs::open(&self.rt, path)?;
-        file.seek(SeekFrom::Start(at))?;
-        Ok(file)
     }
 
     // the length of the file; None where no file is there

@@ -13,6 +13,7 @@ mod disk;
 mod folder;
 mod held;
 mod memory;
+mod opened;
 mod whole;
 
 pub use common_laws::Blob;
