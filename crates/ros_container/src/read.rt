@@ -13,8 +13,8 @@ ghost use Rattle.ros_container.specs.Files.{body_of, index_of};
 ghost use Rattle.ros_container.specs.Held.{HoldsContainer, BlamesContainer, HoldsNoRows};
 ghost use Rattle.ros_container.specs.Rows.{epoch_values, AreRows, AreWide, AreWithin};
 
-use crate::files::{body_of, index_of};
 use crate::encodings::encoding_of;
+use crate::files::{body_of, index_of};
 use crate::transpose::{blank_rows, with_values};
 use catalog_types::{Container, Projection};
 use col_disk::{Disk, StoreFault};

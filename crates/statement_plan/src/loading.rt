@@ -14,11 +14,7 @@ use sql_tree::Refusal;
 use std::alloc::Global;
 
 /// The place of a table that a load file is for: it has to be there, with no other session in the way.
-pub fn loadable_table(
-    alloc: Global,
-    frame: &Frame<'_>,
-    name: &Name,
-) -> Result<usize, BindFault>
+pub fn loadable_table(alloc: Global, frame: &Frame<'_>, name: &Name) -> Result<usize, BindFault>
     ensures planned { IfOk result (λ place. (option_map (λ e. e.0) (table_found name.now frame.now.database.tables) ≡ Some place) × (copy_table_refusal frame.now name.now ≡ None)) }
     ensures free { OnOk result (locked frame.now name.now false ≡ None) }
     ensures refused { IfErr result (RefusesBy (copy_table_refusal frame.now name.now)) }
