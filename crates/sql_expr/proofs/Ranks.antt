@@ -10,5 +10,5 @@ floor false depth = 40 * depth
 abbrev pub rank_of : Level → ℕ
 rank_of Level.Factors = 4
 rank_of Level.Choices = 10
-rank_of Level.Conjuncts = 17
-rank_of Level.Disjuncts = 20
+rank_of Level.Conjuncts = 18
+rank_of Level.Disjuncts = 21

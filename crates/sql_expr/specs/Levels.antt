@@ -4,6 +4,8 @@ use Rattle.sql_words.specs.declared.token.Key.{Key}
 use Rattle.sql_words.specs.declared.token.Sign.{Sign}
 use Rattle.sql_words.specs.Symbols.{Symbol}
 use Rattle.sql_tree.specs.declared.part.Part.{Part}
+use Rattle.sql_tree.specs.Makers.{between}
+use Rattle.sql_phrases.specs.Readings.{both, nothing}
 use Rattle.sql_phrases.specs.Classes.{is_key, is_sign}
 use Rattle.sql_phrases.specs.Readers.{Reads, word, glyph, unary, sum, negation, conjunction, atom, leaf}
 use Rattle.sql_expr.specs.declared.level.Level.{Level}
@@ -26,3 +28,7 @@ next_part Level.Disjuncts p = word Key.Or (conjunction p)
 abbrev pub leaf_of : Bool → ℕ → Reads Part
 leaf_of true depth = leaf depth
 leaf_of false depth = atom
+
+-- the upper bound of a BETWEEN, behind the part and the lower bound
+abbrev pub upper : Reads Part → Part → Part → Reads Part
+upper p x y = word Key.And (both (sum p) (λ z. nothing (between x y z)))

@@ -78,8 +78,13 @@ fn conjunction(
     ensures { Gives result tokens.new (conjunction (base grouped depth) tokens.old) }
 {
     let first = negation(alloc, tokens, grouped, depth)?;
-    let others = more(alloc, tokens, grouped, depth, Level::Conjuncts)?;
-    Ok(first.and(alloc, others)?)
+    match more(alloc, tokens, grouped, depth, Level::Conjuncts) {
+        Ok(others) => Ok(first.and(alloc, others)?),
+        Err(stop) => {
+            drop(first);
+            Err(stop)
+        }
+    }
 }
 
 /// `conj {OR conj}`
@@ -89,6 +94,11 @@ pub fn over(alloc: Global, tokens: &mut Tokens<'_>, grouped: bool, depth: u32) -
     ensures { Gives result tokens.new (over (base grouped depth) tokens.old) }
 {
     let first = conjunction(alloc, tokens, grouped, depth)?;
-    let others = more(alloc, tokens, grouped, depth, Level::Disjuncts)?;
-    Ok(first.or(alloc, others)?)
+    match more(alloc, tokens, grouped, depth, Level::Disjuncts) {
+        Ok(others) => Ok(first.or(alloc, others)?),
+        Err(stop) => {
+            drop(first);
+            Err(stop)
+        }
+    }
 }

@@ -1,5 +1,9 @@
 ghost use Rattle.sql_phrases.specs.Gives.{Gives};
-ghost use Rattle.sql_phrases.specs.Readers.{named_constant, a_constant, literal, qualified, reference, atom, null_test};
+ghost use Rattle.sql_words.specs.declared.token.Key.TheVariants.{Not, Null};
+ghost use Rattle.sql_words.specs.declared.token.Sign.TheVariants.{Close};
+ghost use Rattle.sql_tree.specs.Makers.{denied, is_null};
+ghost use Rattle.sql_phrases.specs.Readings.{nothing};
+ghost use Rattle.sql_phrases.specs.Readers.{word, glyph, named_constant, a_constant, literal, qualified, reference, atom, null_test};
 
 use col_value::{Name, Wide};
 use sql_phrases::{Stop, Tokens};
@@ -94,18 +98,62 @@ pub fn atom(alloc: Global, tokens: &mut Tokens<'_>) -> Result<Part, Stop>
     Ok(Part::constant(value))
 }
 
+/// `NULL`, behind `part IS`
+#[tactic(auto, unfolding(sql_phrases::specs::Readings::mark, sql_phrases::specs::Readings::both, sql_phrases::specs::Readings::nothing))]
+fn null(alloc: Global, tokens: &mut Tokens<'_>, part: Part) -> Result<Part, Stop>
+    ensures { Gives result tokens.new (word Null (nothing (is_null part)) tokens.old) }
+{
+    match tokens.key(Key::Null) {
+        Ok(()) => Ok(part.is_null(alloc)?),
+        Err(stop) => {
+            drop(part);
+            Err(stop)
+        }
+    }
+}
+
+/// `NOT NULL`, behind `part IS`
+#[tactic(auto, unfolding(sql_phrases::specs::Readings::mark, sql_phrases::specs::Readings::both, sql_phrases::specs::Readings::nothing))]
+fn not_null(alloc: Global, tokens: &mut Tokens<'_>, part: Part) -> Result<Part, Stop>
+    ensures { Gives result tokens.new (word Not (word Null (nothing (denied (is_null part)))) tokens.old) }
+{
+    if let Err(stop) = tokens.key(Key::Not) {
+        drop(part);
+        return Err(stop);
+    }
+    if let Err(stop) = tokens.key(Key::Null) {
+        drop(part);
+        return Err(stop);
+    }
+    let test = part.is_null(alloc)?;
+    Ok(test.denied(alloc)?)
+}
+
 /// `IS [NOT] NULL`, behind its part
 #[tactic(auto, unfolding(sql_phrases::specs::Readings::choose, sql_phrases::specs::Readings::mark, sql_phrases::specs::Readings::both, sql_phrases::specs::Readings::nothing, sql_phrases::specs::Readers::null_test))]
 pub fn null_test(alloc: Global, tokens: &mut Tokens<'_>, part: Part) -> Result<Part, Stop>
     ensures { Gives result tokens.new (null_test part tokens.old) }
 {
-    tokens.key(Key::Is)?;
-    if tokens.begins_key(Key::Not) {
-        tokens.key(Key::Not)?;
-        tokens.key(Key::Null)?;
-        let test = part.is_null(alloc)?;
-        return Ok(test.denied(alloc)?);
+    if let Err(stop) = tokens.key(Key::Is) {
+        drop(part);
+        return Err(stop);
     }
-    tokens.key(Key::Null)?;
-    Ok(part.is_null(alloc)?)
+    if tokens.begins_key(Key::Not) {
+        return not_null(alloc, tokens, part);
+    }
+    null(alloc, tokens, part)
+}
+
+/// `)`, behind its part
+#[tactic(auto, unfolding(sql_phrases::specs::Readings::mark, sql_phrases::specs::Readings::both, sql_phrases::specs::Readings::nothing))]
+pub fn closed(tokens: &mut Tokens<'_>, part: Part) -> Result<Part, Stop>
+    ensures { Gives result tokens.new (glyph Close (nothing part) tokens.old) }
+{
+    match tokens.sign(Sign::Close) {
+        Ok(()) => Ok(part),
+        Err(stop) => {
+            drop(part);
+            Err(stop)
+        }
+    }
 }

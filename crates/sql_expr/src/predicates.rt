@@ -1,8 +1,11 @@
 ghost use Rattle.sql_phrases.specs.Gives.{Gives};
-ghost use Rattle.sql_phrases.specs.Readers.{base, comparison, betweens, among, ranged, tail, predicate, negation};
+ghost use Rattle.sql_words.specs.declared.token.Sign.TheVariants.{Comma};
+ghost use Rattle.sql_tree.specs.Makers.{one_of};
+ghost use Rattle.sql_phrases.specs.Readers.{base, by_glyph, sum, comparison, betweens, among, ranged, tail, predicate, negation};
+ghost use Rattle.sql_expr.specs.Levels.{upper};
 
 use crate::chains::more;
-use crate::leaves::null_test;
+use crate::leaves::{closed, null_test};
 use crate::level::Level;
 use crate::sums::sum;
 use sql_phrases::{Stop, Tokens};
@@ -22,14 +25,53 @@ fn comparison(
 ) -> Result<Part, Stop>
     ensures { Gives result tokens.new (comparison (base grouped depth) part tokens.old) }
 {
-    let cmp = tokens.cmp()?;
-    let other = sum(alloc, tokens, grouped, depth)?;
-    Ok(part.compared(alloc, cmp, other)?)
+    let cmp = match tokens.cmp() {
+        Ok(cmp) => cmp,
+        Err(stop) => {
+            drop(part);
+            return Err(stop);
+        }
+    };
+    match sum(alloc, tokens, grouped, depth) {
+        Ok(other) => Ok(part.compared(alloc, cmp, other)?),
+        Err(stop) => {
+            drop(part);
+            Err(stop)
+        }
+    }
+}
+
+/// `AND sum`, behind `part BETWEEN low`
+#[cycle(read)]
+#[tactic(auto, unfolding(sql_phrases::specs::Readings::mark, sql_phrases::specs::Readings::both, sql_phrases::specs::Readings::nothing))]
+fn upper(
+    alloc: Global,
+    tokens: &mut Tokens<'_>,
+    grouped: bool,
+    depth: u32,
+    part: Part,
+    low: Part,
+) -> Result<Part, Stop>
+    ensures { Gives result tokens.new (upper (base grouped depth) part low tokens.old) }
+{
+    if let Err(stop) = tokens.key(Key::And) {
+        drop(part);
+        drop(low);
+        return Err(stop);
+    }
+    match sum(alloc, tokens, grouped, depth) {
+        Ok(high) => Ok(part.between(alloc, low, high)?),
+        Err(stop) => {
+            drop(part);
+            drop(low);
+            Err(stop)
+        }
+    }
 }
 
 /// `BETWEEN sum AND sum`, behind its part
 #[cycle(read)]
-#[tactic(auto, unfolding(sql_phrases::specs::Readings::mark, sql_phrases::specs::Readings::both, sql_phrases::specs::Readings::nothing, sql_phrases::specs::Readers::betweens))]
+#[tactic(auto, unfolding(sql_phrases::specs::Readings::mark, sql_phrases::specs::Readings::both, sql_phrases::specs::Readers::betweens))]
 fn betweens(
     alloc: Global,
     tokens: &mut Tokens<'_>,
@@ -39,16 +81,51 @@ fn betweens(
 ) -> Result<Part, Stop>
     ensures { Gives result tokens.new (betweens (base grouped depth) part tokens.old) }
 {
-    tokens.key(Key::Between)?;
-    let low = sum(alloc, tokens, grouped, depth)?;
-    tokens.key(Key::And)?;
-    let high = sum(alloc, tokens, grouped, depth)?;
-    Ok(part.between(alloc, low, high)?)
+    if let Err(stop) = tokens.key(Key::Between) {
+        drop(part);
+        return Err(stop);
+    }
+    match sum(alloc, tokens, grouped, depth) {
+        Ok(low) => upper(alloc, tokens, grouped, depth, part, low),
+        Err(stop) => {
+            drop(part);
+            Err(stop)
+        }
+    }
+}
+
+/// `sum {, sum}`, behind `part IN (`
+#[cycle(read)]
+#[tactic(auto, unfolding(sql_phrases::specs::Readings::both, sql_phrases::specs::Readings::nothing, sql_phrases::specs::Readers::by_glyph))]
+fn choices(
+    alloc: Global,
+    tokens: &mut Tokens<'_>,
+    grouped: bool,
+    depth: u32,
+    part: Part,
+) -> Result<Part, Stop>
+    ensures { Gives result tokens.new (by_glyph Comma (sum (base grouped depth)) (one_of part) tokens.old) }
+{
+    let first = match sum(alloc, tokens, grouped, depth) {
+        Ok(first) => first,
+        Err(stop) => {
+            drop(part);
+            return Err(stop);
+        }
+    };
+    match more(alloc, tokens, grouped, depth, Level::Choices) {
+        Ok(others) => Ok(part.one_of(alloc, first, others)?),
+        Err(stop) => {
+            drop(part);
+            drop(first);
+            Err(stop)
+        }
+    }
 }
 
 /// `IN ( sum {, sum} )`, behind its part
 #[cycle(read)]
-#[tactic(auto, unfolding(sql_phrases::specs::Readings::mark, sql_phrases::specs::Readings::both, sql_phrases::specs::Readings::nothing, sql_phrases::specs::Readers::among, sql_phrases::specs::Readers::inside, sql_phrases::specs::Readers::by_glyph))]
+#[tactic(auto, unfolding(sql_phrases::specs::Readings::mark, sql_phrases::specs::Readings::both, sql_phrases::specs::Readings::nothing, sql_phrases::specs::Readers::among, sql_phrases::specs::Readers::inside))]
 fn among(
     alloc: Global,
     tokens: &mut Tokens<'_>,
@@ -58,12 +135,16 @@ fn among(
 ) -> Result<Part, Stop>
     ensures { Gives result tokens.new (among (base grouped depth) part tokens.old) }
 {
-    tokens.key(Key::In)?;
-    tokens.sign(Sign::Open)?;
-    let first = sum(alloc, tokens, grouped, depth)?;
-    let others = more(alloc, tokens, grouped, depth, Level::Choices)?;
-    tokens.sign(Sign::Close)?;
-    Ok(part.one_of(alloc, first, others)?)
+    if let Err(stop) = tokens.key(Key::In) {
+        drop(part);
+        return Err(stop);
+    }
+    if let Err(stop) = tokens.sign(Sign::Open) {
+        drop(part);
+        return Err(stop);
+    }
+    let test = choices(alloc, tokens, grouped, depth, part)?;
+    closed(tokens, test)
 }
 
 /// `[BETWEEN sum AND sum | IN ( sum {, sum} )]`, behind its part, which may hold none of either
@@ -80,12 +161,14 @@ fn ranged(
 {
     if tokens.begins_key(Key::Between) {
         if part.holds {
+            drop(part);
             return Err(Stop::Here);
         }
         return betweens(alloc, tokens, grouped, depth, part);
     }
     if tokens.begins_key(Key::In) {
         if part.holds {
+            drop(part);
             return Err(Stop::Here);
         }
         return among(alloc, tokens, grouped, depth, part);

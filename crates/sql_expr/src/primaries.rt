@@ -4,7 +4,7 @@ ghost use Rattle.sql_phrases.specs.Readers.{base, over, inside, argument, counte
 ghost use Rattle.sql_expr.specs.Levels.{leaf_of};
 
 use crate::chains::over;
-use crate::leaves::atom;
+use crate::leaves::{atom, closed};
 use sql_phrases::{Stop, Tokens};
 use sql_tree::{AggKind, Part};
 use sql_words::{Key, Sign};
@@ -23,8 +23,7 @@ fn parenthesis(
 {
     tokens.sign(Sign::Open)?;
     let part = over(alloc, tokens, grouped, depth)?;
-    tokens.sign(Sign::Close)?;
-    Ok(part)
+    closed(tokens, part)
 }
 
 /// `( expr )`, of an aggregate
@@ -50,8 +49,8 @@ fn counted(alloc: Global, tokens: &mut Tokens<'_>, depth: u32) -> Result<Part, S
         return Ok(Part::count_all());
     }
     let part = over(alloc, tokens, false, depth)?;
-    tokens.sign(Sign::Close)?;
-    Ok(part.aggregated(alloc, AggKind::Count)?)
+    let count = part.aggregated(alloc, AggKind::Count)?;
+    closed(tokens, count)
 }
 
 /// `COUNT ( * ) | (COUNT | SUM | MIN | MAX) ( expr )`

@@ -38,8 +38,13 @@ fn product(alloc: Global, tokens: &mut Tokens<'_>, grouped: bool, depth: u32) ->
     ensures { Gives result tokens.new (product (base grouped depth) tokens.old) }
 {
     let first = unary(alloc, tokens, grouped, depth)?;
-    let others = more(alloc, tokens, grouped, depth, Level::Factors)?;
-    Ok(first.times(alloc, others)?)
+    match more(alloc, tokens, grouped, depth, Level::Factors) {
+        Ok(others) => Ok(first.times(alloc, others)?),
+        Err(stop) => {
+            drop(first);
+            Err(stop)
+        }
+    }
 }
 
 /// `(+ | -) product`
@@ -86,6 +91,11 @@ pub fn sum(alloc: Global, tokens: &mut Tokens<'_>, grouped: bool, depth: u32) ->
     ensures { Gives result tokens.new (sum (base grouped depth) tokens.old) }
 {
     let first = product(alloc, tokens, grouped, depth)?;
-    let others = addends(alloc, tokens, grouped, depth)?;
-    Ok(first.plus(alloc, others)?)
+    match addends(alloc, tokens, grouped, depth) {
+        Ok(others) => Ok(first.plus(alloc, others)?),
+        Err(stop) => {
+            drop(first);
+            Err(stop)
+        }
+    }
 }

@@ -28,43 +28,49 @@ abbrev pub decreases-sums::sum : goal.decreases-sums::sum
 decreases-sums::sum l = floor l.grouped l.depth + 9
 
 abbrev pub decreases-predicates::among : goal.decreases-predicates::among
-decreases-predicates::among l = floor l.grouped l.depth + 12
+decreases-predicates::among l = floor l.grouped l.depth + 13
 
 abbrev pub decreases-predicates::betweens : goal.decreases-predicates::betweens
-decreases-predicates::betweens l = floor l.grouped l.depth + 12
+decreases-predicates::betweens l = floor l.grouped l.depth + 13
+
+abbrev pub decreases-predicates::choices : goal.decreases-predicates::choices
+decreases-predicates::choices l = floor l.grouped l.depth + 12
+
+abbrev pub decreases-predicates::upper : goal.decreases-predicates::upper
+decreases-predicates::upper l = floor l.grouped l.depth + 12
 
 abbrev pub decreases-predicates::comparison : goal.decreases-predicates::comparison
-decreases-predicates::comparison l = floor l.grouped l.depth + 12
+decreases-predicates::comparison l = floor l.grouped l.depth + 13
 
 abbrev pub decreases-predicates::ranged : goal.decreases-predicates::ranged
-decreases-predicates::ranged l = floor l.grouped l.depth + 13
+decreases-predicates::ranged l = floor l.grouped l.depth + 14
 
 abbrev pub decreases-predicates::tail : goal.decreases-predicates::tail
-decreases-predicates::tail l = floor l.grouped l.depth + 14
+decreases-predicates::tail l = floor l.grouped l.depth + 15
 
 abbrev pub decreases-predicates::predicate : goal.decreases-predicates::predicate
-decreases-predicates::predicate l = floor l.grouped l.depth + 15
+decreases-predicates::predicate l = floor l.grouped l.depth + 16
 
 abbrev pub decreases-predicates::negation : goal.decreases-predicates::negation
-decreases-predicates::negation l = floor l.grouped l.depth + 16
+decreases-predicates::negation l = floor l.grouped l.depth + 17
 
 abbrev pub decreases-chains::conjunction : goal.decreases-chains::conjunction
-decreases-chains::conjunction l = floor l.grouped l.depth + 19
+decreases-chains::conjunction l = floor l.grouped l.depth + 20
 
 abbrev pub decreases-chains::over : goal.decreases-chains::over
-decreases-chains::over l = floor l.grouped l.depth + 22
+decreases-chains::over l = floor l.grouped l.depth + 23
 
 abbrev pub decreases-primaries::parenthesis : goal.decreases-primaries::parenthesis
-decreases-primaries::parenthesis l = floor l.grouped l.depth + 23
+decreases-primaries::parenthesis l = floor l.grouped l.depth + 24
 
 abbrev pub decreases-primaries::counted : goal.decreases-primaries::counted
-decreases-primaries::counted l = 40 * l.depth + 24
+decreases-primaries::counted l = 40 * l.depth + 25
 
 abbrev pub decreases-primaries::argument : goal.decreases-primaries::argument
-decreases-primaries::argument l = 40 * l.depth + 24
+decreases-primaries::argument l = 40 * l.depth + 25
 
 abbrev pub decreases-primaries::aggregate : goal.decreases-primaries::aggregate
-decreases-primaries::aggregate l = 40 * l.depth + 25
+decreases-primaries::aggregate l = 40 * l.depth + 26
 
 abbrev pub decreases-chains::next_part : goal.decreases-chains::next_part
 decreases-chains::next_part l = floor l.grouped l.depth + rank_of l.level
