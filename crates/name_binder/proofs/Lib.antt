@@ -3,3 +3,4 @@ pub mod Parts
 pub mod Sights
 pub mod Walks
 pub mod Theres
+pub mod Aggregates

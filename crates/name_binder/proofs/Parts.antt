@@ -1,22 +1,26 @@
 -- The first place of a query: what stands before its ORDER BY, and then the keys.
-use Rattle.std.proofs.Common.{◌≡◌, refl, sym, ap, ◌∙◌, ℕ, List, [], ◌∷◌, Option, None, Some, arith}
+use Rattle.std.proofs.Common.{◌≡◌, refl, sym, ap, ◌∙◌, subst, ℕ, List, [], ◌∷◌, Option, None, Some, arith}
 use Rattle.std.specs.List.{All}
 use Rattle.std.proofs.lemmas.List.Elements.{All-cons}
 use Rattle.col_value.specs.declared.column.Column.{Column}
 use Rattle.sql_tree.specs.declared.query.Query.{Query}
 use Rattle.sql_tree.specs.declared.query.SortKey.{SortKey}
+use Rattle.sql_tree.specs.declared.refusal.Refusal.{Refusal}
+use Rattle.std.specs.Prelude.{option_map}
 use Rattle.sql_binding.specs.Firsts.{first_of, first_given}
 use Rattle.sql_binding.specs.Sight.{Seen}
 use Rattle.sql_binding.specs.Search.{Search, shown, whole_rows, first_in_query, first_in_items, first_in_sources, first_in_condition, first_in_group}
 use Rattle.sql_binding.specs.Outputs.{output_names, unknown_key, twice_named}
 use Rattle.sql_binding.specs.Queries.{table_search, column_search, twice_search, unknown_table, unknown_column, ambiguous_name}
 use Rattle.name_binder.specs.Looks.{first_before_order}
+use Rattle.name_binder.specs.Refusing.{RefusesBy}
+use Rattle.name_binder.specs.declared.fault.BindFault.{BindFault}
 
 pub first_of_both : {X : Type 0} (a b c : Option X) → first_of (first_of a b) c ≡ first_of a (first_of b c)
 first_of_both None b c = refl
 first_of_both (Some x) b c = refl
 
-first_of_none : {X : Type 0} (a : Option X) → first_of a None ≡ a
+pub first_of_none : {X : Type 0} (a : Option X) → first_of a None ≡ a
 first_of_none None = refl
 first_of_none (Some x) = refl
 
@@ -68,3 +72,16 @@ pub known_keys : (seen : List Seen) (q : Query) → unknown_column seen q ≡ No
 known_keys seen q e =
     let f = λ (k : SortKey). unknown_key (output_names seen q.items) k.key in
     given_nowhere f q.order (neither (first_before_order (column_search seen q) q) (first_given f q.order) (sym (columns_before_order seen q) ∙ e)).1
+
+first_refused : (why : List ℕ → Refusal) (a b : Option (List ℕ)) (f : BindFault) → RefusesBy (option_map why a) f → RefusesBy (option_map why (first_of a b)) f
+first_refused why a b BindFault.Memory h = tt
+first_refused why None b (BindFault.Refused r) h = cc
+first_refused why (Some n) b (BindFault.Refused r) h = h
+
+-- what is refused before ORDER BY is refused
+pub refused_before : (why : List ℕ → Refusal) (a b name : Option (List ℕ)) (f : BindFault) → name ≡ first_of a b → RefusesBy (option_map why a) f → RefusesBy (option_map why name) f
+refused_before why a b name f e h = subst (λ (n : Option (List ℕ)). RefusesBy (option_map why n) f) (sym e) (first_refused why a b f h)
+
+-- where nothing is refused before ORDER BY, it is the key that is
+pub behind_order : (a b name key : Option (List ℕ)) → name ≡ first_of a b → a ≡ None → key ≡ b → name ≡ key
+behind_order a b name key e n k = e ∙ (ap (λ (x : Option (List ℕ)). first_of x b) n ∙ sym k)

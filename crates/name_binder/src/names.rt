@@ -4,7 +4,8 @@ ghost use Rattle.std.specs.List.{All};
 ghost use Rattle.sql_tree.specs.declared.refusal.Refusal.{Refusal};
 ghost use Rattle.sql_binding.specs.Outputs.{output_names, unknown_key};
 ghost use Rattle.sql_binding.specs.Queries.{name_refusal, unknown_table, unknown_column, ambiguous_name, columns_of};
-ghost use Rattle.name_binder.specs.Refusing.{RefusesBy};
+ghost use Rattle.name_binder.specs.Looks.{looks, first_before_order};
+ghost use Rattle.name_binder.specs.Refusing.{RefusesBy, refusal_named};
 ghost use Rattle.name_binder.specs.Tables.{columns_found};
 
 use crate::keys::{first_twice, first_unknown};
@@ -26,9 +27,34 @@ pub fn check_tables(
     ensures ok { OnOk result (unknown_table (columns_found found.now) query.now ≡ None) }
     ensures refused { IfErr result (RefusesBy (option_map Refusal.UnknownTable (unknown_table (columns_found found.now) query.now))) }
 {
-    match first_before_order(Look::Tables(found, query.sources.as_slice()), query) {
+    let look = Look::Tables(found, query.sources.as_slice());
+    check_before_order(alloc, Naming::UnknownTable, look, query)
+}
+
+/// Refuses what is found before ORDER BY.
+fn check_before_order(
+    alloc: Global,
+    naming: Naming,
+    look: Look<'_>,
+    query: &Query,
+) -> Result<(), BindFault>
+    ensures ok { OnOk result (first_before_order (looks look.entry) query.now ≡ None) }
+    ensures refused { IfErr result (RefusesBy (option_map (refusal_named naming) (first_before_order (looks look.entry) query.now))) }
+{
+    match first_before_order(look, query) {
         None => Ok(()),
-        Some(name) => Err(Naming::UnknownTable.refuse(alloc, name)),
+        Some(name) => Err(naming.refuse(alloc, name)),
+    }
+}
+
+/// Refuses a key of ORDER BY, where there is one to refuse.
+fn check_key(alloc: Global, naming: Naming, key: Option<Name>) -> Result<(), BindFault>
+    ensures ok { OnOk result (key ≡ None) }
+    ensures refused { IfErr result (RefusesBy (option_map (refusal_named naming) key)) }
+{
+    match key {
+        None => Ok(()),
+        Some(name) => Err(naming.refuse(alloc, name.as_slice())),
     }
 }
 
@@ -68,7 +94,6 @@ pub fn check_names(
 }
 
 /// Refuses a column or a key that names nothing.
-#[tactic(auto, using(crate::proofs::Parts::columns_before_order))]
 pub fn check_columns(
     alloc: Global,
     seen: &[SeenColumn<'_>],
@@ -79,17 +104,13 @@ pub fn check_columns(
     ensures ok { OnOk result (unknown_column seen.now query.now ≡ None) }
     ensures refused { IfErr result (RefusesBy (option_map Refusal.UnknownColumn (unknown_column seen.now query.now))) }
 {
-    if let Some(name) = first_before_order(Look::Columns(seen, query), query) {
-        return Err(Naming::UnknownColumn.refuse(alloc, name));
-    }
-    match first_unknown(alloc, outputs, query.order.as_slice())? {
-        None => Ok(()),
-        Some(name) => Err(Naming::UnknownColumn.refuse(alloc, name.as_slice())),
-    }
+    let naming = Naming::UnknownColumn;
+    check_before_order(alloc, naming, Look::Columns(seen, query), query)?;
+    let key = first_unknown(alloc, outputs, query.order.as_slice())?;
+    check_key(alloc, naming, key)
 }
 
 /// Refuses a name that fits twice.
-#[tactic(auto, using(crate::proofs::Parts::twice_before_order))]
 pub fn check_twice(
     alloc: Global,
     seen: &[SeenColumn<'_>],
@@ -100,11 +121,8 @@ pub fn check_twice(
     ensures ok { OnOk result (ambiguous_name seen.now query.now ≡ None) }
     ensures refused { IfErr result (RefusesBy (option_map Refusal.Ambiguous (ambiguous_name seen.now query.now))) }
 {
-    if let Some(name) = first_before_order(Look::Twice(seen, query), query) {
-        return Err(Naming::Ambiguous.refuse(alloc, name));
-    }
-    match first_twice(alloc, outputs, query.order.as_slice())? {
-        None => Ok(()),
-        Some(name) => Err(Naming::Ambiguous.refuse(alloc, name.as_slice())),
-    }
+    let naming = Naming::Ambiguous;
+    check_before_order(alloc, naming, Look::Twice(seen, query), query)?;
+    let key = first_twice(alloc, outputs, query.order.as_slice())?;
+    check_key(alloc, naming, key)
 }

@@ -1,4 +1,4 @@
-ghost use Rattle.std.specs.Prelude.{◌≡◌, ◌++◌, IfOk, OnOk, map};
+ghost use Rattle.std.specs.Prelude.{◌≡◌, ◌++◌, ◌∷◌, [], IfOk, OnOk, map};
 ghost use Rattle.sql_binding.specs.Queries.{columns_of};
 ghost use Rattle.sql_binding.specs.Sight.{item_name, seen_as, sight};
 ghost use Rattle.name_binder.specs.Tables.{tables_found};
@@ -27,12 +27,19 @@ pub(crate) fn tables_found<'a>(
 {
     let mut out = Vec::with_capacity(alloc, found.len())?;
     for item in found {
-        let Some(table) = item else {
-            continue;
-        };
-        out.push(table.again())?;
+        push_found(item, &mut out)?;
     }
     Ok(out)
+}
+
+/// Appends the table, where it was found.
+fn push_found<'a>(item: &Option<Found<'a>>, out: &mut Vec<Found<'a>>) -> Result<(), AllocError>
+    ensures { OnOk result (out.new.items ≡ out.old.items ++ tables_found (item.now ∷ [])) }
+{
+    if let Some(table) = item {
+        out.push(table.again())?;
+    }
+    Ok(())
 }
 
 /// The columns that the FROM items bring into sight, in order.
