@@ -1,10 +1,10 @@
-use Rattle.std.proofs.Common.{◌≡◌, ap, ap₂, ◌∙◌, ◌+◌, ◌++◌, [], ◌∷◌, List, length, drop, map}
+use Rattle.std.proofs.Common.{ap, ap₂, ◌∙◌, ◌+◌, ◌++◌, [], ◌∷◌, List, length, drop, map}
 use Rattle.sql_tree.specs.declared.tree.Term.{Term}
 use Rattle.sql_tree.specs.declared.tree.Tree.{Tree}
 use Rattle.sql_bound.specs.declared.expr.BoundTerm.{BoundTerm}
 use Rattle.sql_bound.specs.declared.expr.Expr.{Expr}
 use Rattle.sql_bound.specs.declared.query.Aggregate.{Aggregate}
-use Rattle.sql_binding.specs.Trees.{Bound, bound, bound_term, groups_of, all_aggs}
+use Rattle.sql_binding.specs.Trees.{bound, bound_term, groups_of, all_aggs}
 use Rattle.statement_binder.specs.Scopes.{scope_of}
 use Rattle.statement_binder.proofs.Growing.{group_more, aggs_more}
 use Rattle.statement_binder.proofs.group_trees.+groups.Goals as goal

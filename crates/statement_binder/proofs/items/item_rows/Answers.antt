@@ -1,4 +1,4 @@
-use Rattle.std.proofs.Common.{◌≡◌, ap, ◌∙◌, ◌++◌, [], ◌∷◌}
+use Rattle.std.proofs.Common.{ap, ◌∙◌, ◌++◌, [], ◌∷◌}
 use Rattle.sql_tree.specs.declared.query.Item.{Item}
 use Rattle.sql_bound.specs.declared.expr.Expr.{Expr}
 use Rattle.sql_binding.specs.Trees.{bound}

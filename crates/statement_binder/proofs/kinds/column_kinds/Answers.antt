@@ -1,4 +1,4 @@
-use Rattle.std.proofs.Common.{◌≡◌, ap, ◌∙◌, ◌++◌, ℕ, [], ◌∷◌, List, rules}
+use Rattle.std.proofs.Common.{ap, ◌∙◌, ◌++◌, [], ◌∷◌}
 use Rattle.sql_bound.specs.declared.expr.Kind.{Kind}
 use Rattle.sql_bound.specs.Kinds.{kind_of_column}
 use Rattle.sql_binding.specs.Sight.{Seen}

@@ -1,4 +1,4 @@
-use Rattle.std.proofs.Common.{◌≡◌, ap, ◌∙◌, ◌++◌, ℕ, [], ◌∷◌, List, rules}
+use Rattle.std.proofs.Common.{ap, ◌∙◌, ◌++◌, ℕ, [], ◌∷◌}
 use Rattle.sql_bound.specs.Bounds.{bound_of_aggregate}
 use Rattle.sql_bound.specs.declared.query.Aggregate.{Aggregate}
 use Rattle.expr_check.specs.Capped.{capped}

@@ -1,4 +1,4 @@
-use Rattle.std.proofs.Common.{◌≡◌, ap, ◌∙◌, ◌++◌, ℕ, [], ◌∷◌, List, rules}
+use Rattle.std.proofs.Common.{ap, ◌∙◌, ◌++◌, ℕ, [], ◌∷◌}
 use Rattle.sql_tree.specs.declared.tree.ColRef.{ColRef}
 use Rattle.sql_binding.specs.Sight.{place_of}
 use Rattle.statement_binder.proofs.Growing.{value_more}
