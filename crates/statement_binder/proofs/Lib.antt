@@ -4,3 +4,4 @@ pub mod Factored
 pub mod Refused
 pub mod Scoped
 pub mod Stars
+pub mod Growing

@@ -1,11 +1,10 @@
 -- What `*` stands for over rows and over groups.
-use Rattle.std.proofs.Common.{◌≡◌, refl, ap, ℕ, ◌+◌, List, [], ◌∷◌, length, map}
+use Rattle.std.proofs.Common.{◌≡◌, refl, ap, ℕ, ◌+◌, List, [], ◌∷◌, map}
 use Rattle.std.specs.List.{enumerate_from}
 use Rattle.std.specs.Prelude.{Result, Ok, Err, OnOk}
 use Rattle.sql_tree.specs.declared.query.Items.{Items}
 use Rattle.sql_bound.specs.declared.expr.Expr.{Expr}
 use Rattle.sql_bound.specs.declared.expr.Expr as expr
-use Rattle.sql_bound.specs.declared.query.Aggregate.{Aggregate}
 use Rattle.sql_binding.specs.Sight.{Seen}
 use Rattle.sql_binding.specs.Trees.{Scope, Bound, bound_column, rows_of, groups_of, all_aggs, key_of}
 use Rattle.statement_binder.specs.Scopes.{items_in}

@@ -5,14 +5,18 @@ use Rattle.col_value.specs.declared.column.Column.{Column}
 use Rattle.sql_tree.specs.declared.query.Items.{Items}
 use Rattle.sql_tree.specs.declared.query.Query.{Query}
 use Rattle.sql_tree.specs.declared.query.Source.{Source}
+use Rattle.sql_tree.specs.declared.tree.AggKind.{AggKind}
 use Rattle.sql_tree.specs.declared.tree.Tree.{Tree}
 use Rattle.sql_bound.specs.declared.expr.Expr.{Expr}
+use Rattle.sql_bound.specs.declared.query.Aggregate.{Aggregate}
 use Rattle.sql_bound.specs.declared.query.BoundQuery.{BoundQuery}
 use Rattle.sql_binding.specs.Conjuncts.{condition_members}
 use Rattle.sql_binding.specs.Outputs.{bound_order}
 use Rattle.sql_binding.specs.Queries.{bound_sources, aggs_of_having}
 use Rattle.sql_binding.specs.Trees as trees
 use Rattle.sql_binding.specs.Trees.{Bound, bound, bound_column, rows_of, groups_of, all_aggs}
+use Rattle.statement_binder.specs.declared.queries.Base.{Base}
+use Rattle.statement_binder.specs.declared.queries.Shown.{Shown}
 use Rattle.statement_binder.specs.declared.scope.Scope.{Scope}
 
 -- where names are looked up
@@ -61,3 +65,23 @@ groups_query s tables outputs q = record {
   order = bound_order outputs q.order;
   limit = q.limit;
 }
+
+-- what both have, and what one over groups has alone
+abbrev pub base_in : trees.Scope → List (ℕ × List Column) → List (Option (List ℕ)) → Query → Base
+base_in s tables outputs q = record {
+  sources = bound_sources 0 tables;
+  keep = kept_in s q;
+  order = bound_order outputs q.order;
+}
+
+abbrev pub shown_in : trees.Scope → Query → Shown
+shown_in s q = record {
+  keys = s.keys;
+  aggs = all_aggs (items_in s q.items) ++ aggs_of_having (having_in s q);
+  items = groups_of (items_in s q.items) 0;
+  having = option_map (λ b. b.group (length (all_aggs (items_in s q.items)))) (having_in s q);
+}
+
+-- an aggregate over rows
+abbrev pub aggregate_in : trees.Scope → AggKind → Option Tree → Aggregate
+aggregate_in s kind arg = record { kind = kind; arg = option_map (λ t. (bound s t).row) arg }

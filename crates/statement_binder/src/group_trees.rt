@@ -1,7 +1,7 @@
 ghost use Rattle.std.specs.Prelude.{◌≡◌, ◌++◌, ◌∷◌, [], length, map, IfOk, OnOk};
 ghost use Rattle.sql_bound.specs.declared.expr.Expr as expr;
 ghost use Rattle.sql_binding.specs.Trees.{bound, bound_term, groups_of, all_aggs};
-ghost use Rattle.statement_binder.specs.Scopes.{scope_of};
+ghost use Rattle.statement_binder.specs.Scopes.{scope_of, aggregate_in};
 
 use crate::Scope;
 use crate::row_trees::bind_row;
@@ -41,11 +41,27 @@ pub(crate) fn bind_group(
         Tree::Not(part) => Ok(Expr::Not(boxed_group(alloc, scope, part.get(), aggs)?)),
         Tree::And(parts) => Ok(Expr::And(bind_groups(alloc, scope, parts.as_slice(), aggs)?)),
         Tree::Or(parts) => Ok(Expr::Or(bind_groups(alloc, scope, parts.as_slice(), aggs)?)),
-        Tree::Agg(kind, Some(part)) => {
+        Tree::Agg(kind, arg) => bind_aggregate(alloc, scope, *kind, arg, aggs),
+    }
+}
+
+/// Appends an aggregate over rows, and names it by its number.
+fn bind_aggregate(
+    alloc: Global,
+    scope: Scope<'_>,
+    kind: AggKind,
+    arg: &Option<Boxed<Tree>>,
+    aggs: &mut Vec<Aggregate>,
+) -> Result<Expr, AllocError>
+    ensures tree { IfOk result (λ e. e ≡ expr.Agg (length aggs.old.items)) }
+    ensures aggs { OnOk result (aggs.new.items ≡ aggs.old.items ++ (aggregate_in (scope_of scope.entry) kind arg.now ∷ [])) }
+{
+    match arg {
+        None => push_aggregate(kind, None, aggs),
+        Some(part) => {
             let arg = bind_row(alloc, scope, part.get())?;
-            push_aggregate(*kind, Some(arg), aggs)
+            push_aggregate(kind, Some(arg), aggs)
         }
-        Tree::Agg(kind, None) => push_aggregate(*kind, None, aggs),
     }
 }
 

@@ -1,4 +1,4 @@
-ghost use Rattle.std.specs.Prelude.{◌≡◌, [], length, IfOk, IfErr, OnOk, map, not, None, Err};
+ghost use Rattle.std.specs.Prelude.{◌≡◌, [], true, false, length, IfOk, IfErr, OnOk, map, not, None, Err};
 ghost use Rattle.std.specs.List.{All};
 ghost use Rattle.sql_tree.specs.declared.refusal.Refusal.{Refusal};
 ghost use Rattle.sql_binding.specs.Firsts.{refused_where};
@@ -8,7 +8,7 @@ ghost use Rattle.name_binder.specs.Refusing.{RefusesBy};
 ghost use Rattle.name_binder.specs.Tables.{columns_found};
 ghost use Rattle.sql_binding.specs.Sight.{place_of};
 ghost use Rattle.statement_binder.specs.Answers.{IsBoundQuery, later_refusal, seen_refusal};
-ghost use Rattle.statement_binder.specs.Scopes.{scope_of, rows_query, groups_query};
+ghost use Rattle.statement_binder.specs.Scopes.{scope_of, rows_query, groups_query, base_in, shown_in};
 
 use crate::Scope;
 use crate::items::{bind_group_items, bind_having, bind_row_items};
@@ -21,7 +21,7 @@ use name_binder::{
     BindFault, Found, SeenColumn, bind_order, check_names, find_tables, is_grouped, output_names,
     place_of, sight,
 };
-use sql_bound::BoundQuery;
+use sql_bound::{Aggregate, BoundQuery, Expr, FromItem};
 use sql_tree::{ColRef, Query, Refusal, Which};
 use std::alloc::{AllocError, Global};
 
@@ -152,6 +152,23 @@ fn bind_in(
     }
 }
 
+/// What a query has over rows and over groups alike.
+#[derive(Drop)]
+struct Base {
+    sources: List<FromItem>,
+    keep: List<Expr>,
+    order: List<(usize, bool)>,
+}
+
+/// What a query has over groups alone: its keys, and what it shows with the aggregates that stand in it.
+#[derive(Drop)]
+struct Shown {
+    keys: List<usize>,
+    aggs: List<Aggregate>,
+    items: List<Expr>,
+    having: Option<Expr>,
+}
+
 fn over_rows(
     alloc: Global,
     scope: Scope<'_>,
@@ -162,17 +179,9 @@ fn over_rows(
     requires { All (λ k. unknown_key outputs.now k.key ≡ None) query.now.order }
     ensures { IfOk result (λ b. b ≡ rows_query (scope_of scope.entry) tables.now outputs.now query.now) }
 {
-    Ok(BoundQuery {
-        sources: bind_sources(alloc, tables)?,
-        keep: bind_keep(alloc, scope, query)?,
-        grouped: false,
-        keys: List::new(Vec::new(alloc)),
-        aggs: List::new(Vec::new(alloc)),
-        having: None,
-        items: bind_row_items(alloc, scope, &query.items)?,
-        order: bind_order(alloc, outputs, query.order.as_slice())?,
-        limit: query.limit,
-    })
+    let items = bind_row_items(alloc, scope, &query.items)?;
+    let base = bind_base(alloc, scope, outputs, tables, query)?;
+    Ok(with_rows(alloc, base, items, query.limit))
 }
 
 fn over_groups(
@@ -185,24 +194,94 @@ fn over_groups(
     requires { All (λ k. unknown_key outputs.now k.key ≡ None) query.now.order }
     ensures { IfOk result (λ b. b ≡ groups_query (scope_of scope.entry) tables.now outputs.now query.now) }
 {
+    let shown = bind_shown(alloc, scope, query)?;
+    let base = bind_base(alloc, scope, outputs, tables, query)?;
+    Ok(with_groups(base, shown, query.limit))
+}
+
+fn bind_base(
+    alloc: Global,
+    scope: Scope<'_>,
+    outputs: &[Option<Name>],
+    tables: &[Found<'_>],
+    query: &Query,
+) -> Result<Base, AllocError>
+    requires { All (λ k. unknown_key outputs.now k.key ≡ None) query.now.order }
+    ensures { IfOk result (λ b. b ≡ base_in (scope_of scope.entry) tables.now outputs.now query.now) }
+{
     let sources = bind_sources(alloc, tables)?;
     let keep = bind_keep(alloc, scope, query)?;
+    let order = bind_order(alloc, outputs, query.order.as_slice())?;
+    Ok(Base {
+        sources,
+        keep,
+        order,
+    })
+}
+
+fn bind_shown(alloc: Global, scope: Scope<'_>, query: &Query) -> Result<Shown, AllocError>
+    ensures { IfOk result (λ s. s ≡ shown_in (scope_of scope.entry) query.now) }
+{
     let keys = Vec::from_slice(alloc, scope.keys)?;
     let mut aggs = Vec::new(alloc);
     let items = bind_group_items(alloc, scope, &query.items, &mut aggs)?;
     let having = bind_having(alloc, scope, query, &mut aggs)?;
-    let order = bind_order(alloc, outputs, query.order.as_slice())?;
-    Ok(BoundQuery {
+    Ok(Shown {
+        keys: List::new(keys),
+        aggs: List::new(aggs),
+        items,
+        having,
+    })
+}
+
+/// The query over rows that has these items.
+fn with_rows(alloc: Global, base: Base, items: List<Expr>, limit: Option<u128>) -> BoundQuery
+    ensures { result ≡ record { sources = base.sources; keep = base.keep; grouped = false; keys = []; aggs = []; having = None; items = items; order = base.order; limit = limit } }
+{
+    let Base {
+        sources,
+        keep,
+        order,
+    } = base;
+    BoundQuery {
+        sources,
+        keep,
+        grouped: false,
+        keys: List::new(Vec::new(alloc)),
+        aggs: List::new(Vec::new(alloc)),
+        having: None,
+        items,
+        order,
+        limit,
+    }
+}
+
+/// The query over groups that shows this.
+fn with_groups(base: Base, shown: Shown, limit: Option<u128>) -> BoundQuery
+    ensures { result ≡ record { sources = base.sources; keep = base.keep; grouped = true; keys = shown.keys; aggs = shown.aggs; having = shown.having; items = shown.items; order = base.order; limit = limit } }
+{
+    let Base {
+        sources,
+        keep,
+        order,
+    } = base;
+    let Shown {
+        keys,
+        aggs,
+        items,
+        having,
+    } = shown;
+    BoundQuery {
         sources,
         keep,
         grouped: true,
-        keys: List::new(keys),
-        aggs: List::new(aggs),
+        keys,
+        aggs,
         having,
         items,
         order,
-        limit: query.limit,
-    })
+        limit,
+    }
 }
 
 /// The columns of GROUP BY by their places.

@@ -1,4 +1,4 @@
-use Rattle.std.proofs.Common.{◌≡◌, ap, ◌∙◌, ℕ, ◌+◌, ◌++◌, [], ◌∷◌, List, drop}
+use Rattle.std.proofs.Common.{ap, ◌∙◌, ℕ, ◌+◌, ◌++◌, [], ◌∷◌, List, drop}
 use Rattle.std.proofs.lemmas.List.{append_assoc}
 use Rattle.col_value.specs.declared.column.Column.{Column}
 use Rattle.name_binder.specs.Tables.{tables_found}

@@ -1,4 +1,4 @@
-use Rattle.std.proofs.Common.{◌≡◌, sym, ◌∙◌, subst, rules, true, false}
+use Rattle.std.proofs.Common.{◌≡◌, subst, rules, true, false}
 use Rattle.std.specs.Result.{IfOk}
 use Rattle.sql_bound.specs.declared.query.BoundQuery.{BoundQuery}
 use Rattle.sql_binding.specs.Uses.{is_grouped}

@@ -1,4 +1,4 @@
-use Rattle.std.proofs.Common.{◌≡◌, sym, ap, ◌∙◌, subst, ℕ, List, Option, None}
+use Rattle.std.proofs.Common.{◌≡◌, ap, ◌∙◌, subst, List, None}
 use Rattle.std.specs.Result.{IfOk, IfErr, OnOk}
 use Rattle.sql_tree.specs.declared.query.Source.{Source}
 use Rattle.sql_binding.specs.Sight.{Seen, sight}

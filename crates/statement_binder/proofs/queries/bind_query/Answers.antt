@@ -1,4 +1,4 @@
-use Rattle.std.proofs.Common.{◌≡◌, sym, ap, ◌∙◌, ℕ, List, Option, Some}
+use Rattle.std.proofs.Common.{sym, ap, ◌∙◌, ℕ, List, Some}
 use Rattle.col_value.specs.declared.column.Column.{Column}
 use Rattle.sql_binding.specs.Queries.{columns_of}
 use Rattle.statement_binder.proofs.Refused.{whole, refused_whole}

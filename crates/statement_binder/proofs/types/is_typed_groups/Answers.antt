@@ -1,4 +1,4 @@
-use Rattle.std.proofs.Common.{◌≡◌, ap, ap₂, ◌∙◌, ℕ, List, [], map}
+use Rattle.std.proofs.Common.{ap, ap₂, ◌∙◌, ℕ, List, map}
 use Rattle.std.specs.List.{slice_index_or}
 use Rattle.sql_bound.specs.declared.expr.Kind.{Kind}
 use Rattle.sql_bound.specs.declared.query.Aggregate.{Aggregate}
