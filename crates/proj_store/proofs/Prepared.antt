@@ -1,6 +1,6 @@
 -- Places of rows in memory, and of a whole projection.
 use Rattle.std.proofs.Common.{◌≡◌, ◌<◌, ℕ, zero, suc, List, [], ◌∷◌, ◌++◌, length, map, get_or, refl, sym, ◌∙◌, ap, subst, arith}
-use Rattle.std.specs.Prelude.{None}
+use Rattle.std.specs.Prelude.{Option, None, Some}
 use Rattle.std.specs.List.{All, AllZip}
 use Rattle.std.proofs.lemmas.List.{length-map}
 use Rattle.common_laws.specs.Maps.{Contents}
@@ -17,7 +17,7 @@ use Rattle.wanted_rows.specs.Taking.{asked_of as asked_in}
 use Rattle.proj_store.specs.declared.kept.Kept.{Kept}
 use Rattle.proj_store.specs.Loaded.{Loaded, beside_of, room_of, projected, seen}
 use Rattle.proj_store.specs.Sound.{IsSound, IsKept}
-use Rattle.proj_store.specs.Marking.{Places, places, all_marked, PicksEach, IsPrepared, del_of, ArePlaces, HasRoom, CanMark}
+use Rattle.proj_store.specs.Marking.{Places, places, all_marked, PicksEach, Finds, IsPrepared, del_of, ArePlaces, HasRoom, CanMark}
 use Rattle.proj_store.proofs.Picking.{picks_agree}
 use Rattle.proj_store.proofs.Inside.{kept_marked}
 
@@ -63,6 +63,18 @@ can_mark_seen entry new memory each slice ps held mid left inside same room rows
   room = subst (λ (r : List (List ℕ)). AllZip HasRoom r (map room_of new)) same room;
   unsaved = picks_live memory.rows ps mid left (picks_unsaved held memory.rows ps mid left rows picks);
 }
+
+pub found_prepared : (m : Contents) (holds : Option Contents) (entry : Projection) (kept inside : List Kept) (memory : InMemory) (p : Loaded) (held : List Held) (wanted : List Asked) (found ready : Places)
+    → kept ≡ inside → seen entry inside memory ≡ p → map stamp held ≡ memory.rows → holds ≡ Some m → Finds holds entry (map beside_of kept) held wanted found → ready ≡ found → IsPrepared m p.stored wanted ready
+found_prepared m holds entry kept inside memory p held wanted found ready same view rows told finds is =
+    subst (IsPrepared m p.stored wanted) (sym is)
+    (prepared_seen m entry kept inside memory p wanted found.each found.unsaved held finds.need finds.picks.mid finds.left same view finds.starts (finds.picks.containers m told) rows finds.picks.unsaved)
+
+pub found_can_mark : (holds : Option Contents) (entry : Projection) (kept new : List Kept) (memory : InMemory) (held : List Held) (wanted : List Asked) (found ready : Places) → AllZip ArePlaces entry.containers found.each
+    → AllZip HasRoom found.each (map room_of new) → map stamp held ≡ memory.rows → Finds holds entry (map beside_of kept) held wanted found → ready ≡ found → CanMark ready (seen entry new memory)
+found_can_mark holds entry kept new memory held wanted found ready inside room rows finds is =
+    subst (λ (r : Places). CanMark r (seen entry new memory)) (sym is)
+    (can_mark_seen entry new memory found.each found.each found.unsaved held finds.picks.mid finds.left inside refl room rows finds.picks.unsaved)
 
 -- marks leave it sound
 pub sound_marked : (epoch : ℕ) (entry : Projection) (kept new : List Kept) (memory : InMemory) (p : Loaded) (each slice : List (List ℕ)) (ps : List ℕ) (ready : Places) → seen entry kept memory ≡ p → places each ps ≡ ready → slice ≡ each

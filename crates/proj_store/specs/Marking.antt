@@ -1,18 +1,20 @@
 -- Places of a projection's rows that a commit deletes.
-use Rattle.std.specs.Prelude.{ℕ, ◌≡◌, ◌<◌, ◌≤◌, ◌++◌, List, [], ◌∷◌, length, map, get_or, Option, None}
+use Rattle.std.specs.Prelude.{ℕ, ◌≡◌, ◌<◌, ◌≤◌, ◌++◌, List, [], ◌∷◌, length, map, get_or, Option, None, Some}
 use Rattle.std.specs.List.{All, AllZip}
 use Rattle.common_laws.specs.Maps.{Contents}
 use Rattle.col_value.specs.declared.kinds.Encoding.{Encoding}
 use Rattle.col_value.specs.declared.row.Asked.{Asked}
 use Rattle.col_value.specs.declared.row.Stamped.{Stamped}
 use Rattle.catalog_types.specs.declared.catalogue.Container.{Container}
+use Rattle.catalog_types.specs.declared.catalogue.Projection.{Projection}
 use Rattle.ros_container.specs.Encodings.{encodings_of}
 use Rattle.ros_container.specs.Held.{HoldsContainer}
 use Rattle.del_vector.specs.declared.mark.Mark.{Mark}
 use Rattle.stored_rows.specs.Stored.{Beside, Projected, mark_in}
 use Rattle.write_store.specs.Memory.{deleted_at, IsLive}
 use Rattle.wanted_rows.specs.Wanted.{tally}
-use Rattle.wanted_rows.specs.Picked.{Picks}
+use Rattle.write_store.specs.declared.held.Held.{Held}
+use Rattle.wanted_rows.specs.Picked.{Picks, asked_of as asked_in, del_at}
 use Rattle.wanted_rows.specs.Taking.{asked_of}
 use Rattle.proj_store.specs.Loaded.{Loaded}
 
@@ -66,6 +68,19 @@ pub record IsPrepared (m : Contents) (p : Projected) (wanted : List Asked) (read
   pub starts : (q : Asked) → need q ≡ tally q wanted
   pub containers : PicksEach m (encodings_of p.entry) p.entry.containers p.beside ready.each need mid
   pub unsaved : Picks (del_of p.unsaved) (map asked_of p.unsaved) ready.unsaved mid left
+
+-- places of what is needed are picked: of the containers, if the disk tells their rows, and then of the rows in memory
+pub record PicksAll (holds : Option Contents) (p : Projection) (bs : List Beside) (held : List Held) (ready : Places) (need left : Asked → ℕ) : Type 0 where
+  pub mid : Asked → ℕ
+  pub containers : (m : Contents) → holds ≡ Some m → PicksEach m (encodings_of p) p.containers bs ready.each need mid
+  pub unsaved : Picks (del_at held) (asked_in held) ready.unsaved mid left
+
+-- the same of these rows
+pub record Finds (holds : Option Contents) (p : Projection) (bs : List Beside) (held : List Held) (wanted : List Asked) (ready : Places) : Type 0 where
+  pub need : Asked → ℕ
+  pub left : Asked → ℕ
+  pub starts : (q : Asked) → need q ≡ tally q wanted
+  pub picks : PicksAll holds p bs held ready need left
 
 -- positions of a container's rows
 abbrev pub ArePlaces : Container → List ℕ → Type 0

@@ -195,6 +195,43 @@ fn none_read(alloc: Global, count: usize) -> Result<Vec<Option<Block>>, AllocErr
     Ok(columns)
 }
 
+/// The columns of block k, as far as they are read for rows that are alive; rows that aren't wanted are alive no more.
+fn read_columns<D: Disk>(
+    alloc: Global,
+    disk: &mut D,
+    entry: &Projection,
+    container: &Container,
+    indexes: &[PosIndex],
+    k: usize,
+    wants: &Wants,
+    alive: &mut [bool],
+) -> Result<Vec<Option<Block>>, StoreFault>
+    requires numbers { HasFileNumbers (length entry.now.columns) container.now }
+    requires many { length indexes.now ≡ length entry.now.columns + 1 }
+    requires fit { All (IsIndexOf container.now.rows) indexes.now }
+    requires block { k < blocks container.now.rows }
+    requires alive { length alive.old ≡ min 1024 (container.now.rows - 1024 * k) }
+    ensures long { length alive.new ≡ length alive.old }
+    ensures narrows { IfOk result (λ v. HasIndexes container.now (D.holds disk.old) indexes.now → Narrows (D.holds disk.old) (encodings_of entry.now) container.now k (need_in wants.now) alive.old alive.new) }
+    ensures rows { IfOk result (λ v. HasIndexes container.now (D.holds disk.old) indexes.now → HaveRows (D.holds disk.old) (encodings_of entry.now) container.now k alive.new (columns_in v.items)) }
+    ensures blamed { IfErr result (λ fault. HasIndexes container.now (D.holds disk.old) indexes.now → BlamesContainer (encodings_of entry.now) container.now (D.holds disk.old) fault) }
+    ensures kept { D.holds disk.new ≡ D.holds disk.old }
+    ensures moved { Moved ⟦<D as Disk>⟧ NoName NoName disk.old disk.new }
+    ensures cause { HasCause StoreFault.Disk (D.faults disk.old) (D.faults disk.new) result }
+{
+    let mut columns = match none_read(alloc, entry.columns.as_slice().len()) {
+        Ok(columns) => columns,
+        Err(AllocError) => return Err(StoreFault::Memory),
+    };
+    let read = columns.as_mut_slice();
+    match look_through(
+        alloc, disk, entry, container, indexes, k, wants, alive, read,
+    ) {
+        Ok(()) => Ok(columns),
+        Err(fault) => Err(fault),
+    }
+}
+
 /// The epochs that inserted the rows of block k; they aren't read where no row is alive.
 fn stamps<D: Disk>(
     alloc: Global,
@@ -251,38 +288,17 @@ pub fn find_candidates<D: Disk>(
     ensures moved { Moved ⟦<D as Disk>⟧ NoName NoName disk.old disk.new }
     ensures cause { HasCause StoreFault.Disk (D.faults disk.old) (D.faults disk.new) result }
 {
-    let count = entry.columns.as_slice().len();
     let mut alive = match undeleted(alloc, rows_of(container.rows, k), deletes, 1024 * k) {
         Ok(alive) => alive,
         Err(AllocError) => return Err(StoreFault::Memory),
     };
-    let mut columns = match none_read(alloc, count) {
+    let looked = alive.as_mut_slice();
+    let columns = match read_columns(alloc, disk, entry, container, indexes, k, wants, looked) {
         Ok(columns) => columns,
-        Err(AllocError) => return Err(StoreFault::Memory),
-    };
-    match look_through(
-        alloc,
-        disk,
-        entry,
-        container,
-        indexes,
-        k,
-        wants,
-        alive.as_mut_slice(),
-        columns.as_mut_slice(),
-    ) {
-        Ok(()) => {}
         Err(fault) => return Err(fault),
-    }
-    match stamps(
-        alloc,
-        disk,
-        entry,
-        container,
-        &indexes[count],
-        k,
-        alive.as_slice(),
-    ) {
+    };
+    let at = &indexes[entry.columns.as_slice().len()];
+    match stamps(alloc, disk, entry, container, at, k, alive.as_slice()) {
         Ok(stamps) => Ok(Candidates {
             alive,
             stamps,

@@ -49,6 +49,32 @@ fn put_marks(deletes: &mut [Option<u64>], marks: &[Mark])
     }
 }
 
+fn put_both(deletes: &mut [Option<u64>], held: &[Mark], fresh: &[Mark])
+    requires held { All (λ e. e.position < length deletes.old) held.now }
+    requires fresh { All (λ e. e.position < length deletes.old) fresh.now }
+    ensures long { length deletes.new ≡ length deletes.old }
+    ensures deleted { (i : ℕ) → slice_index_or deletes.new i None ≡ option_or (option_or (slice_index_or deletes.old i None) (epoch_at held.now i)) (epoch_at fresh.now i) }
+{
+    put_marks(deletes, held);
+    put_marks(deletes, fresh);
+}
+
+/// The epochs that delete so many rows, by both lists of marks.
+fn marked(
+    alloc: Global,
+    count: usize,
+    held: &[Mark],
+    fresh: &[Mark],
+) -> Result<Vec<Option<u64>>, AllocError>
+    requires held { All (λ e. e.position < count) held.now }
+    requires fresh { All (λ e. e.position < count) fresh.now }
+    ensures { IfOk result (λ v. (i : ℕ) → slice_index_or v.items i None ≡ option_or (epoch_at held.now i) (epoch_at fresh.now i)) }
+{
+    let mut deletes = undeleted(alloc, count)?;
+    put_both(deletes.as_mut_slice(), held, fresh);
+    Ok(deletes)
+}
+
 /// The epochs that delete the rows of a container of so many, by its delete vector and by the marks that came since; nothing where there
 /// are no marks.
 pub fn deletes_of(
@@ -64,10 +90,7 @@ pub fn deletes_of(
     if held.is_empty() && fresh.is_empty() {
         return Ok(Vec::new(alloc));
     }
-    let mut deletes = undeleted(alloc, count)?;
-    put_marks(deletes.as_mut_slice(), held);
-    put_marks(deletes.as_mut_slice(), fresh);
-    Ok(deletes)
+    marked(alloc, count, held, fresh)
 }
 
 /// The epochs that delete the rows of a container, by what is kept of it; nothing where there are no marks.

@@ -1,6 +1,6 @@
 //! Places of wanted rows in a projection's containers.
 
-ghost use Rattle.std.specs.Prelude.{◌≡◌, ◌≤◌, ◌<◌, ◌+◌, ◌^◌, ℕ, [], None, Some, List, length, map, get_or, IfOk, IfErr, IfSome, IsTrue, OnOk};
+ghost use Rattle.std.specs.Prelude.{◌≡◌, ◌≤◌, ◌<◌, ◌+◌, ◌++◌, ◌∷◌, ◌^◌, ℕ, [], None, Some, List, length, map, get_or, IfOk, IfErr, IfSome, IsTrue, OnOk};
 ghost use Rattle.std.specs.List.{All, AllZip};
 ghost use Rattle.common_laws.specs.Causes.{HasCause};
 ghost use Rattle.common_laws.specs.Maps.{Contents};
@@ -239,6 +239,35 @@ fn pick_in<D: Disk>(
     }
 }
 
+/// Places of one container come behind those of the containers before it.
+fn pick_more<D: Disk>(
+    alloc: Global,
+    disk: &mut D,
+    entry: &Projection,
+    container: &Container,
+    kept: &Kept,
+    wants: &mut Wants,
+    each: &mut Vec<List<usize>>,
+) -> Result<(), StoreFault>
+    requires numbers { HasFileNumbers (length entry.now.columns) container.now }
+    requires kept { IsKept container.now (beside_of kept.now) }
+    ensures more { OnOk result ((places : List ℕ) × (each.new.items ≡ each.old.items ++ places ∷ []) × ArePlaces container.now places × ((m : Contents) → D.holds disk.old ≡ Some m → PicksIn m (encodings_of entry.now) container.now (beside_of kept.now) places (need_in wants.old) (need_in wants.new))) }
+    ensures blamed { IfErr result (BlamesContainer (encodings_of entry.now) container.now (D.holds disk.old)) }
+    ensures kept { D.holds disk.new ≡ D.holds disk.old }
+    ensures moved { Moved ⟦<D as Disk>⟧ NoName NoName disk.old disk.new }
+    ensures cause { HasCause StoreFault.Disk (D.faults disk.old) (D.faults disk.new) result }
+{
+    let places = match pick_in(alloc, disk, entry, container, kept, wants) {
+        Ok(places) => places,
+        Err(fault) => return Err(fault),
+    };
+    match each.push(places) {
+        Ok(()) => {}
+        Err(_) => return Err(StoreFault::Memory),
+    }
+    Ok(())
+}
+
 /// Places of one container after the other.
 pub fn pick_each<D: Disk>(
     alloc: Global,
@@ -258,13 +287,9 @@ pub fn pick_each<D: Disk>(
     let containers = entry.containers.as_slice();
     let mut each = Vec::new(alloc);
     for (i, container) in containers.iter().enumerate() {
-        let places = match pick_in(alloc, disk, entry, container, &kept[i], wants) {
-            Ok(places) => places,
-            Err(fault) => return Err(fault),
-        };
-        match each.push(places) {
+        match pick_more(alloc, disk, entry, container, &kept[i], wants, &mut each) {
             Ok(()) => {}
-            Err(_) => return Err(StoreFault::Memory),
+            Err(fault) => return Err(fault),
         }
     }
     Ok(each)

@@ -9,8 +9,8 @@ use Rattle.proj_store.proofs.picks.pick_each.Goals as goal
 pub bounds-kept-i : goal.bounds-kept-i
 bounds-kept-i g c = kept_within c.as_slice-containers.result.now c.args.entry.now.containers c.args.kept.now c.loop-i.i c.as_slice-containers.ensures c.requires.sound.kept c.loop-i-test.true
 
-pub pick_in-requires-clause-kept : goal.pick_in-requires-clause-kept
-pick_in-requires-clause-kept g c =
+pub pick_more-requires-clause-kept : goal.pick_more-requires-clause-kept
+pick_more-requires-clause-kept g c =
     let ks = c.as_slice-containers.result.now in
     let i = c.loop-i.i in
     kept_here ks c.args.entry.now.containers c.args.kept.now i (item ks i) c.index-kept-i.result c.as_slice-containers.ensures c.requires.sound.kept c.loop-i-test.true (item_is ks i c.loop-i-test.true) c.index-kept-i.is
@@ -21,12 +21,13 @@ loop-i-preserved g c =
     let i = c.loop-i.i in
     let within : i < length c.args.kept.now = kept_within ks c.args.entry.now.containers c.args.kept.now i c.as_slice-containers.ensures c.requires.sound.kept c.loop-i-test.true in
     let is = item_is ks i c.loop-i-test.true in
+    let (places, added, inside, found) = c.in-Ok.ensures.more in
     record {
-      found = picks_more (encodings_of c.args.entry.now) ks c.args.kept.now i (item ks i) c.index-kept-i.result c.loop-i.each.items c.push.new.self.items c.in-Ok.places _ _ _ _ _
-          c.loop-i-test.true within is c.index-kept-i.is c.loop-i.invariant.kept c.in-Ok-push.ensures.items c.loop-i.invariant.found c.in-Ok.ensures.found;
-      inside = places_more ks i (item ks i) c.loop-i.each.items c.push.new.self.items c.in-Ok.places c.loop-i-test.true is c.in-Ok-push.ensures.items c.loop-i.invariant.inside c.in-Ok.ensures.inside;
-      kept = c.pick_in.ensures.kept ∙ c.loop-i.invariant.kept;
-      moved = moved_join g.D.Disk c.loop-i.invariant.moved c.pick_in.ensures.moved;
+      found = picks_more (encodings_of c.args.entry.now) ks c.args.kept.now i (item ks i) c.index-kept-i.result c.loop-i.each.items c.pick_more.new.each.items places _ _ _ _ _
+          c.loop-i-test.true within is c.index-kept-i.is c.loop-i.invariant.kept added c.loop-i.invariant.found found;
+      inside = places_more ks i (item ks i) c.loop-i.each.items c.pick_more.new.each.items places c.loop-i-test.true is added c.loop-i.invariant.inside inside;
+      kept = c.pick_more.ensures.kept ∙ c.loop-i.invariant.kept;
+      moved = moved_join g.D.Disk c.loop-i.invariant.moved c.pick_more.ensures.moved;
     }
 
 pub returns-clause-found : goal.returns-clause-found
@@ -43,10 +44,7 @@ returns-in-Err-clause-blamed g c =
     blames_here c.args.entry.now ks i (item ks i) _ _ c.in-Err.fault c.as_slice-containers.ensures c.loop-i-test.true (item_is ks i c.loop-i-test.true) c.loop-i.invariant.kept c.in-Err.ensures.blamed
 
 pub returns-in-Err-clause-moved : goal.returns-in-Err-clause-moved
-returns-in-Err-clause-moved g c = moved_join g.D.Disk c.loop-i.invariant.moved c.pick_in.ensures.moved
-
-pub returns-in-Err-push-clause-moved : goal.returns-in-Err-push-clause-moved
-returns-in-Err-push-clause-moved g c = moved_join g.D.Disk c.loop-i.invariant.moved c.pick_in.ensures.moved
+returns-in-Err-clause-moved g c = moved_join g.D.Disk c.loop-i.invariant.moved c.pick_more.ensures.moved
 
 pub loop-i-init : goal.loop-i-init
 loop-i-init g c = record {

@@ -1,4 +1,4 @@
-use Rattle.std.proofs.Common.{◌≡◌, ◌∙◌, ◌<◌, ◌++◌, ◌∷◌, List, [], length, take, sym, ap, arith}
+use Rattle.std.proofs.Common.{◌∙◌, ◌<◌, ◌++◌, ◌∷◌, [], length, take, sym, ap, arith}
 use Rattle.std.proofs.lemmas.List.{take_more}
 use Rattle.col_value.specs.declared.value.Value.{Value}
 use Rattle.proj_store.proofs.Candidacy.{row_more}
