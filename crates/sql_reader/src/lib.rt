@@ -10,6 +10,7 @@ mod calls;
 mod changes;
 mod clauses;
 mod creations;
+mod parentheses;
 mod queries;
 mod reader;
 mod sources;
