@@ -1,5 +1,4 @@
 -- Parts of the long productions, each with a reader of its own.
-use Rattle.std.specs.Prelude.{Option}
 use Rattle.sql_words.specs.declared.token.Key.{Key}
 use Rattle.sql_tree.specs.Symbols.{name_of}
 use Rattle.sql_phrases.specs.Readings.{one, both, nothing}
