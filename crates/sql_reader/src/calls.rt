@@ -1,6 +1,7 @@
 ghost use Rattle.sql_phrases.specs.Gives.{Gives};
 ghost use Rattle.sql_phrases.specs.Readers.{bare, sets_ahm, tasks, purges, refreshes, calls};
 
+use crate::parentheses::closed;
 use sql_phrases::{Stop, Tokens};
 use sql_tree::Function;
 use sql_words::{Key, Sign};
@@ -11,10 +12,15 @@ use std::alloc::Global;
 fn bare(tokens: &mut Tokens<'_>, key: Key, function: Function) -> Result<Function, Stop>
     ensures { Gives result tokens.new (bare key function tokens.old) }
 {
-    tokens.key(key)?;
-    tokens.sign(Sign::Open)?;
-    tokens.sign(Sign::Close)?;
-    Ok(function)
+    if let Err(stop) = tokens.key(key) {
+        drop(function);
+        return Err(stop);
+    }
+    if let Err(stop) = tokens.sign(Sign::Open) {
+        drop(function);
+        return Err(stop);
+    }
+    closed(tokens, function)
 }
 
 /// `SET_AHM_EPOCH ( int )`
@@ -37,8 +43,7 @@ fn tasks(alloc: Global, tokens: &mut Tokens<'_>) -> Result<Function, Stop>
     tokens.key(Key::DoTmTask)?;
     tokens.sign(Sign::Open)?;
     let task = tokens.task(alloc)?;
-    tokens.sign(Sign::Close)?;
-    Ok(task)
+    closed(tokens, task)
 }
 
 /// `PURGE_TABLE ( text )`
@@ -48,8 +53,8 @@ fn purges(alloc: Global, tokens: &mut Tokens<'_>) -> Result<Function, Stop>
 {
     tokens.key(Key::PurgeTable)?;
     tokens.sign(Sign::Open)?;
-    let table = tokens.table(alloc)?;
-    tokens.sign(Sign::Close)?;
+    let named = tokens.table(alloc)?;
+    let table = closed(tokens, named)?;
     Ok(Function::Purge(table))
 }
 
@@ -60,8 +65,8 @@ fn refreshes(alloc: Global, tokens: &mut Tokens<'_>) -> Result<Function, Stop>
 {
     tokens.key(Key::Refresh)?;
     tokens.sign(Sign::Open)?;
-    let table = tokens.table(alloc)?;
-    tokens.sign(Sign::Close)?;
+    let named = tokens.table(alloc)?;
+    let table = closed(tokens, named)?;
     Ok(Function::Refresh(table))
 }
 

@@ -2,6 +2,7 @@ ghost use Rattle.sql_phrases.specs.Gives.{Gives};
 ghost use Rattle.sql_phrases.specs.Readers.{literal, tuple, inserts, deletes, sets, updates, copies};
 
 use crate::clauses::where_clause;
+use crate::parentheses::inside;
 use col_value::{Wide, WideRow};
 use sql_expr::{expr, literal};
 use sql_phrases::{Spelled, Stop, Tokens, listed};
@@ -42,12 +43,9 @@ impl Spelled for Tuple {
 
     ghost shortens = { good_shortens good_tuple };
 
-    #[tactic(auto, unfolding(sql_phrases::specs::Readings::mark, sql_phrases::specs::Readings::both, sql_phrases::specs::Readings::nothing, sql_phrases::specs::Readers::inside, sql_phrases::specs::Readers::tuple))]
+    #[tactic(auto, unfolding(sql_phrases::specs::Readers::tuple))]
     fn read(alloc: Global, tokens: &mut Tokens<'_>) -> Result<WideRow, Stop> {
-        tokens.sign(Sign::Open)?;
-        let values = listed::<Literal>(alloc, tokens)?;
-        tokens.sign(Sign::Close)?;
-        Ok(values)
+        inside::<Literal>(alloc, tokens)
     }
 }
 
@@ -59,9 +57,17 @@ pub fn inserts(alloc: Global, tokens: &mut Tokens<'_>) -> Result<Statement, Stop
     tokens.key(Key::Insert)?;
     tokens.key(Key::Into)?;
     let table = tokens.name(alloc)?;
-    tokens.key(Key::Values)?;
-    let rows = listed::<Tuple>(alloc, tokens)?;
-    Ok(Statement::Insert(Insert { table, rows }))
+    if let Err(stop) = tokens.key(Key::Values) {
+        drop(table);
+        return Err(stop);
+    }
+    match listed::<Tuple>(alloc, tokens) {
+        Ok(rows) => Ok(Statement::Insert(Insert { table, rows })),
+        Err(stop) => {
+            drop(table);
+            Err(stop)
+        }
+    }
 }
 
 /// `DELETE FROM name [WHERE expr]`
@@ -72,8 +78,13 @@ pub fn deletes(alloc: Global, tokens: &mut Tokens<'_>) -> Result<Statement, Stop
     tokens.key(Key::Delete)?;
     tokens.key(Key::From)?;
     let table = tokens.name(alloc)?;
-    let keep = where_clause(alloc, tokens)?;
-    Ok(Statement::Delete(Delete { table, keep }))
+    match where_clause(alloc, tokens) {
+        Ok(keep) => Ok(Statement::Delete(Delete { table, keep })),
+        Err(stop) => {
+            drop(table);
+            Err(stop)
+        }
+    }
 }
 
 /// `name = expr`
@@ -93,9 +104,17 @@ impl Spelled for Assignment {
     #[tactic(auto, unfolding(sql_phrases::specs::Readings::mark, sql_phrases::specs::Readings::both, sql_phrases::specs::Readings::nothing, sql_phrases::specs::Readers::sets))]
     fn read(alloc: Global, tokens: &mut Tokens<'_>) -> Result<Setting, Stop> {
         let column = tokens.name(alloc)?;
-        tokens.sign(Sign::Equal)?;
-        let tree = expr(alloc, tokens)?;
-        Ok(Setting { column, tree })
+        if let Err(stop) = tokens.sign(Sign::Equal) {
+            drop(column);
+            return Err(stop);
+        }
+        match expr(alloc, tokens) {
+            Ok(tree) => Ok(Setting { column, tree }),
+            Err(stop) => {
+                drop(column);
+                Err(stop)
+            }
+        }
     }
 }
 
@@ -106,14 +125,29 @@ pub fn updates(alloc: Global, tokens: &mut Tokens<'_>) -> Result<Statement, Stop
 {
     tokens.key(Key::Update)?;
     let table = tokens.name(alloc)?;
-    tokens.key(Key::Set)?;
-    let settings = listed::<Assignment>(alloc, tokens)?;
-    let keep = where_clause(alloc, tokens)?;
-    Ok(Statement::Update(Update {
-        table,
-        settings,
-        keep,
-    }))
+    if let Err(stop) = tokens.key(Key::Set) {
+        drop(table);
+        return Err(stop);
+    }
+    let settings = match listed::<Assignment>(alloc, tokens) {
+        Ok(settings) => settings,
+        Err(stop) => {
+            drop(table);
+            return Err(stop);
+        }
+    };
+    match where_clause(alloc, tokens) {
+        Ok(keep) => Ok(Statement::Update(Update {
+            table,
+            settings,
+            keep,
+        })),
+        Err(stop) => {
+            drop(table);
+            drop(settings);
+            Err(stop)
+        }
+    }
 }
 
 /// `COPY name FROM text`
@@ -123,7 +157,15 @@ pub fn copies(alloc: Global, tokens: &mut Tokens<'_>) -> Result<Statement, Stop>
 {
     tokens.key(Key::Copy)?;
     let table = tokens.name(alloc)?;
-    tokens.key(Key::From)?;
-    let path = tokens.text(alloc)?;
-    Ok(Statement::Copy(table, path))
+    if let Err(stop) = tokens.key(Key::From) {
+        drop(table);
+        return Err(stop);
+    }
+    match tokens.text(alloc) {
+        Ok(path) => Ok(Statement::Copy(table, path)),
+        Err(stop) => {
+            drop(table);
+            Err(stop)
+        }
+    }
 }

@@ -125,8 +125,13 @@ impl Spelled for OrderKey {
     #[tactic(auto, unfolding(sql_phrases::specs::Readings::both, sql_phrases::specs::Readings::nothing, sql_phrases::specs::Readers::order_key))]
     fn read(alloc: Global, tokens: &mut Tokens<'_>) -> Result<SortKey, Stop> {
         let key = key_name(alloc, tokens)?;
-        let descending = descending(tokens)?;
-        Ok(SortKey { key, descending })
+        match descending(tokens) {
+            Ok(descending) => Ok(SortKey { key, descending }),
+            Err(stop) => {
+                drop(key);
+                Err(stop)
+            }
+        }
     }
 }
 

@@ -4,7 +4,9 @@ ghost use Rattle.col_value.specs.declared.kinds.ColType.TheVariants as kinds;
 ghost use Rattle.sql_tree.specs.Symbols.{width_of};
 ghost use Rattle.sql_phrases.specs.Readings.{one, both, nothing};
 ghost use Rattle.sql_phrases.specs.Readers.{word, inside, kind, not_null, new_column, creates_table, encoding_name, encoded, new_part, sorted_by, creates_projection, creates, drops};
+ghost use Rattle.sql_reader.specs.Parts.{projects};
 
+use crate::parentheses::inside;
 use col_value::{ColType, Column, Encoding, List, Name};
 use sql_phrases::{Spelled, Stop, Tokens, listed};
 use sql_tree::{NewPart, NewProjection, Statement};
@@ -77,27 +79,41 @@ impl Spelled for ColumnForm {
     #[tactic(auto, unfolding(sql_phrases::specs::Readings::both, sql_phrases::specs::Readings::nothing, sql_phrases::specs::Readers::new_column))]
     fn read(alloc: Global, tokens: &mut Tokens<'_>) -> Result<Column, Stop> {
         let name = tokens.name(alloc)?;
-        let kind = kind(tokens)?;
-        let not_null = not_null(tokens)?;
-        Ok(Column {
-            name,
-            kind,
-            not_null,
-        })
+        let kind = match kind(tokens) {
+            Ok(kind) => kind,
+            Err(stop) => {
+                drop(name);
+                return Err(stop);
+            }
+        };
+        match not_null(tokens) {
+            Ok(not_null) => Ok(Column {
+                name,
+                kind,
+                not_null,
+            }),
+            Err(stop) => {
+                drop(name);
+                Err(stop)
+            }
+        }
     }
 }
 
 /// `TABLE name ( column {, column} )`
-#[tactic(auto, unfolding(sql_phrases::specs::Readings::mark, sql_phrases::specs::Readings::both, sql_phrases::specs::Readings::nothing, sql_phrases::specs::Readers::inside, sql_phrases::specs::Readers::creates_table))]
+#[tactic(auto, unfolding(sql_phrases::specs::Readings::mark, sql_phrases::specs::Readings::both, sql_phrases::specs::Readings::nothing, sql_phrases::specs::Readers::creates_table))]
 fn creates_table(alloc: Global, tokens: &mut Tokens<'_>) -> Result<Statement, Stop>
     ensures { Gives result tokens.new (creates_table tokens.old) }
 {
     tokens.key(Key::Table)?;
     let table = tokens.name(alloc)?;
-    tokens.sign(Sign::Open)?;
-    let columns = listed::<ColumnForm>(alloc, tokens)?;
-    tokens.sign(Sign::Close)?;
-    Ok(Statement::CreateTable(table, columns))
+    match inside::<ColumnForm>(alloc, tokens) {
+        Ok(columns) => Ok(Statement::CreateTable(table, columns)),
+        Err(stop) => {
+            drop(table);
+            Err(stop)
+        }
+    }
 }
 
 /// `AUTO | RLE | DELTAVAL | BLOCK_DICT | PLAIN`
@@ -154,8 +170,13 @@ impl Spelled for Part {
     #[tactic(auto, unfolding(sql_phrases::specs::Readings::both, sql_phrases::specs::Readings::nothing, sql_phrases::specs::Readers::new_part))]
     fn read(alloc: Global, tokens: &mut Tokens<'_>) -> Result<NewPart, Stop> {
         let name = tokens.name(alloc)?;
-        let encoding = encoded(tokens)?;
-        Ok(NewPart { name, encoding })
+        match encoded(tokens) {
+            Ok(encoding) => Ok(NewPart { name, encoding }),
+            Err(stop) => {
+                drop(name);
+                Err(stop)
+            }
+        }
     }
 }
 
@@ -193,29 +214,75 @@ fn sorted_by(alloc: Global, tokens: &mut Tokens<'_>) -> Result<Option<List<Name>
     Ok(Some(names))
 }
 
+/// What a projection takes of a table.
+#[derive(Drop)]
+pub struct Selection {
+    selected: List<Name>,
+    table: Name,
+    sort: Option<List<Name>>,
+}
+
+/// `AS SELECT name {, name} FROM name [ORDER BY name {, name}]`
+#[tactic(auto, unfolding(sql_phrases::specs::Readings::mark, sql_phrases::specs::Readings::both, sql_phrases::specs::Readings::nothing, crate::specs::Parts::projects))]
+fn projects(alloc: Global, tokens: &mut Tokens<'_>) -> Result<Selection, Stop>
+    ensures { Gives result tokens.new (projects tokens.old) }
+{
+    tokens.key(Key::As)?;
+    tokens.key(Key::Select)?;
+    let selected = listed::<Bare>(alloc, tokens)?;
+    if let Err(stop) = tokens.key(Key::From) {
+        drop(selected);
+        return Err(stop);
+    }
+    let table = match tokens.name(alloc) {
+        Ok(table) => table,
+        Err(stop) => {
+            drop(selected);
+            return Err(stop);
+        }
+    };
+    match sorted_by(alloc, tokens) {
+        Ok(sort) => Ok(Selection {
+            selected,
+            table,
+            sort,
+        }),
+        Err(stop) => {
+            drop(selected);
+            drop(table);
+            Err(stop)
+        }
+    }
+}
+
 /// `PROJECTION name ( part {, part} ) AS SELECT name {, name} FROM name [ORDER BY name {, name}]`
-#[tactic(auto, unfolding(sql_phrases::specs::Readings::mark, sql_phrases::specs::Readings::both, sql_phrases::specs::Readings::nothing, sql_phrases::specs::Readers::inside, sql_phrases::specs::Readers::creates_projection))]
+#[tactic(auto, using(crate::proofs::Sequels::projection_by_parts), unfolding(sql_phrases::specs::Readings::mark, sql_phrases::specs::Readings::both, sql_phrases::specs::Readings::nothing))]
 fn creates_projection(alloc: Global, tokens: &mut Tokens<'_>) -> Result<Statement, Stop>
     ensures { Gives result tokens.new (creates_projection tokens.old) }
 {
     tokens.key(Key::Projection)?;
     let name = tokens.name(alloc)?;
-    tokens.sign(Sign::Open)?;
-    let parts = listed::<Part>(alloc, tokens)?;
-    tokens.sign(Sign::Close)?;
-    tokens.key(Key::As)?;
-    tokens.key(Key::Select)?;
-    let selected = listed::<Bare>(alloc, tokens)?;
-    tokens.key(Key::From)?;
-    let table = tokens.name(alloc)?;
-    let sort = sorted_by(alloc, tokens)?;
-    Ok(Statement::CreateProjection(NewProjection {
-        name,
-        parts,
-        selected,
-        table,
-        sort,
-    }))
+    let parts = match inside::<Part>(alloc, tokens) {
+        Ok(parts) => parts,
+        Err(stop) => {
+            drop(name);
+            return Err(stop);
+        }
+    };
+    match projects(alloc, tokens) {
+        Ok(of) => Ok(Statement::CreateProjection(NewProjection {
+            name,
+            parts,
+            selected: of.selected,
+            table: of.table,
+            sort: of.sort,
+        })),
+        Err(stop) => {
+            drop(name);
+            drop(parts);
+            Err(stop)
+        }
+    }
 }
 
 /// `CREATE (TABLE .. | PROJECTION ..)`

@@ -1,12 +1,14 @@
 ghost use Rattle.sql_phrases.specs.Gives.{Gives};
 ghost use Rattle.sql_phrases.specs.Readers.{select_item, select_list, queries, selects, epochs, selects_at, explains};
+ghost use Rattle.sql_reader.specs.Parts.{keeps, shapes};
 
 use crate::calls::calls;
 use crate::clauses::{alias, group_by, having, limit, order_by, where_clause};
 use crate::sources::sources;
+use col_value::List;
 use sql_expr::grouped_expr;
 use sql_phrases::{Spelled, Stop, Tokens, listed};
-use sql_tree::{At, Item, Items, Query, Statement};
+use sql_tree::{At, ColRef, Item, Items, Query, SortKey, Source, Statement, Tree};
 use sql_words::{Key, Sign};
 use std::alloc::Global;
 
@@ -27,8 +29,13 @@ impl Spelled for SelectItem {
     #[tactic(auto, unfolding(sql_phrases::specs::Readings::both, sql_phrases::specs::Readings::nothing, sql_phrases::specs::Readers::select_item))]
     fn read(alloc: Global, tokens: &mut Tokens<'_>) -> Result<Item, Stop> {
         let tree = grouped_expr(alloc, tokens)?;
-        let alias = alias(alloc, tokens)?;
-        Ok(Item { tree, alias })
+        match alias(alloc, tokens) {
+            Ok(alias) => Ok(Item { tree, alias }),
+            Err(stop) => {
+                drop(tree);
+                Err(stop)
+            }
+        }
     }
 }
 
@@ -45,28 +52,104 @@ fn select_list(alloc: Global, tokens: &mut Tokens<'_>) -> Result<Items, Stop>
     Ok(Items::Listed(items))
 }
 
+/// The rows that a query keeps.
+#[derive(Drop)]
+pub struct Kept {
+    sources: List<Source>,
+    keep: Option<Tree>,
+}
+
+/// `FROM sources [WHERE expr]`
+#[tactic(auto, unfolding(sql_phrases::specs::Readings::mark, sql_phrases::specs::Readings::both, sql_phrases::specs::Readings::nothing, crate::specs::Parts::keeps))]
+fn keeps(alloc: Global, tokens: &mut Tokens<'_>) -> Result<Kept, Stop>
+    ensures { Gives result tokens.new (keeps tokens.old) }
+{
+    tokens.key(Key::From)?;
+    let sources = sources(alloc, tokens)?;
+    match where_clause(alloc, tokens) {
+        Ok(keep) => Ok(Kept { sources, keep }),
+        Err(stop) => {
+            drop(sources);
+            Err(stop)
+        }
+    }
+}
+
+/// What a query makes of the rows that it keeps.
+#[derive(Drop)]
+pub struct Shape {
+    group: List<ColRef>,
+    having: Option<Tree>,
+    order: List<SortKey>,
+    limit: Option<u128>,
+}
+
+/// `[GROUP BY ..] [HAVING ..] [ORDER BY ..] [LIMIT ..]`
+#[tactic(auto, unfolding(sql_phrases::specs::Readings::both, sql_phrases::specs::Readings::nothing, crate::specs::Parts::shapes))]
+fn shapes(alloc: Global, tokens: &mut Tokens<'_>) -> Result<Shape, Stop>
+    ensures { Gives result tokens.new (shapes tokens.old) }
+{
+    let group = group_by(alloc, tokens)?;
+    let having = match having(alloc, tokens) {
+        Ok(having) => having,
+        Err(stop) => {
+            drop(group);
+            return Err(stop);
+        }
+    };
+    let order = match order_by(alloc, tokens) {
+        Ok(order) => order,
+        Err(stop) => {
+            drop(group);
+            drop(having);
+            return Err(stop);
+        }
+    };
+    match limit(tokens) {
+        Ok(limit) => Ok(Shape {
+            group,
+            having,
+            order,
+            limit,
+        }),
+        Err(stop) => {
+            drop(group);
+            drop(having);
+            drop(order);
+            Err(stop)
+        }
+    }
+}
+
 /// What stands behind SELECT in a query.
-#[tactic(auto, unfolding(sql_phrases::specs::Readings::mark, sql_phrases::specs::Readings::both, sql_phrases::specs::Readings::nothing, sql_phrases::specs::Readers::queries))]
+#[tactic(auto, using(crate::proofs::Sequels::queries_by_parts), unfolding(sql_phrases::specs::Readings::both, sql_phrases::specs::Readings::nothing))]
 fn query(alloc: Global, tokens: &mut Tokens<'_>) -> Result<Query, Stop>
     ensures { Gives result tokens.new (queries tokens.old) }
 {
     let items = select_list(alloc, tokens)?;
-    tokens.key(Key::From)?;
-    let sources = sources(alloc, tokens)?;
-    let keep = where_clause(alloc, tokens)?;
-    let group = group_by(alloc, tokens)?;
-    let having = having(alloc, tokens)?;
-    let order = order_by(alloc, tokens)?;
-    let limit = limit(tokens)?;
-    Ok(Query {
-        items,
-        sources,
-        keep,
-        group,
-        having,
-        order,
-        limit,
-    })
+    let kept = match keeps(alloc, tokens) {
+        Ok(kept) => kept,
+        Err(stop) => {
+            drop(items);
+            return Err(stop);
+        }
+    };
+    match shapes(alloc, tokens) {
+        Ok(shape) => Ok(Query {
+            items,
+            sources: kept.sources,
+            keep: kept.keep,
+            group: shape.group,
+            having: shape.having,
+            order: shape.order,
+            limit: shape.limit,
+        }),
+        Err(stop) => {
+            drop(items);
+            drop(kept);
+            Err(stop)
+        }
+    }
 }
 
 /// `SELECT (function | query)`

@@ -18,12 +18,17 @@ fn from_item(alloc: Global, tokens: &mut Tokens<'_>) -> Result<Source, Stop>
     ensures { Gives result tokens.new (from_item tokens.old) }
 {
     let table = tokens.name(alloc)?;
-    let alias = alias(alloc, tokens)?;
-    Ok(Source {
-        table,
-        alias,
-        on: None,
-    })
+    match alias(alloc, tokens) {
+        Ok(alias) => Ok(Source {
+            table,
+            alias,
+            on: None,
+        }),
+        Err(stop) => {
+            drop(table);
+            Err(stop)
+        }
+    }
 }
 
 /// `source ON expr`
@@ -32,13 +37,25 @@ fn joins(alloc: Global, tokens: &mut Tokens<'_>) -> Result<Source, Stop>
     ensures { Gives result tokens.new (joins tokens.old) }
 {
     let source = from_item(alloc, tokens)?;
-    tokens.key(Key::On)?;
-    let condition = expr(alloc, tokens)?;
-    Ok(Source {
-        table: source.table,
-        alias: source.alias,
-        on: Some(condition),
-    })
+    if let Err(stop) = tokens.key(Key::On) {
+        drop(source);
+        return Err(stop);
+    }
+    match expr(alloc, tokens) {
+        Ok(condition) => {
+            let Source { table, alias, on } = source;
+            drop(on);
+            Ok(Source {
+                table,
+                alias,
+                on: Some(condition),
+            })
+        }
+        Err(stop) => {
+            drop(source);
+            Err(stop)
+        }
+    }
 }
 
 /// `, source | [INNER] JOIN source ON expr`
