@@ -3,6 +3,7 @@
 //! `expr` and `grouped_expr` read what `sql_tree` calls Expr and GroupedExpr, `literal` and `reference` its Literal and
 //! Reference: each promises `Gives` of its reader on lists. Time is linear in the tokens: chains and lists are loops, and
 //! the recursion is no deeper than the parentheses, of which 32 may nest.
+//! Where a reader stops it drops what it holds by name: a drop left to the exits is proved at each of them anew.
 #![tactic(auto)]
 
 mod chains;
