@@ -1,4 +1,4 @@
-use Rattle.std.proofs.Common.{◌≡◌, ap, ◌∙◌, ◌++◌, ℕ, [], ◌∷◌, List, rules}
+use Rattle.std.proofs.Common.{ap, ◌∙◌, ◌++◌, ℕ, [], ◌∷◌}
 use Rattle.sql_tree.specs.declared.statement.Setting.{Setting}
 use Rattle.sql_bound.specs.declared.expr.Expr.{Expr}
 use Rattle.sql_binding.specs.Changes.{bound_setting}

@@ -1,4 +1,4 @@
-use Rattle.std.proofs.Common.{◌≡◌, ap, ◌∙◌, ◌++◌, ℕ, [], ◌∷◌, List, rules}
+use Rattle.std.proofs.Common.{ap, ◌∙◌, ◌++◌, ℕ, [], ◌∷◌, List}
 use Rattle.sql_tree.specs.declared.statement.NewPart.{NewPart}
 use Rattle.statement_binder.proofs.Growing.{value_more}
 use Rattle.change_binder.proofs.shapes.part_names.Goals as goal
