@@ -20,7 +20,7 @@ pub fn bind_delete(
     ensures bound { IfOk result (IsBoundDelete found.now delete.now) }
     ensures refused { IfErr result (RefusesBy (delete_refusal (columns_in found.now) delete.now)) }
 {
-    let query = query_over(alloc, &delete.table, Items::Star, &delete.keep)?;
     let all = one_found(alloc, found)?;
+    let query = query_over(alloc, &delete.table, Items::Star, &delete.keep)?;
     bind_query(alloc, &query, all.as_slice())
 }

@@ -2,7 +2,7 @@ ghost use Rattle.std.specs.Prelude.{◌≡◌, ◌∷◌, [], IfOk, IfErr, OnOk,
 ghost use Rattle.sql_tree.specs.declared.refusal.Refusal.{Refusal};
 ghost use Rattle.name_binder.specs.Refusing.{RefusesBy};
 ghost use Rattle.sql_binding.specs.Firsts.{refused_where};
-ghost use Rattle.sql_binding.specs.Queries.{columns_of, row_kinds, unknown_table};
+ghost use Rattle.sql_binding.specs.Queries.{bound_in, columns_of, row_kinds, unknown_table};
 ghost use Rattle.sql_binding.specs.Sight.{sight};
 ghost use Rattle.sql_binding.specs.Changes.{update_refusal, bound_update, update_name_refusal, update_tree_refusal, update_sight, naming_query, is_typed_update, is_narrow_update, set_twice_behind, update_query};
 ghost use Rattle.change_binder.specs.Answers.{IsBoundUpdate, columns_in, parts_of_update, assigned_in, changes_in, settings_refusal};
@@ -49,9 +49,23 @@ fn check_update_names(alloc: Global, update: &Update, table: &Found<'_>) -> Resu
     ensures refused { IfErr result (RefusesBy (update_name_refusal table.now.1 update.now)) }
 {
     let query = naming_query(alloc, update)?;
+    check_naming(alloc, &query, table, update)
+}
+
+/// The same; `query` names what the UPDATE names.
+fn check_naming(
+    alloc: Global,
+    query: &Query,
+    table: &Found<'_>,
+    update: &Update,
+) -> Result<(), BindFault>
+    requires { query.now ≡ naming_query update.now }
+    ensures ok { OnOk result (update_name_refusal table.now.1 update.now ≡ None) }
+    ensures refused { IfErr result (RefusesBy (update_name_refusal table.now.1 update.now)) }
+{
+    check_update_tables(alloc, query, table)?;
     let tables = one_table(alloc, table)?;
-    check_update_tables(alloc, &query, table)?;
-    check_update_sight(alloc, tables.as_slice(), &query, update)
+    check_update_sight(alloc, tables.as_slice(), query, update)
 }
 
 fn check_update_tables(alloc: Global, query: &Query, table: &Found<'_>) -> Result<(), BindFault>
@@ -109,8 +123,23 @@ fn bind_over(alloc: Global, update: &Update, table: &Found<'_>) -> Result<BoundU
     ensures refused { IfErr result (RefusesBy (update_tree_refusal (row_kinds (update_sight table.now.1 update.now)) (bound_update 0 table.now.1 update.now))) }
 {
     let query = query_over(alloc, &update.table, Items::Star, &update.keep)?;
+    bind_changes(alloc, &query, table, update)
+}
+
+/// The same; `query` gives the rows that it changes.
+fn bind_changes(
+    alloc: Global,
+    query: &Query,
+    table: &Found<'_>,
+    update: &Update,
+) -> Result<BoundUpdate, BindFault>
+    requires { query.now ≡ update_query update.now }
+    ensures ok { OnOk result (update_tree_refusal (row_kinds (update_sight table.now.1 update.now)) (bound_update 0 table.now.1 update.now) ≡ None) }
+    ensures bound { IfOk result (λ b. parts_of_update b ≡ bound_update table.now.0 table.now.1 update.now) }
+    ensures refused { IfErr result (RefusesBy (update_tree_refusal (row_kinds (update_sight table.now.1 update.now)) (bound_update 0 table.now.1 update.now))) }
+{
     let tables = one_table(alloc, table)?;
-    bind_tables(alloc, tables.as_slice(), &query, update)
+    bind_tables(alloc, tables.as_slice(), query, update)
 }
 
 /// The bound tree of an UPDATE over these tables; `query` gives the rows that it changes.
@@ -147,7 +176,6 @@ fn bind_seen<'x>(
     Ok(bound)
 }
 
-#[tactic(auto, using(crate::proofs::Changing::no_key))]
 fn bind_parts<'x>(
     alloc: Global,
     seen: &'x [SeenColumn<'x>],
@@ -158,10 +186,26 @@ fn bind_parts<'x>(
     requires { query.now ≡ update_query update.now }
     ensures { IfOk result (λ b. parts_of_update b ≡ changes_in tables.now seen.now query.now update.now) }
 {
-    let outputs = output_names(alloc, seen, &query.items)?;
-    let rows = bind_named(alloc, seen, outputs.as_slice(), tables, query)?;
     let assigned = bind_assigned(alloc, seen, update)?;
+    let rows = bind_rows(alloc, seen, tables, query, update)?;
     Ok(BoundUpdate { rows, assigned })
+}
+
+/// The rows that an UPDATE changes.
+#[tactic(auto, using(crate::proofs::Changing::no_key))]
+fn bind_rows<'x>(
+    alloc: Global,
+    seen: &'x [SeenColumn<'x>],
+    tables: &[Found<'_>],
+    query: &Query,
+    update: &Update,
+) -> Result<BoundQuery, AllocError>
+    requires { query.now ≡ update_query update.now }
+    ensures { IfOk result (λ b. b ≡ bound_in tables.now seen.now query.now) }
+{
+    let _ = update;
+    let outputs = output_names(alloc, seen, &query.items)?;
+    bind_named(alloc, seen, outputs.as_slice(), tables, query)
 }
 
 fn bind_assigned(
