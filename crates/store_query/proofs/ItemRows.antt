@@ -28,7 +28,7 @@ use Rattle.db_model.specs.State.{Changes, without}
 use Rattle.stored_rows.specs.Stored.{Projected, Stores}
 use Rattle.folder_model.specs.Projections.{ordinals}
 use Rattle.store_commit.specs.Seen.{Seen}
-use Rattle.exec_scan.specs.Scanning as scan
+use Rattle.col_disk.specs.Faults as disk_faults
 use Rattle.query_cover.specs.Seen.{AreSeen, AreSeenFrom, placed}
 use Rattle.query_cover.proofs.Placed.{shows_same}
 use Rattle.query_run.specs.Runs.{HasTaken}
@@ -201,10 +201,10 @@ item_taken m s changes at q f d p epoch places bounds first old mid new taken ar
 
 -- no file of the projection is to blame
 pub item_unblamed : (m : Contents) (s : Seen) (changes : List Changes) (at : At) (q : BoundQuery) (f : FromItem) (d : Database) (p : Projected) (fault : StoreFault) → IsTaken s q f p → IsRead m s changes at d → IsOver d.tables f
-    → ((rows : List Stamped) → Stores m p rows → scan.IsUnblamed fault) → scan.IsUnblamed fault
+    → ((rows : List Stamped) → Stores m p rows → disk_faults.IsUnblamed fault) → disk_faults.IsUnblamed fault
 item_unblamed m s changes at q f d p fault taken read over blames = by (slice_get d.tables f.table) refl over
   where
-    by : (o : Option Table) → slice_get d.tables f.table ≡ o → IsSomeAnd o (λ t. f.columns ≡ length t.columns) → scan.IsUnblamed fault
+    by : (o : Option Table) → slice_get d.tables f.table ≡ o → IsSomeAnd o (λ t. f.columns ≡ length t.columns) → disk_faults.IsUnblamed fault
     by None is none = absurd none
     by (Some t) is wide = let serves = taken_serves m s q f d t p taken read.are is in blames serves.history.stored serves.history.are
 
@@ -259,13 +259,13 @@ run_seen disk s now changes at q d items r is reads can =
       has.enough,
     )
 
-store_unblamed : (fault : StoreFault) → scan.IsUnblamed fault → IsUnblamed (of_store fault)
+store_unblamed : (fault : StoreFault) → disk_faults.IsUnblamed fault → IsUnblamed (of_store fault)
 store_unblamed store.Disk is = tt
 store_unblamed (store.Damaged q) is = absurd is
 store_unblamed store.Memory is = tt
 
 pub select_unblamed : {D : Type 0} (disk : Ghosts D) (s : Seen) (now : D) (changes : List Changes) (at : At) (q : BoundQuery) (d : Database) (items : List FromItem) (fault : StoreFault) → items ≡ q.sources
-    → ((m : Contents) → disk.holds now ≡ Some m → (e : Database) → IsRead m s changes at e → All (IsOver e.tables) items → scan.IsUnblamed fault) → CanRead disk s now changes at q d → IsUnblamed (of_store fault)
+    → ((m : Contents) → disk.holds now ≡ Some m → (e : Database) → IsRead m s changes at e → All (IsOver e.tables) items → disk_faults.IsUnblamed fault) → CanRead disk s now changes at q d → IsUnblamed (of_store fault)
 select_unblamed disk s now changes at q d items fault is blames can =
     let over = subst (λ (fs : List FromItem). All (IsOver d.tables) fs) (sym is) (each_over 0 d.tables q.sources can.over) in
     store_unblamed fault (blames can.stands.files can.stands.quiet.told_is d (read_of disk s now changes at q d can) over)
