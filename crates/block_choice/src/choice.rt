@@ -3,7 +3,7 @@
 ghost use Rattle.std.specs.Prelude.{◌≡◌, Some, List, IfOk, IfSome, IfNone};
 ghost use Rattle.std.specs.List.{All};
 ghost use Rattle.col_value.specs.declared.value.Value.{Value as Worth};
-ghost use Rattle.block_codec.specs.Blocks.{IsOneBlock, flattened, HaveCounts};
+ghost use Rattle.block_codec.specs.Blocks.{IsOneBlock};
 ghost use Rattle.block_choice.specs.declared.codec.Codec.{Codec as Kind};
 ghost use Rattle.block_choice.specs.Codecs.{spelled_by, tag};
 ghost use Rattle.block_choice.specs.Choice.{Takes, Accepts, SpellsAs, block_of};
@@ -11,7 +11,7 @@ ghost use Rattle.block_choice.specs.Choice.{Takes, Accepts, SpellsAs, block_of};
 use crate::auto::encode_auto;
 use crate::codec::Codec;
 use block_codec::{Block, BlockCodec};
-use col_value::{Encoding, Run, Value};
+use col_value::{Encoding, Value};
 use std::alloc::{AllocError, Global};
 
 /// The bytes of the block of these values in a column of this encoding: the shortest of the four under AUTO.
@@ -74,18 +74,6 @@ pub fn decode(alloc: Global, encoding: Encoding, bytes: &[u8]) -> Result<Option<
 {
     match codec_of(encoding, bytes) {
         Some(codec) => codec.decode(alloc, bytes),
-        None => Ok(None),
-    }
-}
-
-/// The same values as runs of at least one value each. None exactly where `decode` answers it.
-pub fn runs(alloc: Global, encoding: Encoding, bytes: &[u8]) -> Result<Option<Vec<Run>>, AllocError>
-    ensures counts { IfOk result (λ o. IfSome o (λ v. HaveCounts v.items)) }
-    ensures found { IfOk result (λ o. IfSome o (λ v. SpellsAs encoding (flattened v.items) bytes.now)) }
-    ensures none { IfOk result (λ o. IfNone o ((vs : List Worth) → SpellsAs encoding vs bytes.now → ⊥)) }
-{
-    match codec_of(encoding, bytes) {
-        Some(codec) => codec.runs(alloc, bytes),
         None => Ok(None),
     }
 }

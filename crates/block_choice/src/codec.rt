@@ -4,7 +4,7 @@ ghost use Rattle.std.specs.Prelude.{◌≡◌};
 ghost use Rattle.block_choice.specs.Codecs.{IsBlockOf, spelled_by};
 
 use block_codec::{Block, BlockCodec};
-use col_value::{Run, Value};
+use col_value::Value;
 use enc_delta::DeltaVal;
 use enc_dict::BlockDict;
 use enc_plain::Plain;
@@ -50,15 +50,6 @@ impl BlockCodec for Codec {
             Codec::DeltaVal => DeltaVal.decode(alloc, bytes),
             Codec::BlockDict => BlockDict.decode(alloc, bytes),
             Codec::Plain => Plain.decode(alloc, bytes),
-        }
-    }
-
-    fn runs(&self, alloc: Global, bytes: &[u8]) -> Result<Option<Vec<Run>>, AllocError> {
-        match self {
-            Codec::Rle => Rle.runs(alloc, bytes),
-            Codec::DeltaVal => DeltaVal.runs(alloc, bytes),
-            Codec::BlockDict => BlockDict.runs(alloc, bytes),
-            Codec::Plain => Plain.runs(alloc, bytes),
         }
     }
 

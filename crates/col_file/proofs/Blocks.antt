@@ -1,5 +1,5 @@
 -- The values that were read are those of the block, or its bytes are no block.
-use Rattle.std.proofs.Common.{◌≡◌, ℕ, ◌-◌, ◌≤◌, Bool, true, false, eqb, eq-eqb, List, length, refl, sym, subst}
+use Rattle.std.proofs.Common.{◌≡◌, ℕ, ◌-◌, Bool, true, false, eqb, eq-eqb, List, length, refl, sym, subst}
 use Rattle.std.specs.Prelude.{min, ◌&&◌}
 use Rattle.std.specs.List.{list_all}
 use Rattle.std.proofs.lemmas.Bool.{eqb-true}
@@ -20,9 +20,6 @@ pub block_is : (encoding : Encoding) (rows : ℕ) (e : Entry) (vs : List Value) 
 block_is encoding rows e vs bytes spells told =
     let a = and_true (eqb (length vs) (min 1024 (rows - e.first))) (list_all (is_between e) vs) told in
     record { values = is_block encoding vs bytes spells; long = eqb-true _ _ a.0; between = a.1 }
-
-pub few_values : (encoding : Encoding) (vs : List Value) (bytes : List ℕ) → SpellsAs encoding vs bytes → length vs ≤ 1024
-few_values encoding vs bytes spells = (is_block encoding vs bytes spells).few
 
 told_true : (rows : ℕ) (e : Entry) (vs : List Value) → IsBlock rows e vs → test rows e vs ≡ true
 told_true rows e vs is = rw (eq-eqb (length vs) (min 1024 (rows - e.first)) is.long, is.between) refl

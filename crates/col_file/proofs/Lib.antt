@@ -1,8 +1,8 @@
 pub mod Looking
 pub mod Written
 pub mod Found
+pub mod Numbers
 pub mod Blocks
-pub mod RunsOf
 pub mod ByBlocks
 pub mod OneColumn
 pub mod Laid

@@ -41,7 +41,13 @@ one_list encoding body index rows m vs ws h k =
 blames_body : (encoding : Encoding) (body index rows : ℕ) (holds now : Option Contents) (at : PosIndex) (fault : StoreFault) → at.rows ≡ rows → IsIndex at → Fits at → IsFile index (index_spelling at) holds → now ≡ holds
     → Blames body (HoldsNoBlocks encoding body at now) fault → BlamesColumn encoding body index rows holds fault
 blames_body encoding body index rows holds now at (Damaged n) so_many is fit there same given =
-    inr (given.0, λ m told vs h. given.1 m (same ∙ told) h.bytes h.body_file (vs, by_index encoding body index rows m vs at is fit so_many (there m told) h))
+    inr (
+      given.0,
+      λ m told. (
+        (at, is, fit, so_many, there m told),
+        λ vs h. given.1 m (same ∙ told) h.bytes h.body_file (vs, by_index encoding body index rows m vs at is fit so_many (there m told) h),
+      ),
+    )
 blames_body encoding body index rows holds now at Disk so_many is fit there same given = tt
 blames_body encoding body index rows holds now at Memory so_many is fit there same given = tt
 

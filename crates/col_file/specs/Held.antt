@@ -47,8 +47,13 @@ pub record HoldsColumn (encoding : Encoding) (body index rows : ℕ) (m : Conten
   pub body_file : get m body ≡ Some bytes
   pub blocks : HasBlocks encoding rows bytes at.entries vs
 
--- a Damaged names the index where that is none of so many rows, or the body where the two files hold no column; no other fault says anything
+-- the file is an index of so many rows
+abbrev pub IsIndexFile : ℕ → ℕ → Contents → Type 0
+IsIndexFile index rows m = (at : PosIndex) × IsIndex at × Fits at × (at.rows ≡ rows) × (get m index ≡ Some (index_spelling at))
+
+-- A Damaged names the index where that is none of so many rows, or the body where the index is one and the two files hold no column; no other
+-- fault says anything.
 abbrev pub BlamesColumn : Encoding → ℕ → ℕ → ℕ → Option Contents → StoreFault → Type 0
-BlamesColumn encoding body index rows holds (Damaged n) = ((n ≡ index) × IsNoFile index (SpellsIndex rows) holds) ⊎ ((n ≡ body) × ((m : Contents) → holds ≡ Some m → (vs : List Value) → HoldsColumn encoding body index rows m vs → ⊥))
+BlamesColumn encoding body index rows holds (Damaged n) = ((n ≡ index) × IsNoFile index (SpellsIndex rows) holds) ⊎ ((n ≡ body) × ((m : Contents) → holds ≡ Some m → IsIndexFile index rows m × ((vs : List Value) → HoldsColumn encoding body index rows m vs → ⊥)))
 BlamesColumn encoding body index rows holds Disk = Unit {0}
 BlamesColumn encoding body index rows holds Memory = Unit {0}

@@ -9,9 +9,8 @@ use Rattle.col_disk.specs.declared.disk.StoreFault.{StoreFault}
 use Rattle.col_disk.specs.declared.disk.StoreFault.TheVariants.{Disk, Damaged, Memory}
 use Rattle.col_value.specs.Order.{value_cmp}
 use Rattle.col_value.specs.declared.kinds.Encoding.{Encoding}
-use Rattle.col_value.specs.declared.row.Run.{Run}
 use Rattle.col_value.specs.declared.value.Value.{Value}
-use Rattle.block_codec.specs.Blocks.{IsOneBlock, flattened, HaveCounts}
+use Rattle.block_codec.specs.Blocks.{IsOneBlock}
 use Rattle.block_choice.specs.Choice.{SpellsAs}
 use Rattle.pos_index.specs.declared.index.Entry.{Entry}
 use Rattle.pos_index.specs.declared.index.PosIndex.{PosIndex}
@@ -67,8 +66,3 @@ AnswersPiece name e next holds answer = (m : Contents) → holds ≡ Some m → 
 -- the file is absent, or the block's bytes are no block of this entry
 abbrev pub IsNoPiece : Encoding → ℕ → ℕ → Entry → Option Entry → Option Contents → Type 0
 IsNoPiece encoding name rows e next holds = (m : Contents) → holds ≡ Some m → (bytes : List ℕ) → get m name ≡ Some bytes → SpellsBlock encoding rows e (piece e next bytes) → ⊥
-
--- runs of at least one value each, of the values of the block that stands in the file
-pub record AreRuns (encoding : Encoding) (name rows : ℕ) (e : Entry) (next : Option Entry) (holds : Option Contents) (runs : List Run) : Type 0 where
-  pub counts : HaveCounts runs
-  pub are : AreValues encoding name rows e next holds (flattened runs)

@@ -5,16 +5,15 @@ ghost use Rattle.std.specs.List.{slice_get};
 ghost use Rattle.common_laws.specs.Causes.{HasCause};
 ghost use Rattle.col_disk.specs.Calls.{AnswersPart};
 ghost use Rattle.col_disk.specs.Moved.{Moved, NoName};
-ghost use Rattle.block_codec.specs.Blocks.{flattened, HaveCounts};
 ghost use Rattle.block_choice.specs.Choice.{SpellsAs};
-ghost use Rattle.col_file.specs.Read.{Blames, SpellsBlock, IsBlock, AnswersPiece, IsNoPiece, AreValues, AreRuns};
+ghost use Rattle.col_file.specs.Read.{Blames, SpellsBlock, IsBlock, AnswersPiece, IsNoPiece, AreValues};
 
-use crate::checks::{are_runs, are_values};
+use crate::checks::are_values;
 use crate::read::fault_of;
-use block_choice::{decode, runs};
+use block_choice::decode;
 use block_codec::Block;
 use col_disk::{Disk, StoreFault};
-use col_value::{Encoding, Run};
+use col_value::Encoding;
 use common_laws::Steps;
 use pos_index::{Entry, PosIndex};
 use std::alloc::{AllocError, Global};
@@ -91,34 +90,6 @@ fn values_in(
     }
 }
 
-/// The runs of the block that the bytes are; the name is blamed where they are none of this entry.
-#[tactic(auto, using(crate::proofs::Blocks::block_is, crate::proofs::Blocks::block_not, crate::proofs::Blocks::few_values))]
-fn runs_in(
-    alloc: Global,
-    bytes: &[u8],
-    name: u64,
-    rows: u64,
-    entry: &Entry,
-    encoding: Encoding,
-) -> Result<Vec<Run>, StoreFault>
-    ensures counts { IfOk result (λ v. HaveCounts v.items) }
-    ensures found { IfOk result (λ v. IsBlock rows entry.now (flattened v.items) × SpellsAs encoding (flattened v.items) bytes.now) }
-    ensures blamed { IfErr result (Blames name (SpellsBlock encoding rows entry.now bytes.now → ⊥)) }
-    ensures no_cause { result ≢ Err StoreFault.Disk }
-{
-    match runs(alloc, encoding, bytes) {
-        Ok(Some(runs)) => {
-            if are_runs(runs.as_slice(), rows, entry) {
-                Ok(runs)
-            } else {
-                Err(StoreFault::Damaged(name))
-            }
-        }
-        Ok(None) => Err(StoreFault::Damaged(name)),
-        Err(AllocError) => Err(StoreFault::Memory),
-    }
-}
-
 /// The values of the block of this entry, which ends where the next begins.
 fn block_values<D: Disk>(
     alloc: Global,
@@ -142,31 +113,10 @@ fn block_values<D: Disk>(
     }
 }
 
-/// The runs of the block of this entry, which ends where the next begins.
-pub fn block_runs<D: Disk>(
-    alloc: Global,
-    disk: &mut D,
-    name: u64,
-    rows: u64,
-    entry: &Entry,
-    next: Option<&Entry>,
-    encoding: Encoding,
-) -> Result<Vec<Run>, StoreFault>
-    ensures found { IfOk result (λ v. AreRuns encoding name rows entry.now (option_map (λ n. n.now) next.entry) (D.holds disk.old) v.items) }
-    ensures blamed { IfErr result (Blames name (IsNoPiece encoding name rows entry.now (option_map (λ n. n.now) next.entry) (D.holds disk.old))) }
-    ensures kept { D.holds disk.new ≡ D.holds disk.old }
-    ensures moved { Moved ⟦<D as Disk>⟧ NoName NoName disk.old disk.new }
-    ensures cause { HasCause StoreFault.Disk (D.faults disk.old) (D.faults disk.new) result }
-{
-    match piece_of(alloc, disk, name, entry, next) {
-        Ok(Some(bytes)) => runs_in(alloc, bytes.as_slice(), name, rows, entry, encoding),
-        Ok(None) => Err(StoreFault::Damaged(name)),
-        Err(fault) => Err(fault),
-    }
-}
-
 /// The values of block k of a column. Of the file only the block's bytes are read, from its place to the next block's, of the
-/// last to the end of the file. `Damaged(body)` comes only where `read_block` answers it, too.
+/// last to the end of the file. A block of an AUTO column may be in any of the four encodings, of another in its own alone.
+/// `Damaged(body)` comes only where the file is absent, or the bytes of the block are no block of as many values as the index says, each
+/// from the block's least to its greatest.
 pub fn read_values<D: Disk>(
     alloc: Global,
     disk: &mut D,
@@ -187,11 +137,7 @@ pub fn read_values<D: Disk>(
     block_values(alloc, disk, body, at.rows, &entries[k], next, encoding)
 }
 
-/// Reads block k of a column: its runs, which flatten to its values. Of the file only the block's bytes are read,
-/// from its place to the next block's, of the last to the end of the file; it counts as one step. A block of an AUTO
-/// column may be in any of the four encodings, of another in its own alone. `Damaged(body)` comes only where the file is
-/// absent, or the bytes of the block are no block of as many values as the index says, each from the block's least to its
-/// greatest.
+/// The same, counted as one step.
 pub fn read_block<D: Disk, L: Ledger>(
     alloc: Global,
     disk: &mut D,
@@ -200,9 +146,9 @@ pub fn read_block<D: Disk, L: Ledger>(
     encoding: Encoding,
     k: usize,
     steps: &mut Steps<L>,
-) -> Result<Vec<Run>, StoreFault>
+) -> Result<Block, StoreFault>
     requires { k < length at.now.entries }
-    ensures found { IfSome (slice_get at.now.entries k) (λ e. IfOk result (λ v. AreRuns encoding body at.now.rows e (slice_get at.now.entries (k + 1)) (D.holds disk.old) v.items)) }
+    ensures found { IfSome (slice_get at.now.entries k) (λ e. IfOk result (λ v. AreValues encoding body at.now.rows e (slice_get at.now.entries (k + 1)) (D.holds disk.old) v)) }
     ensures blamed { IfSome (slice_get at.now.entries k) (λ e. IfErr result (Blames body (IsNoPiece encoding body at.now.rows e (slice_get at.now.entries (k + 1)) (D.holds disk.old)))) }
     ensures step { steps.new ≡ steps.old + 1 }
     ensures kept { D.holds disk.new ≡ D.holds disk.old }
@@ -210,7 +156,5 @@ pub fn read_block<D: Disk, L: Ledger>(
     ensures cause { HasCause StoreFault.Disk (D.faults disk.old) (D.faults disk.new) result }
 {
     steps.tick();
-    let entries = at.entries.as_slice();
-    let next = entries.get(k + 1);
-    block_runs(alloc, disk, body, at.rows, &entries[k], next, encoding)
+    read_values(alloc, disk, body, at, encoding, k)
 }

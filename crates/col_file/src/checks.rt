@@ -1,14 +1,14 @@
 //! Whether values are those of an entry's block.
 
-ghost use Rattle.std.specs.Prelude.{◌≡◌, ◌≤◌, ◌&&◌, ◌==◌, ◌-◌, min, length};
+ghost use Rattle.std.specs.Prelude.{◌≡◌, ◌&&◌, ◌==◌, ◌-◌, map, min, length};
 ghost use Rattle.std.specs.List.{list_all};
 ghost use Rattle.std.specs.Ordering.{is_le};
 ghost use Rattle.col_value.specs.Order.{value_cmp};
-ghost use Rattle.block_codec.specs.Blocks.{flattened, HaveCounts};
+ghost use Rattle.block_codec.specs.Held.{number_value};
 ghost use Rattle.col_file.specs.Read.{is_between};
 
-use block_codec::Block;
-use col_value::{Run, Value};
+use block_codec::{Block, lane_number};
+use col_value::Value;
 use pos_index::Entry;
 
 /// Whether it is less than the other or the same: numbers, the most of all values, without a look at their kinds' order.
@@ -38,22 +38,65 @@ fn are_words_between(entry: &Entry, words: &[Value]) -> bool
     true
 }
 
-fn are_each_between(entry: &Entry, values: &Block) -> bool
-    ensures { result ≡ list_all (is_between entry.now) values.now }
+/// Whether the value of a number of a lane lies between those of two others, which are the entry's least and greatest.
+fn is_within(entry: &Entry, least: i64, greatest: i64, n: i64) -> bool
+    requires least { number_value least ≡ entry.now.least }
+    requires greatest { number_value greatest ≡ entry.now.greatest }
+    ensures { result ≡ is_between entry.now (number_value n) }
 {
-    for i in 0..values.len() {
-        if !is_between(entry, values.value(i)) {
+    least <= n && n <= greatest
+}
+
+/// The same of all values of a lane.
+fn are_numbers_within(entry: &Entry, least: i64, greatest: i64, numbers: &[i64]) -> bool
+    requires least { number_value least ≡ entry.now.least }
+    requires greatest { number_value greatest ≡ entry.now.greatest }
+    ensures { result ≡ list_all (λ n. is_between entry.now (number_value n)) numbers.now }
+{
+    for n in numbers {
+        if !is_within(entry, least, greatest, *n) {
             return false;
         }
     }
     true
 }
 
-/// Whether all values of a block are: of the words there may be few, but a word may stand for none of the values.
+fn are_each_between(entry: &Entry, values: &Block) -> bool
+    ensures { result ≡ list_all (is_between entry.now) values.now }
+{
+    for i in 0..values.len() {
+        let cell = values.cell(i);
+        if !is_between(entry, cell.value()) {
+            return false;
+        }
+    }
+    true
+}
+
+/// The same of a lane of numbers, whose ends are numbers mostly.
+fn are_numbers_between(entry: &Entry, numbers: &[i64], values: &Block) -> bool
+    requires { map number_value numbers.now ≡ values.now }
+    ensures { result ≡ list_all (is_between entry.now) values.now }
+{
+    match (lane_number(&entry.least), lane_number(&entry.greatest)) {
+        (Some(least), Some(greatest)) => are_numbers_within(entry, least, greatest, numbers),
+        _ => are_each_between(entry, values),
+    }
+}
+
+/// Whether all values of a block are: of words there may be few, but a word may stand for none of the values.
 fn are_between(entry: &Entry, values: &Block) -> bool
     ensures { result ≡ list_all (is_between entry.now) values.now }
 {
-    are_words_between(entry, values.words()) || are_each_between(entry, values)
+    if let Some(numbers) = values.numbers() {
+        return are_numbers_between(entry, numbers, values);
+    }
+    if let Some((words, _)) = values.coded() {
+        if are_words_between(entry, words) {
+            return true;
+        }
+    }
+    are_each_between(entry, values)
 }
 
 /// How many values the block of this entry has, in a column of so many rows.
@@ -68,37 +111,4 @@ pub fn are_values(values: &Block, rows: u64, entry: &Entry) -> bool
     ensures { result ≡ (length values.now == min 1024 (rows - entry.now.first) && list_all (is_between entry.now) values.now) }
 {
     values.len() as u64 == rows_of(rows, entry) && are_between(entry, values)
-}
-
-/// How many values the runs stand for.
-fn count_of(runs: &[Run]) -> usize
-    requires { length (flattened runs.now) ≤ 1024 }
-    ensures { result ≡ length (flattened runs.now) }
-{
-    let mut count = 0;
-    for run in runs {
-        count += run.count;
-    }
-    count
-}
-
-fn are_runs_between(entry: &Entry, runs: &[Run]) -> bool
-    requires { HaveCounts runs.now }
-    ensures { result ≡ list_all (is_between entry.now) (flattened runs.now) }
-{
-    for run in runs {
-        if !is_between(entry, &run.value) {
-            return false;
-        }
-    }
-    true
-}
-
-/// The same of the values that the runs stand for.
-pub fn are_runs(runs: &[Run], rows: u64, entry: &Entry) -> bool
-    requires counts { HaveCounts runs.now }
-    requires few { length (flattened runs.now) ≤ 1024 }
-    ensures { result ≡ (length (flattened runs.now) == min 1024 (rows - entry.now.first) && list_all (is_between entry.now) (flattened runs.now)) }
-{
-    count_of(runs) as u64 == rows_of(rows, entry) && are_runs_between(entry, runs)
 }

@@ -5,7 +5,7 @@
 //! first row, the place of its first byte in the body, and the least and the greatest of its values. The two files of a
 //! column are the definitions of `specs/Column.antt`, and `specs/Held.antt` says which values two files hold: at most one
 //! list, and after `write_column` the list that was written. `read_column` reads it whole; `read_index` reads an index,
-//! and `read_block` and `read_values` one block, as runs and as values, of which they read its own bytes alone.
+//! and `read_values` the values of one block, of which it reads its own bytes alone; `read_block` counts that as a step.
 #![tactic(auto)]
 
 mod block;

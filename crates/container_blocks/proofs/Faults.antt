@@ -8,7 +8,7 @@ use Rattle.catalog_types.specs.declared.catalogue.Container.{Container}
 use Rattle.col_disk.specs.declared.disk.StoreFault.{StoreFault}
 use Rattle.col_disk.specs.declared.disk.StoreFault.TheVariants.{Disk, Damaged, Memory}
 use Rattle.col_file.specs.Column.{IsNoFile}
-use Rattle.col_file.specs.Held.{HoldsColumn}
+use Rattle.col_file.specs.Held.{HoldsColumn, IsIndexFile}
 use Rattle.col_file.specs.Read.{Blames, SpellsIndex, IsNoPiece}
 use Rattle.col_file.proofs.ByBlocks.{stands}
 use Rattle.col_value.specs.declared.kinds.Encoding.{Encoding}
@@ -51,9 +51,12 @@ no_block es k i b at holds (Damaged q) le is lt given has =
       omega (arith, le),
       inr (
         one.0,
-        λ m told vs held.
-            let part = part_of (encoding_at es i) (body_of k.base i) (index_of k.base i) k.rows m vs at b s.entry is (has m told) s.there held in
-            one.1 m told held.bytes held.body_file (nth_block b vs, part.values, part.spelled),
+        λ m told. (
+          (at, is.is_index, is.fits, is.of_rows, has m told),
+          λ vs held.
+              let part = part_of (encoding_at es i) (body_of k.base i) (index_of k.base i) k.rows m vs at b s.entry is (has m told) s.there held in
+              one.1 m told held.bytes held.body_file (nth_block b vs, part.values, part.spelled),
+        ),
       ),
     )
 
@@ -72,15 +75,17 @@ part_blamed es k i b at e body holds (Err fault) le is_e is_body is lt given = �
     (err_some (λ (x : Entry). Blames body (IsNoPiece e body at.rows x (slice_get at.entries (b + 1)) holds)) (slice_get at.entries b) fault given))) has
 
 -- a value that is no epoch
-pub epochs_blamed : (es : List Encoding) (k : Container) (columns b q : ℕ) (holds : Option Contents) (part : List Value) → columns ≡ length es → q ≡ body_of k.base columns → ArePart holds es k columns b part → (All (IsEpochOf k) part → ⊥)
-    → BlamesContainer es k holds (Damaged q)
-epochs_blamed es k columns b q holds part long is are none =
+pub epochs_blamed : (es : List Encoding) (k : Container) (columns b q : ℕ) (at : PosIndex) (holds : Option Contents) (part : List Value) → columns ≡ length es → q ≡ body_of k.base columns → IsIndexOf k.rows at → HasIndex k columns at holds
+    → ArePart holds es k columns b part → (All (IsEpochOf k) part → ⊥) → BlamesContainer es k holds (Damaged q)
+epochs_blamed es k columns b q at holds part long is index has are none =
     inr (
       is ∙ ap (body_of k.base) long,
-      λ m told vs held all.
-          let same : columns ≡ length es = long in
-          let theirs : ArePart holds es k (length es) b part = subst (λ (i : ℕ). ArePart holds es k i b part) same are in
-          let column : HoldsColumn (encoding_at es (length es)) (body_of k.base (length es)) (index_of k.base (length es)) k.rows m vs =
-          subst (λ (e : Encoding). HoldsColumn e (body_of k.base (length es)) (index_of k.base (length es)) k.rows m vs) (sym (epochs_auto es)) held in
-          none (subst (All (IsEpochOf k)) (sym (theirs m told vs column)) (All-take (IsEpochOf k) 1024 _ (All-drop (IsEpochOf k) (1024 * b) vs all))),
+      λ m told. (
+        subst (λ (i : ℕ). IsIndexFile (index_of k.base i) k.rows m) long (at, index.is_index, index.fits, index.of_rows, has m told),
+        λ vs held all.
+            let theirs : ArePart holds es k (length es) b part = subst (λ (i : ℕ). ArePart holds es k i b part) long are in
+            let column : HoldsColumn (encoding_at es (length es)) (body_of k.base (length es)) (index_of k.base (length es)) k.rows m vs =
+            subst (λ (e : Encoding). HoldsColumn e (body_of k.base (length es)) (index_of k.base (length es)) k.rows m vs) (sym (epochs_auto es)) held in
+            none (subst (All (IsEpochOf k)) (sym (theirs m told vs column)) (All-take (IsEpochOf k) 1024 _ (All-drop (IsEpochOf k) (1024 * b) vs all))),
+      ),
     )

@@ -31,7 +31,8 @@ fn epochs_of(
 {
     let mut epochs = Vec::with_capacity(alloc, values.len())?;
     for i in 0..values.len() {
-        match epoch_of(entry, values.value(i)) {
+        let cell = values.cell(i);
+        match epoch_of(entry, cell.value()) {
             Some(epoch) => epochs.push(epoch)?,
             None => return Ok(None),
         }

@@ -1,6 +1,7 @@
 //! The number from which the others are counted.
 
-ghost use Rattle.std.specs.Prelude.{◌≡◌, ◌↔◌, IsTrue};
+ghost use Rattle.std.specs.Prelude.{◌≡◌, ◌↔◌, IsTrue, map};
+ghost use Rattle.block_codec.specs.Held.{number_value};
 ghost use Rattle.std.specs.List.{All};
 ghost use Rattle.enc_delta.specs.Delta.{IsNumeric, number, lesser, least, base_of};
 
@@ -57,6 +58,33 @@ fn least(values: &[Value]) -> Option<i64>
         found = lesser(found, number(value));
     }
     found
+}
+
+/// The number of a lane, if there is one.
+fn in_lane(n: i64) -> Option<i64>
+    ensures { result ≡ number (number_value n) }
+{
+    if n == i64::MIN { None } else { Some(n) }
+}
+
+fn least_lane(numbers: &[i64]) -> Option<i64>
+    ensures { result ≡ least (map number_value numbers.now) }
+{
+    let mut found = None;
+    for n in numbers {
+        found = lesser(found, in_lane(*n));
+    }
+    found
+}
+
+/// The least number of some lanes, 0 where there is none.
+pub fn lane_base(numbers: &[i64]) -> i64
+    ensures { result ≡ base_of (map number_value numbers.now) }
+{
+    match least_lane(numbers) {
+        Some(n) => n,
+        None => 0,
+    }
 }
 
 /// The least number, 0 where there is none.

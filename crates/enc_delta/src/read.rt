@@ -1,14 +1,14 @@
 //! Reading numbers by how far they are above a base.
 
-ghost use Rattle.std.specs.Prelude.{◌≡◌};
+ghost use Rattle.std.specs.Prelude.{◌≡◌, ◌≤ℤ◌, ◌-◌, ◌^◌, negsuc, map, IfOk};
+ghost use Rattle.block_codec.specs.Held.{number_value};
 ghost use Rattle.col_bytes.specs.Fronts.{vint_at};
 ghost use Rattle.col_bytes.specs.Parts.{Gives, many};
 ghost use Rattle.enc_delta.specs.Fronts.{base_at, above_at, value_above, delta_of};
 
-use crate::base::base_of;
+use crate::base::lane_base;
 use block_codec::{BLOCK, Block, read_count};
 use col_bytes::{Stop, read_tag, read_vint, take_be8};
-use col_value::Value;
 use std::alloc::Global;
 
 /// The tag of a block.
@@ -17,7 +17,8 @@ pub const TAG: u8 = 2;
 /// The base at the front.
 #[tactic(auto, unfolding(crate::specs::Fronts::base_at))]
 fn read_base(bytes: &[u8]) -> Result<(i64, &[u8]), Stop>
-    ensures { Gives (λ x. (x.0, x.1.now)) result (base_at bytes.now) }
+    ensures base { Gives (λ x. (x.0, x.1.now)) result (base_at bytes.now) }
+    ensures low { IfOk result (λ x. negsuc (2 ^ 63 - 2) ≤ℤ x.0) }
 {
     match take_be8(bytes) {
         Some((n, len)) => {
@@ -30,24 +31,30 @@ fn read_base(bytes: &[u8]) -> Result<(i64, &[u8]), Stop>
     }
 }
 
-/// The value with this delta.
-fn value_of(base: i64, delta: u64) -> Result<Value, Stop>
-    ensures { Gives (λ v. v) result (value_above base delta) }
+/// The lane with this delta: a number above the base, or -2^63 for NULL.
+fn lane_of(base: i64, delta: u64) -> Result<i64, Stop>
+    requires { negsuc (2 ^ 63 - 2) ≤ℤ base }
+    ensures { Gives number_value result (value_above base delta) }
 {
     if delta == 0 {
-        return Ok(Value::Null);
+        return Ok(i64::MIN);
     }
     match base.checked_add_unsigned(delta - 1) {
-        Some(n) => Ok(Value::Int(n)),
+        Some(n) => Ok(n),
         None => Err(Stop::Malformed),
     }
 }
 
-/// The delta at the front. Most of those that don't fit into one byte take two.
+/// The delta at the front. Most take one byte or two.
 #[tactic(auto, unfolding(col_bytes::specs::Fronts::groups_at))]
 fn read_delta(bytes: &[u8]) -> Result<(u64, &[u8]), Stop>
     ensures { Gives (λ x. (x.0, x.1.now)) result (vint_at bytes.now) }
 {
+    if let [low, rest @ ..] = bytes {
+        if *low < 128 {
+            return Ok((u64::from(*low), rest));
+        }
+    }
     if let [low, high, rest @ ..] = bytes {
         if *low >= 128 && *high < 128 && *high > 0 {
             return Ok((u64::from(*low - 128) + 128 * u64::from(*high), rest));
@@ -56,33 +63,35 @@ fn read_delta(bytes: &[u8]) -> Result<(u64, &[u8]), Stop>
     read_vint(bytes)
 }
 
-/// The value at the front.
+/// The lane at the front.
 #[tactic(auto, unfolding(crate::specs::Fronts::above_at))]
-fn read_above(base: i64, bytes: &[u8]) -> Result<(Value, &[u8]), Stop>
-    ensures { Gives (λ x. (x.0, x.1.now)) result (above_at base bytes.now) }
+fn read_above(base: i64, bytes: &[u8]) -> Result<(i64, &[u8]), Stop>
+    requires { negsuc (2 ^ 63 - 2) ≤ℤ base }
+    ensures { Gives (λ x. (number_value x.0, x.1.now)) result (above_at base bytes.now) }
 {
     let (delta, rest) = read_delta(bytes)?;
-    let value = value_of(base, delta)?;
-    Ok((value, rest))
+    let lane = lane_of(base, delta)?;
+    Ok((lane, rest))
 }
 
-/// So many values of the front, and the bytes behind them.
+/// The lanes of so many values of the front, and the bytes behind them.
 fn read_values(
     alloc: Global,
     base: i64,
     count: u64,
     bytes: &[u8],
-) -> Result<(Vec<Value>, &[u8]), Stop>
-    ensures { Gives (λ x. (x.0.items, x.1.now)) result (many (above_at base) count bytes.now) }
+) -> Result<(Vec<i64>, &[u8]), Stop>
+    requires { negsuc (2 ^ 63 - 2) ≤ℤ base }
+    ensures { Gives (λ x. (map number_value x.0.items, x.1.now)) result (many (above_at base) count bytes.now) }
 {
-    let mut values = Vec::with_capacity(alloc, count.min(BLOCK as u64) as usize)?;
+    let mut numbers = Vec::with_capacity(alloc, count.min(BLOCK as u64) as usize)?;
     let mut rest = bytes;
     for _ in 0..count {
-        let (value, after) = read_above(base, rest)?;
-        values.push(value)?;
+        let (number, after) = read_above(base, rest)?;
+        numbers.push(number)?;
         rest = after;
     }
-    Ok((values, rest))
+    Ok((numbers, rest))
 }
 
 /// The values of the block that all of the bytes are.
@@ -93,9 +102,9 @@ pub fn values_of(alloc: Global, bytes: &[u8]) -> Result<Block, Stop>
     let rest = read_tag(TAG, bytes)?;
     let (count, rest) = read_count(rest)?;
     let (base, rest) = read_base(rest)?;
-    let (values, rest) = read_values(alloc, base, count, rest)?;
-    if rest.is_empty() && base_of(values.as_slice()) == base {
-        Ok(Block::of(values))
+    let (numbers, rest) = read_values(alloc, base, count, rest)?;
+    if rest.is_empty() && lane_base(numbers.as_slice()) == base {
+        Ok(Block::of_numbers(numbers))
     } else {
         Err(Stop::Malformed)
     }

@@ -1,13 +1,11 @@
 ghost use Rattle.std.specs.Prelude.{◌≡◌, ◌<◌, ◌^◌, length, IfOk};
 ghost use Rattle.col_bytes.specs.Parts.{Gives};
-ghost use Rattle.block_codec.specs.Blocks.{IsOneBlock, flattened, HaveCounts};
+ghost use Rattle.block_codec.specs.Blocks.{IsOneBlock};
 ghost use Rattle.enc_plain.specs.Plain.{plain, plain_of};
 
-use block_codec::{
-    Block, BlockCodec, are_one_block, read_count, single_runs, values_len, vint_len,
-};
+use block_codec::{Block, BlockCodec, are_one_block, read_count, values_len, vint_len};
 use col_bytes::{Stop, put_vint, read_tag, told};
-use col_value::{Run, Value};
+use col_value::Value;
 use std::alloc::{AllocError, Global};
 use value_bytes::{put_values, read_values};
 
@@ -40,15 +38,6 @@ fn values_of(alloc: Global, bytes: &[u8]) -> Result<Block, Stop>
     }
 }
 
-/// A run for each of them.
-fn runs_of(alloc: Global, bytes: &[u8]) -> Result<Vec<Run>, Stop>
-    ensures values { Gives (λ v. flattened v.items) result (plain_of bytes.now) }
-    ensures counts { IfOk result (λ v. HaveCounts v.items) }
-{
-    let values = values_of(alloc, bytes)?;
-    Ok(single_runs(alloc, values.into_values(alloc)?)?)
-}
-
 impl BlockCodec for Plain {
     ghost fits = { λ _. IsOneBlock };
 
@@ -68,10 +57,6 @@ impl BlockCodec for Plain {
 
     fn decode(&self, alloc: Global, bytes: &[u8]) -> Result<Option<Block>, AllocError> {
         told(values_of(alloc, bytes))
-    }
-
-    fn runs(&self, alloc: Global, bytes: &[u8]) -> Result<Option<Vec<Run>>, AllocError> {
-        told(runs_of(alloc, bytes))
     }
 
     fn laws(&self) {}

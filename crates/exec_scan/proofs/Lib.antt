@@ -10,3 +10,4 @@ pub mod Long
 pub mod Narrowing
 pub mod Passed
 pub mod Stepping
+pub mod Within

@@ -19,7 +19,7 @@ fn cell(alloc: Global, column: &Option<Block>, i: usize) -> Result<Value, AllocE
     ensures { IfOk result (λ v. v ≡ cell i column.now) }
 {
     match column {
-        Some(values) => values.value(i).copy(alloc),
+        Some(values) => values.copy_at(alloc, i),
         None => Ok(Value::Null),
     }
 }

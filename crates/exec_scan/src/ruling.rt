@@ -1,14 +1,16 @@
 //! Rows of a block that a bound rules out.
 
-ghost use Rattle.std.specs.Prelude.{◌≡◌, length, false, true, IsTrue, Some};
+ghost use Rattle.std.specs.Prelude.{◌≡◌, ◌<ℤ◌, ℤ, FitsSigned, length, map, false, true, IsTrue, Some};
+ghost use Rattle.std.specs.Int.{w64};
 ghost use Rattle.std.specs.Option.{IfSome, option_map_or};
 ghost use Rattle.std.specs.Ordering.{is_le};
+ghost use Rattle.block_codec.specs.Held.{number_value};
 ghost use Rattle.col_value.specs.Order.{value_cmp};
 ghost use Rattle.col_value.specs.declared.value.Value.TheVariants.{Int};
 ghost use Rattle.row_bounds.specs.Bounds.{lies_in};
 ghost use Rattle.exec_scan.specs.Reading.{RulesOut, Stays};
 
-use block_codec::Block;
+use block_codec::{Block, lane_number};
 use col_value::Value;
 use pos_index::PosIndex;
 use row_bounds::Bound;
@@ -63,6 +65,56 @@ fn stays(alive: bool, bound: &Bound, value: &Value) -> bool
     alive && !lies_out(bound, value)
 }
 
+/// A number of a lane such that values of lesser numbers are less than a least value.
+#[tactic(auto, using(crate::proofs::Within::out_below, crate::proofs::Within::none_below))]
+fn first_of(least: &Option<Value>) -> i64
+    ensures { (n : ℤ) → FitsSigned w64 n → n <ℤ result → option_map_or (λ least. is_le (value_cmp least (number_value n))) least.now true ≡ false }
+{
+    match least {
+        Some(value) => match lane_number(value) {
+            Some(n) => n,
+            None => i64::MIN,
+        },
+        None => i64::MIN,
+    }
+}
+
+/// A number of a lane such that values of greater numbers are greater than a greatest value.
+#[tactic(auto, using(crate::proofs::Within::out_above, crate::proofs::Within::none_above))]
+fn last_of(greatest: &Option<Value>) -> i64
+    ensures { (n : ℤ) → FitsSigned w64 n → result <ℤ n → option_map_or (λ greatest. is_le (value_cmp (number_value n) greatest)) greatest.now true ≡ false }
+{
+    match greatest {
+        Some(value) => match lane_number(value) {
+            Some(n) => n,
+            None => i64::MAX,
+        },
+        None => i64::MAX,
+    }
+}
+
+/// Whether a row is alive still, by the number of its value in the column of a bound.
+fn stays_within(alive: bool, bound: &Bound, first: i64, last: i64, n: i64) -> bool
+    requires first { (m : ℤ) → FitsSigned w64 m → m <ℤ first → option_map_or (λ least. is_le (value_cmp least (number_value m))) bound.now.least true ≡ false }
+    requires last { (m : ℤ) → FitsSigned w64 m → last <ℤ m → option_map_or (λ greatest. is_le (value_cmp (number_value m) greatest)) bound.now.greatest true ≡ false }
+    ensures { Stays bound.now (number_value n) alive result }
+{
+    alive && first <= n && n <= last
+}
+
+/// Rows whose value, a number of a lane, lies out of a bound are alive no more.
+fn rule_out_numbers(alive: &mut [bool], bound: &Bound, numbers: &[i64])
+    requires { length numbers.now ≡ length alive.old }
+    ensures long { length alive.new ≡ length alive.old }
+    ensures rules { RulesOut bound.now (Some (map number_value numbers.now)) alive.old alive.new }
+{
+    let first = first_of(&bound.least);
+    let last = last_of(&bound.greatest);
+    for i in 0..alive.len() {
+        alive[i] = stays_within(alive[i], bound, first, last, numbers[i]);
+    }
+}
+
 /// Rows whose value lies out of a bound are alive no more.
 fn rule_out_values(alive: &mut [bool], bound: &Bound, values: &Block)
     requires { length values.now ≡ length alive.old }
@@ -70,7 +122,8 @@ fn rule_out_values(alive: &mut [bool], bound: &Bound, values: &Block)
     ensures rules { RulesOut bound.now (Some values.now) alive.old alive.new }
 {
     for i in 0..alive.len() {
-        alive[i] = stays(alive[i], bound, values.value(i));
+        let cell = values.cell(i);
+        alive[i] = stays(alive[i], bound, cell.value());
     }
 }
 
@@ -81,7 +134,10 @@ pub fn rule_out(alive: &mut [bool], bound: &Bound, column: &Option<Block>)
     ensures rules { RulesOut bound.now column.now alive.old alive.new }
 {
     match column {
-        Some(values) => rule_out_values(alive, bound, values),
+        Some(values) => match values.numbers() {
+            Some(numbers) => rule_out_numbers(alive, bound, numbers),
+            None => rule_out_values(alive, bound, values),
+        },
         None => {},
     }
 }

@@ -53,7 +53,8 @@ pub fn narrow(alive: &mut [bool], values: &Block, column: usize, wants: &Wants)
     ensures narrows { NarrowsBy column values.now (need_in wants.now) alive.old alive.new }
 {
     for i in 0..alive.len() {
-        alive[i] = stays(alive[i], values.value(i), column, wants);
+        let cell = values.cell(i);
+        alive[i] = stays(alive[i], cell.value(), column, wants);
     }
 }
 

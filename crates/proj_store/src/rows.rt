@@ -35,7 +35,7 @@ fn copy_at(alloc: Global, column: &Option<Block>, i: usize) -> Result<Value, All
     ensures { IfOk result (λ v. v ≡ slice_index_or (values_in column.now) i Null) }
 {
     match column {
-        Some(values) if i < values.len() => values.value(i).copy(alloc),
+        Some(values) if i < values.len() => values.copy_at(alloc, i),
         _ => Ok(Value::Null),
     }
 }
@@ -45,7 +45,10 @@ fn is_at(value: &Value, column: &Option<Block>, i: usize) -> bool
     ensures { IsTrue result → value.now ≡ slice_index_or (values_in column.now) i Null }
 {
     match column {
-        Some(values) if i < values.len() => value.is(values.value(i)),
+        Some(values) if i < values.len() => {
+            let cell = values.cell(i);
+            value.is(cell.value())
+        }
         _ => value.is(&Value::Null),
     }
 }

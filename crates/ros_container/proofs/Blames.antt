@@ -8,7 +8,7 @@ use Rattle.catalog_types.specs.declared.catalogue.Container.{Container}
 use Rattle.common_laws.specs.Maps.{Contents}
 use Rattle.col_disk.specs.declared.disk.StoreFault.{StoreFault}
 use Rattle.col_disk.specs.declared.disk.StoreFault.TheVariants.{Disk, Damaged, Memory}
-use Rattle.col_file.specs.Held.{HoldsColumn, BlamesColumn}
+use Rattle.col_file.specs.Held.{HoldsColumn, BlamesColumn, IsIndexFile}
 use Rattle.pos_index.specs.Index.{index_spelling}
 use Rattle.col_value.specs.declared.kinds.Encoding.{Encoding}
 use Rattle.col_value.specs.declared.kinds.Encoding.TheVariants.{Auto}
@@ -34,16 +34,20 @@ blames_read encodings i k holds e body index (Ok vs) le is_e is_body is_index bl
 blames_read encodings i k holds e body index (Err fault) le is_e is_body is_index blamed =
     blames_column encodings i k holds fault (omega arith) (subst (λ (d : Encoding). BlamesColumn d (body_of k.base i) (index_of k.base i) k.rows holds fault) is_e (subst (λ (x : ℕ). BlamesColumn e (body_of k.base i) x k.rows holds fault) is_index (subst (λ (b : ℕ). BlamesColumn e b index k.rows holds fault) is_body blamed)))
 
+-- the index of a column that is held is one
+index_file : {encoding : Encoding} {body index rows : ℕ} {m : Contents} {vs : List Value} → HoldsColumn encoding body index rows m vs → IsIndexFile index rows m
+index_file held = (held.at, held.is_index, held.fits, held.of_rows, held.index_file)
+
 -- where one list of values is held, and it is not of epochs, the body of the epochs is to blame
 pub blames_epochs : (encodings : List Encoding) (k : Container) (holds : Option Contents) (vs : List Value)
     → ((m : Contents) (us ws : List Value) → HoldsColumn Auto (body_of k.base (length encodings)) (index_of k.base (length encodings)) k.rows m us → HoldsColumn Auto (body_of k.base (length encodings)) (index_of k.base (length encodings)) k.rows m ws → us ≡ ws)
     → ((m : Contents) → holds ≡ Some m → HoldsColumn Auto (body_of k.base (length encodings)) (index_of k.base (length encodings)) k.rows m vs) → (All (IsEpochOf k) vs → ⊥) → (q : ℕ) → q ≡ body_of k.base (length encodings) → BlamesContainer encodings k holds (Damaged q)
-blames_epochs encodings k holds vs one found other q is = inr (is, λ m told ws held all. other (subst (All (IsEpochOf k)) (one m ws vs held (found m told)) all))
+blames_epochs encodings k holds vs one found other q is = inr (is, λ m told. (index_file (found m told), λ ws held all. other (subst (All (IsEpochOf k)) (one m ws vs held (found m told)) all)))
 
 -- the two files of a column that hold values are not to blame
 not_blamed : (e : Encoding) (body index rows : ℕ) (holds : Option Contents) (q : ℕ) → BlamesColumn e body index rows holds (Damaged q) → (m : Contents) → holds ≡ Some m → (vs : List Value) → HoldsColumn e body index rows m vs → ⊥
 not_blamed e body index rows holds q (inl (is, missing)) m told vs held = missing m told (index_spelling held.at) held.index_file (held.at, held.is_index, held.fits, held.of_rows, refl)
-not_blamed e body index rows holds q (inr (is, missing)) m told vs held = missing m told vs held
+not_blamed e body index rows holds q (inr (is, missing)) m told vs held = (missing m told).1 vs held
 
 -- each file of a container holds a column
 a_column : (encodings : List Encoding) (k : Container) (m : Contents) (rows : List Asked) (i : ℕ) → i < length encodings + 1 → HoldsContainer m encodings k rows → (vs : List Value) × HoldsColumn (encoding_at encodings i) (body_of k.base i) (index_of k.base i) k.rows m vs
@@ -68,4 +72,4 @@ blamed_holds_none encodings k holds Memory blamed = tt
 blamed_holds_none encodings k holds (Damaged q) (inl (i, lt, blamed)) =
     λ m told rows held. let column = a_column encodings k m rows i lt held in
     not_blamed (encoding_at encodings i) (body_of k.base i) (index_of k.base i) k.rows holds q blamed m told column.0 column.1
-blamed_holds_none encodings k holds (Damaged q) (inr (is, missing)) = λ m told rows held. missing m told (epoch_values rows) held.epochs (are_epochs k rows held.within)
+blamed_holds_none encodings k holds (Damaged q) (inr (is, missing)) = λ m told rows held. (missing m told).1 (epoch_values rows) held.epochs (are_epochs k rows held.within)

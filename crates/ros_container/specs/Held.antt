@@ -5,7 +5,7 @@ use Rattle.catalog_types.specs.declared.catalogue.Container.{Container}
 use Rattle.common_laws.specs.Maps.{Contents}
 use Rattle.col_disk.specs.declared.disk.StoreFault.{StoreFault}
 use Rattle.col_disk.specs.declared.disk.StoreFault.TheVariants.{Disk, Damaged, Memory}
-use Rattle.col_file.specs.Held.{HoldsColumn, BlamesColumn}
+use Rattle.col_file.specs.Held.{HoldsColumn, BlamesColumn, IsIndexFile}
 use Rattle.col_value.specs.declared.kinds.Encoding.{Encoding}
 use Rattle.col_value.specs.declared.kinds.Encoding.TheVariants.{Auto}
 use Rattle.col_value.specs.declared.row.Asked.{Asked}
@@ -21,13 +21,14 @@ pub record HoldsContainer (m : Contents) (encodings : List Encoding) (k : Contai
   pub wide : AreWide (length encodings) rows
   pub within : AreWithin k rows
 
--- the name is the body of the epochs, and they are no numbers from the least to the greatest epoch
+-- the name is the body of the epochs, whose index is one, and they are no numbers from the least to the greatest epoch
 abbrev pub IsNoEpochs : List Encoding → Container → Option Contents → ℕ → Type 0
 IsNoEpochs encodings k holds q =
     (q ≡ body_of k.base (length encodings))
-    × ((m : Contents) → holds ≡ Some m → (vs : List Value) → HoldsColumn Auto (body_of k.base (length encodings)) (index_of k.base (length encodings)) k.rows m vs → All (IsEpochOf k) vs → ⊥)
+    × ((m : Contents) → holds ≡ Some m → IsIndexFile (index_of k.base (length encodings)) k.rows m
+    × ((vs : List Value) → HoldsColumn Auto (body_of k.base (length encodings)) (index_of k.base (length encodings)) k.rows m vs → All (IsEpochOf k) vs → ⊥))
 
--- a Damaged names the file of a column that is absent or not what it has to be, or the body of the epochs; no other fault says anything
+-- a Damaged names the file of a column that is absent or not what it has to be, the index before the body, or the body of the epochs; no other fault says anything
 abbrev pub BlamesContainer : List Encoding → Container → Option Contents → StoreFault → Type 0
 BlamesContainer encodings k holds (Damaged q) =
     ((i : ℕ) × (i < length encodings + 1) × BlamesColumn (encoding_at encodings i) (body_of k.base i) (index_of k.base i) k.rows holds (Damaged q))

@@ -26,4 +26,4 @@ returns-in-Ok-None-clause-blamed g c = λ has.
     let many : columns ≡ length c.args.shape.now.columns = ap length c.as_slice-columns.ensures in
     let there : HasIndex k columns c.args.at.now holds = subst (λ (i : ℕ). HasIndex k i c.args.at.now holds) (sym many) has in
     let none = rw c.in-Ok-None.field-0-is at c.in-Ok-None.ensures.none in
-    epochs_blamed es k columns c.args.k c.body_of.result holds c.in-Ok.values (many ∙ sym (length-map c.args.shape.now.columns (λ p. p.encoding))) c.body_of.ensures (c.in-Ok.ensures.found there) none
+    epochs_blamed es k columns c.args.k c.body_of.result c.args.at.now holds c.in-Ok.values (many ∙ sym (length-map c.args.shape.now.columns (λ p. p.encoding))) c.body_of.ensures c.requires.index there (c.in-Ok.ensures.found there) none
