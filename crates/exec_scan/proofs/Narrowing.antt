@@ -1,7 +1,7 @@
 -- Rows that a bound rules out.
 use Rattle.std.proofs.Common.{◌≡◌, ℕ, zero, suc, ◌+◌, ◌≤◌, ◌<◌, ◌⊎◌, inl, inr, Bool, true, false, List, [], ◌∷◌, length, set, get_or, refl, sym, ap, ◌∙◌, arith, subst}
 use Rattle.std.specs.Prelude.{Option, Some, None, ◌&&◌}
-use Rattle.std.specs.List.{All, Any, slice_get}
+use Rattle.std.specs.List.{Any, slice_get}
 use Rattle.std.specs.Option.{IfSome}
 use Rattle.std.proofs.lemmas.List.{get_or-set_other, get_or-set_same, get_or_default, length-set}
 use Rattle.std.proofs.lemmas.Option.{slice_get-get_or}
@@ -11,7 +11,7 @@ use Rattle.col_value.specs.declared.value.Value.TheVariants as value
 use Rattle.row_bounds.specs.Bounds.{lies_in, within}
 use Rattle.row_bounds.specs.declared.bound.Bound.{Bound}
 use Rattle.query_cover.specs.Seen.{placed, value_at}
-use Rattle.exec_scan.specs.Reading.{AreColumns, cell, Fills, HaveRows, IsColumn, Narrowed, Narrows, NarrowsBy, RulesOut, Stays}
+use Rattle.exec_scan.specs.Reading.{cell, Fills, HaveRows, Narrows, NarrowsBy, RulesOut, Stays}
 use Rattle.exec_scan.proofs.Filled.{cell_here, columns_filled, equal_or}
 use Rattle.exec_scan.proofs.Passed.{out_of_one, placed_at}
 

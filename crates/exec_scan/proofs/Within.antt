@@ -1,5 +1,5 @@
 -- A value whose number lies before the first or behind the last lies out of a bound.
-use Rattle.std.proofs.Common.{◌≡◌, ◌∙◌, ◌-◌, ◌^◌, ℤ, pos, negsuc, ◌<ℤ◌, ◌≤ℤ◌, FitsSigned, w64, Bool, true, false, ap, sym, subst, arith}
+use Rattle.std.proofs.Common.{◌≡◌, ◌∙◌, ◌-◌, ◌^◌, ℤ, pos, negsuc, ◌<ℤ◌, FitsSigned, w64, false, ap, sym, arith}
 use Rattle.std.specs.Ordering.{is_le, int_cmp}
 use Rattle.std.proofs.lemmas.Int.{ints}
 use Rattle.block_codec.specs.Held.{number_value}

@@ -1,5 +1,5 @@
 -- What reading a block of a container gives.
-use Rattle.std.specs.Prelude.{ℕ, ◌≡◌, ◌<◌, ◌*◌, nat_le, Bool, true, false, List, length, map, Option, Some, None, slice_index_or}
+use Rattle.std.specs.Prelude.{ℕ, ◌≡◌, ◌<◌, nat_le, Bool, true, false, List, length, map, Option, Some, None, slice_index_or}
 use Rattle.std.specs.List.{All, range_with_len, slice_get}
 use Rattle.std.specs.Option.{IfSome, option_map_or}
 use Rattle.catalog_types.specs.declared.catalogue.Container.{Container}

@@ -1,4 +1,4 @@
-use Rattle.std.proofs.Common.{◌<◌, length, get_or, subst, sym}
+use Rattle.std.proofs.Common.{◌<◌, subst, sym}
 use Rattle.std.specs.Prelude.{None}
 use Rattle.col_disk.proofs.Moving.{moved_none}
 use Rattle.container_blocks.specs.Blocks.{rows_in}

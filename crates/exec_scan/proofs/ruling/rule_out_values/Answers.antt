@@ -1,4 +1,4 @@
-use Rattle.std.proofs.Common.{◌<◌, length, get_or, false, subst, sym, ◌∙◌}
+use Rattle.std.proofs.Common.{◌<◌, get_or, false, subst, sym, ◌∙◌}
 use Rattle.col_value.specs.declared.value.Value.{Value}
 use Rattle.exec_scan.specs.Reading.{Stays}
 use Rattle.exec_scan.proofs.Narrowing.{stay_more}
