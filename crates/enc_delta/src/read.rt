@@ -45,7 +45,21 @@ fn lane_of(base: i64, delta: u64) -> Result<i64, Stop>
     }
 }
 
-/// The delta at the front. Most take one byte or two.
+/// The delta at the front, of three bytes or more as a varint is read.
+#[tactic(auto, unfolding(col_bytes::specs::Fronts::groups_at))]
+fn read_longer(bytes: &[u8]) -> Result<(u64, &[u8]), Stop>
+    ensures { Gives (λ x. (x.0, x.1.now)) result (vint_at bytes.now) }
+{
+    if let [low, middle, high, rest @ ..] = bytes {
+        if *low >= 128 && *middle >= 128 && *high < 128 && *high > 0 {
+            let upper = u64::from(*middle - 128) + 128 * u64::from(*high);
+            return Ok((u64::from(*low - 128) + 128 * upper, rest));
+        }
+    }
+    read_vint(bytes)
+}
+
+/// The delta at the front. Most take one byte, two or three.
 #[tactic(auto, unfolding(col_bytes::specs::Fronts::groups_at))]
 fn read_delta(bytes: &[u8]) -> Result<(u64, &[u8]), Stop>
     ensures { Gives (λ x. (x.0, x.1.now)) result (vint_at bytes.now) }
@@ -60,7 +74,7 @@ fn read_delta(bytes: &[u8]) -> Result<(u64, &[u8]), Stop>
             return Ok((u64::from(*low - 128) + 128 * u64::from(*high), rest));
         }
     }
-    read_vint(bytes)
+    read_longer(bytes)
 }
 
 /// The lane at the front.
