@@ -4,7 +4,7 @@ use Rattle.std.specs.Prelude.{◌*◌, ◌^◌, IfSome, sum_by}
 use Rattle.std.proofs.lemmas.List.Sums.{sum_by_more}
 use Rattle.std.specs.Option.{option_map_or}
 use Rattle.std.specs.List.{All}
-use Rattle.std.proofs.lemmas.List.{append-nil, length-map, take_all}
+use Rattle.std.proofs.lemmas.List.{append-nil, length-append, length-map, take_all}
 use Rattle.std.proofs.lemmas.List.Elements.{All-cons, All-nil, All-weaker, All-filter}
 use Rattle.common_laws.specs.Bags.{SameBag}
 use Rattle.common_laws.specs.Maps.{Contents}
@@ -152,6 +152,11 @@ one_of_these next columns k = omega arith
 pub count_more : {X : Type 0} (f : X → ℕ) (xs : List X) (i : ℕ) (x : X) (first free next : ℕ) → i < length xs → x ≡ get_or xs i x → free ≤ first + sum_by f (take i xs) → next ≤ free + f x → next ≤ first + sum_by f (take (i + 1) xs)
 count_more {X} f xs i x first free next lt is before here =
     let one = sum_by_more f xs i x lt in let same = ap f (sym is) in omega (arith, before, here, one, same)
+
+-- at most one container more
+pub count_kept : (ks : List Container) (o : Option Container) (more : List Container) (i : ℕ) → more ≡ ks ++ listed o → length ks ≤ i → length more ≤ i + 1
+count_kept ks None more i is few = omega (arith, ap length is, length-append ks [], few)
+count_kept ks (Some k) more i is few = omega (arith, ap length is, length-append ks (k ∷ []), few)
 
 pub count_all : {X : Type 0} (f : X → ℕ) (xs : List X) (i first free : ℕ) → length xs ≤ i → free ≤ first + sum_by f (take i xs) → free ≤ first + sum_by f xs
 count_all {X} f xs i first free past le = subst (λ (ys : List X). free ≤ first + sum_by f ys) (take_all i xs past) le

@@ -241,6 +241,7 @@ pub fn cut_containers<D: Disk>(
     ensures next { IfOk result (λ r. (next ≤ r.next) × (r.next ≤ 2 ^ 62)) }
     ensures below { IfOk result (λ r. All (IsBelow r.next (length shape.now.columns)) r.containers.items) }
     ensures few { IfOk result (λ r. r.next ≤ next + number_count shape.now) }
+    ensures count { IfOk result (λ r. length r.containers.items ≤ length shape.now.containers) }
     ensures blamed { IfErr result (BlamesProjection shape.now (D.holds disk.old)) }
     ensures moved { Moved ⟦<D as Disk>⟧ (DataFrom next) NoName disk.old disk.new }
     ensures cause { HasCause StoreFault.Disk (D.faults disk.old) (D.faults disk.new) result }

@@ -38,30 +38,34 @@ use Rattle.cut_job.specs.Cutting.{CutsProjection, CutsProjections, CutsTable, Cu
 -- ---- one entry
 
 -- what was up to date
-pub entry_fresh : (m n : Contents) (epoch : ℕ) (p q : Projection) (js : List Container) → p.fresh ≡ true → q ≡ record p { lge = epoch; containers = js } → CutsContainers (encodings_of p) epoch p.containers js m n → CutsProjection epoch p q m n
-entry_fresh m n epoch p q js fresh is cuts mark = subst (IsCutEntry m n mark epoch p) (sym is) (record {
+pub entry_fresh : (m n : Contents) (epoch : ℕ) (p q : Projection) (js : List Container) → p.fresh ≡ true → length js ≤ length p.containers → q ≡ record p { lge = epoch; containers = js } → CutsContainers (encodings_of p) epoch p.containers js m n → CutsProjection epoch p q m n
+entry_fresh m n epoch p q js fresh fewer is cuts mark = subst (IsCutEntry m n mark epoch p) (sym is) (record {
   shape = sym (ap (λ (b : Bool). cond b (record (shape_of p) { lge = epoch }) (shape_of p)) fresh);
   rows = subst (λ (b : Bool). OnTrue b (CutsRows m n mark epoch p (record p { lge = epoch; containers = js }))) (sym fresh)
       (λ old held. let k = cuts old held in (k.0, k.1, bag_filter (is_retained mark) k.0 (cut_rows epoch old) k.2));
   stale = subst (λ (b : Bool). OnFalse b (js ≡ [])) (sym fresh) tt;
+  fewer = fewer;
+  born = refl;
 })
 
 -- and what wasn't
-pub entry_stale : (m n : Contents) (epoch : ℕ) (p q : Projection) (js : List Container) → p.fresh ≡ false → js ≡ [] → q ≡ record p { lge = p.lge; containers = js } → CutsProjection epoch p q m n
-entry_stale m n epoch p q js stale none is mark = subst (IsCutEntry m n mark epoch p) (sym is) (record {
+pub entry_stale : (m n : Contents) (epoch : ℕ) (p q : Projection) (js : List Container) → p.fresh ≡ false → length js ≤ length p.containers → js ≡ [] → q ≡ record p { lge = p.lge; containers = js } → CutsProjection epoch p q m n
+entry_stale m n epoch p q js stale fewer none is mark = subst (IsCutEntry m n mark epoch p) (sym is) (record {
   shape = sym (ap (λ (b : Bool). cond b (record (shape_of p) { lge = epoch }) (shape_of p)) stale);
   rows = subst (λ (b : Bool). OnTrue b (CutsRows m n mark epoch p (record p { lge = p.lge; containers = js }))) (sym stale) tt;
   stale = subst (λ (b : Bool). OnFalse b (js ≡ [])) (sym stale) none;
+  fewer = fewer;
+  born = refl;
 })
 
 -- whichever it was
-pub entry_cut : (epoch lge : ℕ) (p q : Projection) (js : List Container) (found left : Option Contents) → lge ≡ cond p.fresh epoch p.lge → q ≡ record p { lge = lge; containers = js }
+pub entry_cut : (epoch lge : ℕ) (p q : Projection) (js : List Container) (found left : Option Contents) → length js ≤ length p.containers → lge ≡ cond p.fresh epoch p.lge → q ≡ record p { lge = lge; containers = js }
     → OnTrue p.fresh (Between (CutsContainers (encodings_of p) epoch p.containers js) found left) → OnFalse p.fresh (js ≡ []) → Between (CutsProjection epoch p q) found left
-entry_cut epoch lge p q js found left lge_is is cuts none m n before after = by p.fresh refl lge_is cuts none
+entry_cut epoch lge p q js found left fewer lge_is is cuts none m n before after = by p.fresh refl lge_is cuts none
   where
     by : (b : Bool) → p.fresh ≡ b → lge ≡ cond b epoch p.lge → OnTrue b (Between (CutsContainers (encodings_of p) epoch p.containers js) found left) → OnFalse b (js ≡ []) → CutsProjection epoch p q m n
-    by true fresh le cuts none = entry_fresh m n epoch p q js fresh (is ∙ ap (λ (e : ℕ). record p { lge = e; containers = js }) le) (cuts m n before after)
-    by false stale le cuts none = entry_stale m n epoch p q js stale none (is ∙ ap (λ (e : ℕ). record p { lge = e; containers = js }) le)
+    by true fresh le cuts none = entry_fresh m n epoch p q js fresh fewer (is ∙ ap (λ (e : ℕ). record p { lge = e; containers = js }) le) (cuts m n before after)
+    by false stale le cuts none = entry_stale m n epoch p q js stale fewer none (is ∙ ap (λ (e : ℕ). record p { lge = e; containers = js }) le)
 
 pub entry_loads : (next lge : ℕ) (p q : Projection) (js : List Container) → next ≤ 2 ^ 62 → q ≡ record p { lge = lge; containers = js } → All (IsBelow next (length p.columns)) js → IsLoadable p → IsLoadable q
 entry_loads next lge p q js le is below loads = subst IsLoadable (sym is) (record {
@@ -82,7 +86,7 @@ on_true false h p = tt
 pub entry_earlier : (m l n : Contents) (epoch : ℕ) (p q : Projection) → SameEntry m l p → CutsProjection epoch p q l n → CutsProjection epoch p q m n
 entry_earlier m l n epoch p q same cut mark =
     let c = cut mark in
-    record { shape = c.shape; rows = on_true p.fresh {P = CutsRows l n mark epoch p q} {Q = CutsRows m n mark epoch p q} (λ rows old held. rows old (entry_kept m l p old same held)) c.rows; stale = c.stale }
+    record { shape = c.shape; rows = on_true p.fresh {P = CutsRows l n mark epoch p q} {Q = CutsRows m n mark epoch p q} (λ rows old held. rows old (entry_kept m l p old same held)) c.rows; stale = c.stale; fewer = c.fewer; born = c.born }
 
 pub entry_after : (m l n : Contents) (epoch : ℕ) (p q : Projection) → SameEntry l n q → CutsProjection epoch p q m l → CutsProjection epoch p q m n
 entry_after m l n epoch p q same cut mark =
@@ -91,6 +95,8 @@ entry_after m l n epoch p q same cut mark =
       shape = c.shape;
       rows = on_true p.fresh {P = CutsRows m l mark epoch p q} {Q = CutsRows m n mark epoch p q} (λ rows old held. let k = rows old held in (k.0, entry_kept l n q k.0 same k.1, k.2)) c.rows;
       stale = c.stale;
+      fewer = c.fewer;
+      born = c.born;
     }
 
 zip_push : {A B : Type 0} (R : A → B → Type 0) (xs : List A) (ys : List B) (x : A) (y : B) → AllZip R xs ys → R x y → AllZip R (xs ++ x ∷ []) (ys ++ y ∷ [])
@@ -149,7 +155,7 @@ table_earlier m l n epoch first t u same low cut mark =
   where
     entry_at : (m l n : Contents) (epoch mark : ℕ) (p q : Projection) → SameEntry m l p → IsCutEntry l n mark epoch p q → IsCutEntry m n mark epoch p q
     entry_at m l n epoch mark p q same c =
-        record { shape = c.shape; rows = on_true p.fresh {P = CutsRows l n mark epoch p q} {Q = CutsRows m n mark epoch p q} (λ rows old held. rows old (entry_kept m l p old same held)) c.rows; stale = c.stale }
+        record { shape = c.shape; rows = on_true p.fresh {P = CutsRows l n mark epoch p q} {Q = CutsRows m n mark epoch p q} (λ rows old held. rows old (entry_kept m l p old same held)) c.rows; stale = c.stale; fewer = c.fewer; born = c.born }
 
 table_after : (m l n : Contents) (epoch next : ℕ) (t u : kept.Table) → SameBelow next l n → IsTableBelow next u → CutsTable epoch t u m l → CutsTable epoch t u m n
 table_after m l n epoch next t u same high cut mark =
@@ -167,6 +173,8 @@ table_after m l n epoch next t u same high cut mark =
       shape = c.shape;
       rows = on_true p.fresh {P = CutsRows m l mark epoch p q} {Q = CutsRows m n mark epoch p q} (λ rows old held. let k = rows old held in (k.0, entry_kept l n q k.0 same k.1, k.2)) c.rows;
       stale = c.stale;
+      fewer = c.fewer;
+      born = c.born;
     }
 
 pub tables_more : {D : Type 0} (disk : Ghosts D) {old mid new : D} (epoch first next : ℕ) (ts : List kept.Table) (i : ℕ) (t : kept.Table) (us more : List kept.Table) (u : kept.Table)

@@ -72,6 +72,7 @@ fn containers_after<D: Disk>(
     ensures stale { IfOk result (λ r. OnFalse p.now.fresh (r.containers.items ≡ [])) }
     ensures next { IfOk result (λ r. (next ≤ r.next) × (r.next ≤ 2 ^ 62)) }
     ensures below { IfOk result (λ r. All (IsBelow r.next (length p.now.columns)) r.containers.items) }
+    ensures count { IfOk result (λ r. length r.containers.items ≤ length p.now.containers) }
     ensures few { IfOk result (λ r. r.next ≤ next + number_count p.now) }
     ensures blamed { IfErr result (BlamesProjection p.now (D.holds disk.old)) }
     ensures moved { Moved ⟦<D as Disk>⟧ (DataFrom next) NoName disk.old disk.new }

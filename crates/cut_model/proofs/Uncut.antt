@@ -63,11 +63,15 @@ entry_uncut m c mark epoch t p is good past = by p.fresh refl past is.stale
           shape = sym (ap (λ (b : Bool). cond b (record (shape_of p) { lge = epoch }) (shape_of p)) fresh ∙ ap (with_lge (shape_of p)) (sym same));
           rows = subst (λ (b : Bool). OnTrue b (CutsRows m m mark epoch p p)) (sym fresh) (rows_uncut m mark epoch p (ends same));
           stale = subst (λ (b : Bool). OnFalse b (p.containers ≡ [])) (sym fresh) tt;
+          fewer = omega arith;
+          born = refl;
         }
     by false fresh past stale = record {
       shape = sym (ap (λ (b : Bool). cond b (record (shape_of p) { lge = epoch }) (shape_of p)) fresh);
       rows = subst (λ (b : Bool). OnTrue b (CutsRows m m mark epoch p p)) (sym fresh) tt;
       stale = subst (λ (b : Bool). OnFalse b (p.containers ≡ [])) (sym fresh) (nothing_there p.containers stale.2);
+      fewer = omega arith;
+      born = refl;
     }
 
 entries_uncut : (m : Contents) (c : Catalogue) (mark epoch : ℕ) (t : kept.Table) (ps : List Projection) → All (IsProjection c t) ps → All (λ p. p.fresh ≡ true → epoch ≤ p.lge) ps

@@ -1,5 +1,5 @@
 -- A catalogue cut at the epoch up to which every up-to-date projection has all its rows on disk.
-use Rattle.std.specs.Prelude.{ℕ, ◌≡◌, List, []}
+use Rattle.std.specs.Prelude.{ℕ, ◌≡◌, ◌≤◌, List, [], length}
 use Rattle.std.specs.Bool.{OnTrue, OnFalse}
 use Rattle.std.specs.List.{AllZip}
 use Rattle.common_laws.specs.Bags.{SameBag}
@@ -19,11 +19,14 @@ abbrev pub CutsRows : Contents → Contents → ℕ → ℕ → Projection → P
 CutsRows m n mark epoch p q =
     (old : List Stamped) → Holds m p old → (new : List Stamped) × Holds n q new × SameBag (retained mark new) (retained mark (cut_rows epoch old))
 
--- An entry after a cut: one that is up to date has its rows cut, and has them on disk up to the epoch; another one has none.
+-- An entry after a cut: one that is up to date has its rows cut, and has them on disk up to the epoch; another one has none. There are no
+-- more containers, and as many were born.
 pub record IsCutEntry (m n : Contents) (mark epoch : ℕ) (p q : Projection) : Type 0 where
   pub shape : shape_of q ≡ moved_shape epoch (shape_of p)
   pub rows : OnTrue p.fresh (CutsRows m n mark epoch p q)
   pub stale : OnFalse p.fresh (q.containers ≡ [])
+  pub fewer : length q.containers ≤ length p.containers
+  pub born : q.born ≡ p.born
 
 pub record IsCutTable (m n : Contents) (mark epoch : ℕ) (t u : Table) : Type 0 where
   pub name : u.name ≡ t.name

@@ -2,4 +2,5 @@ mod Readings
 mod Blames
 mod Quieted
 mod Recovered
+mod Started
 pub mod Unblamed

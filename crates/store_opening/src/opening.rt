@@ -1,10 +1,11 @@
 //! The opening.
 
-ghost use Rattle.std.specs.Prelude.{◌≡◌, ◌&&◌, ◌<◌, nat_lt, Some, false, map, IfOk, IfErr};
+ghost use Rattle.std.specs.Prelude.{◌≡◌, ◌&&◌, ◌+◌, ◌<◌, ◌≤◌, nat_lt, Some, false, map, IfOk, IfErr};
 ghost use Rattle.std.specs.List.{All, list_any};
 ghost use Rattle.common_laws.specs.Causes.{HasCause};
 ghost use Rattle.common_laws.specs.Maps.{Contents};
 ghost use Rattle.col_disk.specs.Moved.{Moved, Looks, Leaves, ImageOf, NoName};
+ghost use Rattle.catalog_types.specs.Numbers.{store_count};
 ghost use Rattle.catalog_types.specs.Reached.{least_lge, is_past};
 ghost use Rattle.catalog_types.specs.Valid.{IsValid};
 ghost use Rattle.catalog_root.specs.Root.{IsBody};
@@ -19,7 +20,7 @@ ghost use Rattle.folder_model.specs.Reopening.{Reopens};
 ghost use Rattle.store_commit.specs.Seen.{Stands};
 ghost use Rattle.table_store.specs.Held.{projections_of};
 ghost use Rattle.store_opening.specs.Loading.{AreEntriesOf, BlamesTables};
-ghost use Rattle.store_opening.specs.Opening.{BlamesListed, BlamesOpening, IsQuietFor};
+ghost use Rattle.store_opening.specs.Opening.{BlamesListed, BlamesOpening, IsOpenedFrom, IsOpenedOf, IsQuietFor};
 
 use crate::loading::load_tables;
 use catalog_root::Found;
@@ -35,6 +36,7 @@ use table_store::{Parts, TableStore};
 /// is open, or a listed file that is absent or not what it has to be.
 pub fn open<D: Disk>(alloc: Global, disk: &mut D) -> Result<TableStore, StoreFault>
     ensures stands { IfOk result (λ s. (m : Contents) (d : Database) → D.holds disk.old ≡ Some m → Reopens m d → Stands ⟦<D as Disk>⟧ s disk.new d) }
+    ensures numbers { IfOk result (λ s. (m : Contents) (d : Database) → D.holds disk.old ≡ Some m → Reopens m d → IsOpenedOf m s.catalogue) }
     ensures any_moment { (m : Contents) (d : Database) → D.holds disk.old ≡ Some m → ((x : Contents) → ImageOf ⟦<D as Disk>⟧ disk.old x → Reopens x d) → Leaves ⟦<D as Disk>⟧ (λ x. Reopens x d) disk.old disk.new }
     ensures blamed { IfErr result (BlamesOpening (D.holds disk.old)) }
     ensures cause { HasCause StoreFault.Disk (D.faults disk.old) (D.faults disk.new) result }
@@ -77,6 +79,7 @@ fn open_root<D: Disk>(
 ) -> Result<TableStore, StoreFault>
     requires { IsBody version catalogue }
     ensures stands { IfOk result (λ s. (m : Contents) (d : Database) → IsQuietFor ⟦<D as Disk>⟧ disk.old version catalogue d m → Stands ⟦<D as Disk>⟧ s disk.new d) }
+    ensures numbers { IfOk result (λ s. (m : Contents) (d : Database) → IsQuietFor ⟦<D as Disk>⟧ disk.old version catalogue d m → IsOpenedFrom catalogue s.catalogue) }
     ensures any_moment { (m : Contents) (d : Database) → IsQuietFor ⟦<D as Disk>⟧ disk.old version catalogue d m → Leaves ⟦<D as Disk>⟧ (λ x. Reopens x d) disk.old disk.new }
     ensures blamed { IfErr result (BlamesListed catalogue (D.holds disk.old)) }
     ensures cause { HasCause StoreFault.Disk (D.faults disk.old) (D.faults disk.new) result }
@@ -98,6 +101,7 @@ fn keep<D: Disk>(
     requires body { IsBody version catalogue }
     requires whole { is_past catalogue (least_lge catalogue) ≡ false }
     ensures stands { IfOk result (λ s. (m : Contents) (d : Database) → IsQuietFor ⟦<D as Disk>⟧ disk.old version catalogue d m → Stands ⟦<D as Disk>⟧ s disk.new d) }
+    ensures numbers { IfOk result (λ s. (m : Contents) (d : Database) → IsQuietFor ⟦<D as Disk>⟧ disk.old version catalogue d m → IsOpenedFrom catalogue s.catalogue) }
     ensures any_moment { (m : Contents) (d : Database) → IsQuietFor ⟦<D as Disk>⟧ disk.old version catalogue d m → Leaves ⟦<D as Disk>⟧ (λ x. Reopens x d) disk.old disk.new }
     ensures blamed { IfErr result (BlamesListed catalogue (D.holds disk.old)) }
     ensures cause { HasCause StoreFault.Disk (D.faults disk.old) (D.faults disk.new) result }
@@ -134,6 +138,7 @@ fn cut_root<D: Disk>(alloc: Global, c: &Catalogue, disk: &mut D) -> Result<Catal
     requires { IsValid c.now }
     ensures cut { IfOk result (λ r. Between (CutsCatalogue c.now r) (D.holds disk.old) (D.holds disk.new)) }
     ensures next { IfOk result (λ r. c.now.next < r.next) }
+    ensures few { IfOk result (λ r. r.next ≤ c.now.next + store_count c.now + 1) }
     ensures loadable { IfOk result (λ r. All HasLoadable r.tables) }
     ensures blamed { IfErr result (damage.BlamesTables c.now.tables (D.holds disk.old)) }
     ensures moved { Moved ⟦<D as Disk>⟧ (DataFrom c.now.next) NoName disk.old disk.new }
@@ -159,6 +164,7 @@ fn recover<D: Disk>(
 ) -> Result<TableStore, StoreFault>
     requires { IsBody version catalogue }
     ensures stands { IfOk result (λ s. (m : Contents) (d : Database) → IsQuietFor ⟦<D as Disk>⟧ disk.old version catalogue d m → Stands ⟦<D as Disk>⟧ s disk.new d) }
+    ensures numbers { IfOk result (λ s. (m : Contents) (d : Database) → IsQuietFor ⟦<D as Disk>⟧ disk.old version catalogue d m → IsOpenedFrom catalogue s.catalogue) }
     ensures any_moment { (m : Contents) (d : Database) → IsQuietFor ⟦<D as Disk>⟧ disk.old version catalogue d m → Leaves ⟦<D as Disk>⟧ (λ x. Reopens x d) disk.old disk.new }
     ensures blamed { IfErr result (BlamesListed catalogue (D.holds disk.old)) }
     ensures cause { HasCause StoreFault.Disk (D.faults disk.old) (D.faults disk.new) result }

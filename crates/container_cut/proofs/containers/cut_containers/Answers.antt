@@ -1,5 +1,5 @@
 use Rattle.std.specs.Prelude.{sum_by}
-use Rattle.std.proofs.Common.{◌≤◌, ◌+◌, List, length, sym, subst, arith}
+use Rattle.std.proofs.Common.{◌≤◌, ◌+◌, List, length, ap, sym, subst, arith}
 use Rattle.std.specs.List.{All}
 use Rattle.std.proofs.lemmas.List.Elements.{All-nil}
 use Rattle.col_disk.proofs.Moving.{moved_none, moved_join}
@@ -11,7 +11,7 @@ use Rattle.container_cut.specs.Listed.{IsBelow}
 use Rattle.container_cut.specs.Cutting.{CutsContainers, Between}
 use Rattle.container_cut.specs.Blamed.{IsDamageOf, IsDamageAmong, Blames}
 use Rattle.container_cut.proofs.Below.{container_later, later_data}
-use Rattle.container_cut.proofs.Cuts.{count_more, count_all}
+use Rattle.container_cut.proofs.Cuts.{count_kept, count_more, count_all}
 use Rattle.container_cut.proofs.Faults.{damage_back, blames_among}
 use Rattle.container_cut.proofs.Joins.{containers_more, containers_none, containers_all, item, item_is, at_place, below_more}
 use Rattle.container_cut.proofs.containers.cut_containers.Goals as goal
@@ -22,6 +22,8 @@ loop-container-init g c = record {
   next = omega arith;
   most = c.requires.numbers;
   few = omega arith;
+  count = omega (arith, ap length c.new-kept.ensures.items);
+  upto = omega arith;
   below = subst (All (IsBelow c.args.next (length c.args.shape.now.columns))) (sym c.new-kept.ensures.items) (All-nil (IsBelow c.args.next (length c.args.shape.now.columns)));
   moved = moved_none g.D.Disk c.args.disk.now;
 }
@@ -52,6 +54,8 @@ loop-container-preserved g c =
       next = omega (arith, inv.next, n.0);
       most = n.1;
       few = count_more (container_count columns) ks i k c.args.next c.loop-container.free c.in-Ok.done.next c.loop-container-test.true is inv.few c.in-Ok.ensures.few;
+      count = count_kept c.loop-container.kept.items c.in-Ok.done.container c.add.new.kept.items i c.in-Ok-add.ensures inv.count;
+      upto = omega (arith, c.loop-container-test.true);
       below = below_more c.loop-container.free c.in-Ok.done.next columns c.loop-container.kept.items (listed c.in-Ok.done.container) c.add.new.kept.items n.0 c.in-Ok-add.ensures inv.below c.in-Ok.ensures.below;
       moved = moved_join g.D.Disk inv.moved (later_data g.D.Disk c.args.next c.loop-container.free inv.next c.cut_container.ensures.moved);
     }
@@ -67,6 +71,9 @@ returns-clause-few g c =
     let columns = length c.args.shape.now.columns in
     subst (λ (ks : List Container). c.loop-container.free ≤ c.args.next + sum_by (container_count columns) ks) c.as_slice-containers.ensures
     (count_all (container_count columns) c.as_slice-containers.result.now c.loop-container.container-index c.args.next c.loop-container.free c.loop-container-test.false c.loop-container.invariant.few)
+
+pub returns-clause-count : goal.returns-clause-count
+returns-clause-count g c = omega (arith, c.loop-container.invariant.count, c.loop-container.invariant.upto, ap length c.as_slice-containers.ensures)
 
 pub returns-in-Err-clause-blamed : goal.returns-in-Err-clause-blamed
 returns-in-Err-clause-blamed g c =

@@ -15,6 +15,8 @@ invariant-loop-container g l = record {
   next : l.next ≤ l.free;
   most : l.free ≤ 2 ^ 62;
   few : l.free ≤ l.next + sum_by (container_count (length l.shape.columns)) (take l.container-index l.containers);
+  count : length l.kept.items ≤ l.container-index;
+  upto : l.container-index ≤ length l.containers;
   below : All (IsBelow l.free (length l.shape.columns)) l.kept.items;
   moved : Moved g.D.Disk (DataFrom l.next) NoName l.fn.disk l.disk;
 }

@@ -3,7 +3,7 @@ use Rattle.cut_job.proofs.projections.cut_projection.Goals as goal
 
 pub returns-in-Ok-with_containers-clause-cut : goal.returns-in-Ok-with_containers-clause-cut
 returns-in-Ok-with_containers-clause-cut g c =
-    entry_cut c.args.epoch c.lge_after.result c.args.p.now c.in-Ok-with_containers.entry c.in-Ok.done.containers.items _ _ c.lge_after.ensures c.in-Ok-with_containers.ensures c.in-Ok.ensures.cut c.in-Ok.ensures.stale
+    entry_cut c.args.epoch c.lge_after.result c.args.p.now c.in-Ok-with_containers.entry c.in-Ok.done.containers.items _ _ c.in-Ok.ensures.count c.lge_after.ensures c.in-Ok-with_containers.ensures c.in-Ok.ensures.cut c.in-Ok.ensures.stale
 
 pub returns-in-Ok-with_containers-clause-below : goal.returns-in-Ok-with_containers-clause-below
 returns-in-Ok-with_containers-clause-below g c = entry_listed c.in-Ok.done.next c.lge_after.result c.args.p.now c.in-Ok-with_containers.entry c.in-Ok.done.containers.items c.in-Ok-with_containers.ensures c.in-Ok.ensures.below

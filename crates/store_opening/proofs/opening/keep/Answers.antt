@@ -4,6 +4,7 @@ use Rattle.store_commit.specs.Seen.{Seen, Stands}
 use Rattle.table_store.specs.Held.{projections_of}
 use Rattle.store_opening.proofs.Blames.{fault_blamed}
 use Rattle.store_opening.proofs.Quieted.{kept_stands, looked_reopens, tidied_reopens}
+use Rattle.store_opening.proofs.Started.{kept_numbers}
 use Rattle.store_opening.proofs.opening.keep.Goals as goal
 
 pub load_root-requires : goal.load_root-requires
@@ -15,6 +16,9 @@ returns-in-Ok-tidy-clause-stands g c = λ m d quiet.
     subst (λ (s : Seen). Stands g.D.Disk s c.tidy.new.disk d) (sym c.of.ensures)
     (kept_stands g.D.Disk {mid = c.load_root.new.disk} c.args.version c.args.catalogue stores d m c.requires.body.below c.load_root.ensures.looks c.tidy.ensures.moved
     (c.a_loaded_folder_is_the_database.ensures m c.args.catalogue stores d c.requires.body.valid c.requires.whole quiet.is_cut (c.in-Ok.ensures.loaded m quiet.quiet.told_is)) quiet)
+
+pub returns-in-Ok-tidy-clause-numbers : goal.returns-in-Ok-tidy-clause-numbers
+returns-in-Ok-tidy-clause-numbers g c = λ m d quiet. kept_numbers c.args.catalogue c.of.result (map projections_of c.in-Ok.tables.items) c.of.ensures
 
 pub returns-in-Ok-tidy-clause-any_moment : goal.returns-in-Ok-tidy-clause-any_moment
 returns-in-Ok-tidy-clause-any_moment g c = λ m d quiet. tidied_reopens g.D.Disk {mid = c.load_root.new.disk} c.args.version c.args.catalogue d m c.load_root.ensures.looks c.tidy.ensures.moved quiet

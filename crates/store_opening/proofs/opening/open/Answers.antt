@@ -1,6 +1,7 @@
 use Rattle.std.proofs.lemmas.Result.{IfOk-weaker}
 use Rattle.col_disk.proofs.Moving.{leaves_join}
 use Rattle.store_opening.proofs.Quieted.{fresh_stands, opened_quiet, leaves_looked}
+use Rattle.store_opening.proofs.Started.{fresh_numbers, root_numbers}
 use Rattle.store_opening.proofs.opening.open.Goals as goal
 
 pub returns-in-Ok-Fresh-clause-stands : goal.returns-in-Ok-Fresh-clause-stands
@@ -15,6 +16,19 @@ returns-in-Ok-Root-clause-stands g c =
     h m d
     (opened_quiet g.D.Disk {old = c.args.disk.now} {now = c.open.new.disk} k.version k.catalogue k.field-0 m d k.field-0-is told c.open.ensures.kept (k.ensures.found m told) (k.ensures.settled m told) r))
     c.open_root.ensures.stands
+
+pub returns-in-Ok-Fresh-clause-numbers : goal.returns-in-Ok-Fresh-clause-numbers
+returns-in-Ok-Fresh-clause-numbers g c = λ m d told r. fresh_numbers m c.empty.result c.in-Ok-Fresh.field-0 c.empty.ensures c.in-Ok-Fresh.field-0-is (c.in-Ok-Fresh.ensures.found m told)
+
+pub returns-in-Ok-Root-clause-numbers : goal.returns-in-Ok-Root-clause-numbers
+returns-in-Ok-Root-clause-numbers g c =
+    let k = c.in-Ok-Root in
+    IfOk-weaker c.open_root.result _ _
+    (λ s h m d told r.
+    root_numbers m s k.version k.catalogue k.field-0 k.field-0-is (k.ensures.found m told)
+    (h m d
+    (opened_quiet g.D.Disk {old = c.args.disk.now} {now = c.open.new.disk} k.version k.catalogue k.field-0 m d k.field-0-is told c.open.ensures.kept (k.ensures.found m told) (k.ensures.settled m told) r)))
+    c.open_root.ensures.numbers
 
 pub returns-in-Ok-Root-clause-any_moment : goal.returns-in-Ok-Root-clause-any_moment
 returns-in-Ok-Root-clause-any_moment g c = λ m d told each.
