@@ -465,7 +465,8 @@ def words(work):
 
 
 def main():
-    with tempfile.TemporaryDirectory() as work:
+    # in memory where that can be, since each run syncs what it finds
+    with tempfile.TemporaryDirectory(dir='/dev/shm' if os.access('/dev/shm', os.W_OK) else None) as work:
         for part in (example, words, scripts, odd_folders, random_schemas, small_limits, damaged_folders):
             if part.__name__ not in (sys.argv[2:] or [part.__name__]):
                 continue

@@ -40,7 +40,7 @@ def bags_of(folder, table, projection, epoch, mark, wanted, progress):
     for stored in folder.containers(table, projection):
         deleted = stored.deleted()
         for first, values, epochs in stored.blocks(range(len(projection.columns))):
-            progress.on(len(epochs))
+            progress.on(len(epochs) * (len(values) + 1))
             for i, inserted in enumerate(epochs):
                 end = deleted.get(first + i)
                 end = None if end is None or end > epoch else end

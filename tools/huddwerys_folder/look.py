@@ -12,12 +12,13 @@ class Progress:
     """How far a long work is, on standard error, once a second from the first second on."""
 
     def __init__(self, what):
-        self.what, self.count, self.start = what, 0, time.monotonic()
-        self.last = self.start
+        self.what, self.count, self.start, self.last = what, 0, None, None
 
     def on(self, count):
-        self.count += count
         now = time.monotonic()
+        if self.start is None:
+            self.start = self.last = now
+        self.count += count
         if now - self.last > 1:
             self.last = now
             print(f'vert-show: {self.count:,} {self.what} after {now - self.start:.0f} s', file=sys.stderr, flush=True)
