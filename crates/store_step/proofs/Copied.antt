@@ -270,10 +270,12 @@ refused_steps disk files text s is now why r made result state spelled told from
 abbrev pub not_read : Result Answer StepFault
 not_read = Err step.Read
 
-pub failed_steps : {D : Type 0} (disk : Ghosts D) (files : Files) (text : List ℕ) (is : Running) (now : D) (state : State) → IsState disk is now state → Images disk now state → Steps disk files text is now now not_read state
-failed_steps disk files text is now state here images = record {
+pub failed_steps : {D : Type 0} (disk : Ghosts D) (files : Files) (text table file : List ℕ) (is : Running) (now : D) (state : State)
+    → Spells (symbols_of text) (Statement.Copy table file) → IsState disk is now state → Images disk now state → Steps disk files text is now now not_read state
+failed_steps disk files text table file is now state spelled here images = record {
   done = tt;
   undone = λ wants. absurd (cc);
+  unread = λ failed. ((table, file, spelled), here);
   unblamed = tt;
   any_moment = still_leaves disk now state (SteppedTo files text state) here.sound.database images;
 }

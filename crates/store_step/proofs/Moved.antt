@@ -188,5 +188,10 @@ end_leaves disk state leaves = leaves_wider disk (λ x reopens. inl (dropped_fro
 pub end_ends : {D : Type 0} (disk : Ghosts D) (is : Running) {old new : D} (r : Result Bool StoreFault) (state : State) → MovesAllOf disk is old new r (all_dropped state) → Ends disk is old new (moved r) state
 end_ends disk is {old} {new} (Ok b) state all =
     let (after, moves, there) = all.done in
-    record { done = (after, (b, moves), there); unblamed = tt; any_moment = end_leaves disk state all.any_moment }
-end_ends disk is {old} {new} (Err f) state all = record { done = tt; unblamed = unblamed_here f all.unblamed; any_moment = end_leaves disk state all.any_moment }
+    record { done = (after, (b, moves), there); undone = λ wants. absurd (cc); unblamed = tt; any_moment = end_leaves disk state all.any_moment }
+end_ends disk is {old} {new} (Err f) state all = record {
+  done = tt;
+  undone = λ wants. all.undone (ap (λ (e : StoreFault). Err e) (err_same {X = Unit {0}} f store.Memory wants));
+  unblamed = unblamed_here f all.unblamed;
+  any_moment = end_leaves disk state all.any_moment;
+}

@@ -43,6 +43,11 @@ memory_of store.Disk is = absurd (cc)
 memory_of (store.Damaged q) is = absurd (cc)
 memory_of store.Memory is = refl
 
+never_read : (f : StoreFault) → of_store f ≡ step.Read → ⊥
+never_read store.Disk is = absurd (cc)
+never_read (store.Damaged q) is = absurd (cc)
+never_read store.Memory is = absurd (cc)
+
 unblamed_of : (f : StoreFault) → IsUnblamedStore f → IsUnblamed (of_store f)
 unblamed_of store.Disk is = tt
 unblamed_of (store.Damaged q) is = is
@@ -65,12 +70,14 @@ steps_of disk files text s is {old} {new} (Ok a) state spelled answers =
     record {
       done = (after, step_of text state files s a.text.items a.refusal after spelled answer, there);
       undone = λ wants. absurd (cc);
+      unread = λ wants. absurd (cc);
       unblamed = tt;
       any_moment = leaves_wider disk (λ x either. stepped_wider text files s state x spelled either) answers.any_moment;
     }
 steps_of disk files text s is {old} {new} (Err f) state spelled answers = record {
   done = tt;
   undone = λ wants. answers.undone (ap (λ (e : StoreFault). Err e) (memory_of f (err_same {X = Answer} (of_store f) step.Memory wants)));
+  unread = λ wants. absurd (never_read f (err_same {X = Answer} (of_store f) step.Read wants));
   unblamed = unblamed_of f answers.unblamed;
   any_moment = leaves_wider disk (λ x either. stepped_wider text files s state x spelled either) answers.any_moment;
 }
@@ -80,12 +87,14 @@ pub wrong_steps : {D E : Type 0} (disk : Ghosts D) (files : Files) (text : List 
 wrong_steps disk files text is now place (Ok a) state wrong refused here images = record {
   done = (state, wrong_step text state files a.text.items a.refusal place wrong refused.text refused.refusal, here);
   undone = λ wants. absurd (cc);
+  unread = λ wants. absurd (cc);
   unblamed = tt;
   any_moment = still_leaves disk now state (SteppedTo files text state) here.sound.database images;
 }
 wrong_steps disk files text is now place (Err e) state wrong refused here images = record {
   done = tt;
   undone = λ wants. (state, inl refl, here);
+  unread = λ wants. absurd (cc);
   unblamed = tt;
   any_moment = still_leaves disk now state (SteppedTo files text state) here.sound.database images;
 }
@@ -97,6 +106,7 @@ pub unread_steps : {D : Type 0} (disk : Ghosts D) (files : Files) (text : List �
 unread_steps disk files text is now state here images = record {
   done = tt;
   undone = λ wants. (state, inl refl, here);
+  unread = λ wants. absurd (cc);
   unblamed = tt;
   any_moment = still_leaves disk now state (SteppedTo files text state) here.sound.database images;
 }

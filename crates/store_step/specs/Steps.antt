@@ -4,7 +4,10 @@ use Rattle.col_disk.specs.Moved.{Leaves}
 use Rattle.col_disk.specs.declared.disk.Disk.{Ghosts}
 use Rattle.col_disk.specs.declared.disk.StoreFault.{StoreFault}
 use Rattle.col_disk.specs.declared.disk.StoreFault.TheVariants as store
+use Rattle.sql_words.specs.Symbols.{symbols_of}
 use Rattle.sql_tree.specs.declared.refusal.Refusal.{Refusal}
+use Rattle.sql_tree.specs.declared.statement.Statement.{Statement}
+use Rattle.sql_tree.specs.Spells.{Spells}
 use Rattle.db_model.specs.State.{State}
 use Rattle.db_model.specs.Loading.{Files}
 use Rattle.db_model.specs.Mover.{MovesAll, MoverSteps}
@@ -23,11 +26,16 @@ use Rattle.store_step.specs.Faults.{IsUnblamed}
 abbrev pub SteppedTo : Files → List ℕ → State → State → Type 0
 SteppedTo files text state new = (printed : List ℕ) × (why : Option Refusal) × Step is_served state files text printed why new
 
+-- the text says COPY
+abbrev pub SaysCopy : List ℕ → Type 0
+SaysCopy text = (table : List ℕ) × (file : List ℕ) × Spells (symbols_of text) (Statement.Copy table file)
+
 -- A statement text over a state: it is a step, with the text that was answered. Where memory was short the store is the state as before, but
--- for moveouts that were done.
+-- for moveouts that were done. A load file that can't be read is a COPY's, and then the store is the state as before.
 pub record Steps {D : Type 0} (disk : Ghosts D) (files : Files) (text : List ℕ) (is : Running) (old new : D) (result : Result Answer StepFault) (state : State) : Type 0 where
   pub done : IfOk result (λ a. (after : State) × Step is_served state files text a.text.items a.refusal after × IsState disk is new after)
   pub undone : IsErrOf result step.Memory → (after : State) × IsKept state after × IsState disk is new after
+  pub unread : IsErrOf result step.Read → SaysCopy text × IsState disk is new state
   pub unblamed : IfErr result IsUnblamed
   pub any_moment : Leaves disk (CutBeforeOrAfter state (SteppedTo files text state)) old new
 
@@ -42,8 +50,10 @@ pub record MoverStepped {D : Type 0} (disk : Ghosts D) (is : Running) (old new :
 abbrev pub EndedAs : State → State → Type 0
 EndedAs state new = (stopped : Bool) × MovesAll (all_dropped state) stopped new
 
--- the end of a script over a state
+-- The end of a script over a state. Where memory was short the store is the state with its sessions' changes dropped, but for moveouts that were
+-- done.
 pub record Ends {D : Type 0} (disk : Ghosts D) (is : Running) (old new : D) (result : Result (Unit {0}) StoreFault) (state : State) : Type 0 where
   pub done : OnOk result ((after : State) × EndedAs state after × IsState disk is new after)
+  pub undone : IsErrOf result store.Memory → (after : State) × IsKept (all_dropped state) after × IsState disk is new after
   pub unblamed : IfErr result IsUnblamedStore
   pub any_moment : Leaves disk (CutBeforeOrAfter state (EndedAs state)) old new

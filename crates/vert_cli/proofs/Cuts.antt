@@ -1,5 +1,6 @@
 -- What a crash leaves while statement texts run.
 use Rattle.std.proofs.Common.{ℕ, zero, suc, ◌+◌, ◌≡◌, ◌≤◌, ◌<◌, inl, inr, Bool, false, List, [], ◌∷◌, take, drop, refl, sym, subst, arith}
+use Rattle.std.specs.Prelude.{Option}
 use Rattle.common_laws.specs.Maps.{Contents}
 use Rattle.col_disk.specs.Moved.{ImageOf, Leaves}
 use Rattle.col_disk.specs.declared.disk.Disk.{Ghosts}
@@ -19,11 +20,16 @@ use Rattle.store_step.specs.Cuts.{ReopensFrom, CutBeforeOrAfter}
 use Rattle.store_step.specs.Forms.{is_served}
 use Rattle.store_step.specs.Steps.{SteppedTo}
 use Rattle.vert_cli.specs.Statements.{CutInMover}
-use Rattle.vert_cli.specs.Runs.{setting_of, CutInText, CutInNext, IsOnTheWay}
+use Rattle.vert_cli.specs.Runs.{setting_of, LeavesNow, CutInText, CutInNext, TakesFirst, TakesMore, IsOnTheWay}
+use Rattle.vert_cli.proofs.Taking.{first_none, first_more}
 
 -- a disk that isn't called leaves what its images are
 pub leaves_still : {D : Type 0} (disk : Ghosts D) {P : Contents → Type 0} (now : D) → ((x : Contents) → ImageOf disk now x → P x) → Leaves disk P now now
 leaves_still disk {P} now all = record { later = omega arith; since_then = all; each = λ t c le is. inl is }
+
+-- what a crash leaves at the end of a piece of work
+pub left_now : {D : Type 0} (disk : Ghosts D) {P : Contents → Type 0} {old new : D} → Leaves disk P old new → LeavesNow disk P new
+left_now disk {P} {old} {new} leaves = λ x image. leaves.since_then x (disk.laws.reaches new (disk.clock old) (disk.clock new) x leaves.later (omega arith) image)
 
 -- the images of a disk over which a store is a state
 pub images_reopen : {D : Type 0} (disk : Ghosts D) (now : D) (r : Running) (state : State) → IsState disk r now state → (x : Contents) → ImageOf disk now x → ReopensTo state x
@@ -73,24 +79,39 @@ mover_next steps n old mid below runs x left = inr (n, below, mid, runs, left)
 text_next : (setting : Setting) (mid : State) (text : List ℕ) (more rest : List (List ℕ)) → rest ≡ text ∷ more → (x : Contents) → CutInText setting mid text x → CutInNext setting mid rest x
 text_next setting mid text more rest is x left = subst (λ (texts : List (List ℕ)). CutInNext setting mid texts x) (sym is) left
 
-pub on_the_way : (setting : Setting) (start mid : State) (texts : List (List ℕ)) (count : ℕ) (printed : List ℕ) (refused : Bool) (text : List ℕ) (more : List (List ℕ))
-    → RunTexts setting start (take count texts) printed refused mid → drop count texts ≡ text ∷ more → (x : Contents) → CutInText setting mid text x → IsOnTheWay setting start texts x
-on_the_way setting start mid texts count printed refused text more ran is x left =
-    record { count = count; printed = printed; refused = refused; mid = mid; ran = ran; left = text_next setting mid text more (drop count texts) is x left }
+pub on_the_way : (setting : Setting) (start mid : State) (texts : List (List ℕ)) (count : ℕ) (printed : List ℕ) (refused : Bool) (text : List ℕ) (more : List (List ℕ)) (before after : Option (List ℕ))
+    → RunTexts setting start (take count texts) printed refused mid → TakesFirst before after printed → drop count texts ≡ text ∷ more → (x : Contents) → CutInText setting mid text x → IsOnTheWay setting start texts before after x
+on_the_way setting start mid texts count printed refused text more before after ran taken is x left =
+    record { count = count; printed = printed; refused = refused; mid = mid; ran = ran; taken = taken; left = text_next setting mid text more (drop count texts) is x left }
+
+-- the sink took more since
+pub on_the_way_still : (setting : Setting) (start : State) (texts : List (List ℕ)) (before between after : Option (List ℕ)) → TakesMore between after → (x : Contents) → IsOnTheWay setting start texts before between x
+    → IsOnTheWay setting start texts before after x
+on_the_way_still setting start texts before between after more x way = record {
+  count = way.count;
+  printed = way.printed;
+  refused = way.refused;
+  mid = way.mid;
+  ran = way.ran;
+  taken = first_more before between after way.printed way.taken more;
+  left = way.left;
+}
 
 -- before the first text
 begun_next : (setting : Setting) (start : State) (texts : List (List ℕ)) (x : Contents) → ReopensFrom (last_good start.database) start x → CutInNext setting start texts x
 begun_next setting start [] x from = inl from
 begun_next setting start (text ∷ more) x from = inl (inl from)
 
-pub begun : (setting : Setting) (start : State) (texts : List (List ℕ)) (x : Contents) → ReopensFrom (last_good start.database) start x → IsOnTheWay setting start texts x
-begun setting start texts x from = record { count = 0; printed = []; refused = false; mid = start; ran = (refl, refl, refl); left = begun_next setting start texts x from }
+pub begun : (setting : Setting) (start : State) (texts : List (List ℕ)) (told : Option (List ℕ)) (x : Contents) → ReopensFrom (last_good start.database) start x → IsOnTheWay setting start texts told told x
+begun setting start texts told x from =
+    record { count = 0; printed = []; refused = false; mid = start; ran = (refl, refl, refl); taken = first_none told; left = begun_next setting start texts x from }
 
 -- behind the last text
 ended_next : (setting : Setting) (mid : State) (rest : List (List ℕ)) → rest ≡ [] → (x : Contents) → CutBeforeOrAfter mid (EndsUnless setting.halts mid) x → CutInNext setting mid rest x
 ended_next setting mid rest none x left = subst (λ (texts : List (List ℕ)). CutInNext setting mid texts x) (sym none) left
 
-pub ended : (setting : Setting) (start mid : State) (texts : List (List ℕ)) (count : ℕ) (printed : List ℕ) (refused : Bool)
-    → RunTexts setting start (take count texts) printed refused mid → drop count texts ≡ [] → (x : Contents) → CutBeforeOrAfter mid (EndsUnless setting.halts mid) x → IsOnTheWay setting start texts x
-ended setting start mid texts count printed refused ran none x left =
-    record { count = count; printed = printed; refused = refused; mid = mid; ran = ran; left = ended_next setting mid (drop count texts) none x left }
+pub ended : (setting : Setting) (start mid : State) (texts : List (List ℕ)) (count : ℕ) (printed : List ℕ) (refused : Bool) (before after : Option (List ℕ))
+    → RunTexts setting start (take count texts) printed refused mid → TakesFirst before after printed → drop count texts ≡ [] → (x : Contents) → CutBeforeOrAfter mid (EndsUnless setting.halts mid) x
+    → IsOnTheWay setting start texts before after x
+ended setting start mid texts count printed refused before after ran taken none x left =
+    record { count = count; printed = printed; refused = refused; mid = mid; ran = ran; taken = taken; left = ended_next setting mid (drop count texts) none x left }

@@ -14,22 +14,21 @@ use Rattle.store_step.specs.Running.{Running, IsState}
 use Rattle.store_step.specs.Cuts.{CutBeforeOrAfter}
 use Rattle.store_step.specs.declared.answer.Answer.{Answer}
 use Rattle.store_step.specs.declared.answer.StepFault.{StepFault}
-use Rattle.col_disk.specs.Faults.{IsUnblamed as IsUnblamedStore}
 use Rattle.store_step.specs.Steps.{Steps, SteppedTo, MoverStepped}
 use Rattle.vert_cli.specs.declared.faults.Outcome.{Outcome}
 use Rattle.vert_cli.specs.declared.faults.RunFault.{RunFault}
 use Rattle.vert_cli.specs.Sessions.{Sitting, sitting}
-use Rattle.vert_cli.specs.Statements.{refusal_in, outcome_of, Answered, AnsweredPart, StoppedIn, Executed, CutInMover, IsOfMover, MovedOn}
-use Rattle.vert_cli.specs.Ends.{fault_of, fault_of_step}
-use Rattle.vert_cli.specs.Runs.{setting_of, IsUnblamed, TookNext, CutInText, RanText}
-use Rattle.vert_cli.proofs.Cuts.{leaves_still, images_from, in_text, mover_next, runs_more}
-use Rattle.vert_cli.proofs.Running.{part_of_all, passes_of}
+use Rattle.vert_cli.specs.Statements.{refusal_in, outcome_of, fault_of, fault_of_step, Answered, AnsweredPart, StoppedIn, Executed, CutInMover, StoppedMover, MovedOn}
+use Rattle.vert_cli.specs.Runs.{setting_of, StopsInText, CutInText, TakesMore, RanText}
+use Rattle.vert_cli.proofs.Taking.{more_front, more_same}
+use Rattle.vert_cli.proofs.Cuts.{leaves_still, left_now, images_from, images_reopen, in_text, mover_next, runs_more}
+use Rattle.vert_cli.proofs.Running.{passes_of}
 
 -- ---- a statement text that isn't answered
 
 stopped_by : {D : Type 0} (disk : Ghosts D) (files : Files) (text : List ℕ) (is : Running) (old new : D) (fault : StepFault) (state : State) (told : Option (List ℕ))
     → Steps disk files text is old new (Err fault) state → StoppedIn disk files text is new state told told (fault_of_step fault)
-stopped_by disk files text is old new StepFault.Read state told steps = refl
+stopped_by disk files text is old new StepFault.Read state told steps = let same = steps.unread refl in (same.0, refl, same.1)
 stopped_by disk files text is old new StepFault.Disk state told steps = refl
 stopped_by disk files text is old new (StepFault.Damaged name) state told steps = absurd (steps.unblamed)
 stopped_by disk files text is old new StepFault.Memory state told steps = let kept = steps.undone refl in inl (refl, kept.0, kept.1, kept.2)
@@ -128,49 +127,67 @@ moved_more disk steps made is was old now new state u below so_far step =
       any_moment = left_wider disk steps made old now new state so_far.mid below so_far.runs so_far.any_moment step.any_moment;
     }
 
-pub moved_all : {D F : Type 0} (disk : Ghosts D) (steps : ℕ) (is : Running) (old now : D) (state : State) (u : Unit {0}) (MayCome : F → Type 0) → Moving disk steps steps is old now state → MovedOn disk steps is old now (Ok u) MayCome state
-moved_all disk steps is old now state u MayCome moving = record { done = (moving.mid, moving.runs, moving.stands); stopped = tt; any_moment = moving.any_moment }
+abbrev all_made : Result (Unit {0}) RunFault
+all_made = Ok tt
+
+pub moved_all : {D : Type 0} (disk : Ghosts D) (steps : ℕ) (is : Running) (old now : D) (state : State) → Moving disk steps steps is old now state → MovedOn disk steps is old now all_made state
+moved_all disk steps is old now state moving = record { done = (moving.mid, moving.runs, moving.stands); stopped = tt; any_moment = moving.any_moment }
+
+mover_stops : {D : Type 0} (disk : Ghosts D) (steps made : ℕ) (is : Running) (now new : D) (state mid : State) (fault : StoreFault) → made < steps → MoverRuns made state mid → MoverStepped disk is now new (Err fault) mid
+    → StoppedMover disk steps is new state (fault_of fault)
+mover_stops disk steps made is now new state mid StoreFault.Disk below runs step = tt
+mover_stops disk steps made is now new state mid (StoreFault.Damaged name) below runs step = absurd (step.unblamed)
+mover_stops disk steps made is now new state mid StoreFault.Memory below runs step = (mid, record { moves = made; below = below; runs = runs }, step.undone refl)
+
+abbrev stopped_for : RunFault → Result (Unit {0}) RunFault
+stopped_for fault = Err fault
 
 pub moved_part : {D : Type 0} (disk : Ghosts D) (steps made : ℕ) (is was : Running) (old now new : D) (state : State) (fault : StoreFault) → made < steps → (so_far : Moving disk steps made was old now state)
-    → MoverStepped disk is now new (Err fault) so_far.mid → MovedOn disk steps is old new (Err fault) IsUnblamedStore state
-moved_part disk steps made is was old now new state fault below so_far step =
-    record { done = tt; stopped = step.unblamed; any_moment = left_wider disk steps made old now new state so_far.mid below so_far.runs so_far.any_moment step.any_moment }
+    → MoverStepped disk is now new (Err fault) so_far.mid → MovedOn disk steps is old new (stopped_for (fault_of fault)) state
+moved_part disk steps made is was old now new state fault below so_far step = record {
+  done = tt;
+  stopped = mover_stops disk steps made is now new state so_far.mid fault below so_far.runs step;
+  any_moment = left_wider disk steps made old now new state so_far.mid below so_far.runs so_far.any_moment step.any_moment;
+}
 
-of_mover : (fault : StoreFault) → IsUnblamedStore fault → IsOfMover (fault_of fault)
-of_mover StoreFault.Disk un = tt
-of_mover (StoreFault.Damaged name) un = absurd un
-of_mover StoreFault.Memory un = tt
+-- the same over a session as it is seen
+pub moved_at : {D : Type 0} (disk : Ghosts D) (steps : ℕ) (is now : Running) (old new : D) (result : Result (Unit {0}) RunFault) (state : State) → now ≡ is → MovedOn disk steps is old new result state
+    → MovedOn disk steps now old new result state
+moved_at disk steps is now old new result state same moved = subst (λ (r : Running). MovedOn disk steps r old new result state) (sym same) moved
 
-pub mover_failed : {D : Type 0} (disk : Ghosts D) (steps : ℕ) (is : Running) (old new : D) (state : State) (fault : StoreFault)
-    → MovedOn disk steps is old new (Err fault) IsUnblamedStore state → MovedOn disk steps is old new (Err (fault_of fault)) IsOfMover state
-mover_failed disk steps is old new state fault moved = record { done = tt; stopped = of_mover fault moved.stopped; any_moment = moved.any_moment }
-
-abbrev done_in : {F : Type 0} → Unit {0} → Result (Unit {0}) F
-done_in u = Ok u
-
-pub mover_done : {D : Type 0} (disk : Ghosts D) (steps : ℕ) (is : Running) (old new : D) (state : State) (u : Unit {0})
-    → MovedOn disk steps is old new (done_in {F = StoreFault} u) IsUnblamedStore state → MovedOn disk steps is old new (done_in {F = RunFault} u) IsOfMover state
-mover_done disk steps is old new state u moved = record { done = moved.done; stopped = tt; any_moment = moved.any_moment }
+pub mover_failed_at : {D : Type 0} (disk : Ghosts D) (steps : ℕ) (is now : Running) (old new : D) (fault noted : RunFault) (state : State) → noted ≡ fault → now ≡ is → MovedOn disk steps is old new (stopped_for fault) state
+    → MovedOn disk steps now old new (stopped_for noted) state
+mover_failed_at disk steps is now old new fault noted state noted_is same moved =
+    moved_at disk steps is now old new (stopped_for noted) state same (subst (λ (f : RunFault). MovedOn disk steps is old new (stopped_for f) state) (sym noted_is) moved)
 
 -- ---- a text and the mover's steps behind it
 
-took : {D : Type 0} (disk : Ghosts D) (files : Files) (text : List ℕ) (is : Running) (new : D) (state : State) (before after : Option (List ℕ)) (fault : RunFault)
-    → StoppedIn disk files text is new state before after fault → IsUnblamed fault × TookNext files state (text ∷ []) before after
-took disk files text is new state before after RunFault.Sink (next, part, here) = (tt, inr (next, part))
-took disk files text is new state before after RunFault.Disk same = (tt, inl same)
-took disk files text is new state before after (RunFault.Damaged name) none = absurd none
-took disk files text is new state before after RunFault.Memory (inl short) = (tt, inl short.0)
-took disk files text is new state before after RunFault.Memory (inr (next, part, here)) = (tt, inr (next, part))
-took disk files text is new state before after RunFault.Read same = (tt, inl same)
-took disk files text is new state before after RunFault.Halted none = absurd none
+took : {D : Type 0} (disk : Ghosts D) (files : Files) (steps : ℕ) (halts : Bool) (text : List ℕ) (is : Running) (old new : D) (state : State) (before after : Option (List ℕ)) (fault : RunFault)
+    → Leaves disk (CutBeforeOrAfter state (SteppedTo files text state)) old new → StoppedIn disk files text is new state before after fault
+    → StopsInText disk (setting_of files steps halts) state text new before after fault × TakesMore before after
+took disk files steps halts text is old new state before after RunFault.Sink moments (next, part, here) =
+    (record { new = next; part = part; left = images_reopen disk new is next here }, more_front before after part.printed part.taken)
+took disk files steps halts text is old new state before after RunFault.Disk moments same =
+    (inl (record { untaken = same; left = left_now disk moments }), more_same before after same)
+took disk files steps halts text is old new state before after (RunFault.Damaged name) moments none = absurd none
+took disk files steps halts text is old new state before after RunFault.Memory moments (inl (same, next, kept, here)) =
+    (inl (record { untaken = same; new = next; kept = kept; left = images_reopen disk new is next here }), more_same before after same)
+took disk files steps halts text is old new state before after RunFault.Memory moments (inr (next, part, here)) =
+    (inr (inl (record { new = next; part = part; left = images_reopen disk new is next here })), more_front before after part.printed part.taken)
+took disk files steps halts text is old new state before after RunFault.Read moments (copy, same, here) =
+    (record { copy = copy; untaken = same; left = images_reopen disk new is state here }, more_same before after same)
+took disk files steps halts text is old new state before after RunFault.Halted moments none = absurd none
 
 pub text_stopped : {D : Type 0} (disk : Ghosts D) (files : Files) (steps : ℕ) (halts : Bool) (text : List ℕ) (is : Running) (old new : D) (fault : RunFault) (state : State) (before after : Option (List ℕ))
     → Executed disk files text is old new (Err fault) state before after → RanText disk (setting_of files steps halts) text is old new (Err fault) state before after
-text_stopped disk files steps halts text is old new fault state before after executed = record {
-  done = tt;
-  stopped = took disk files text is new state before after fault executed.stopped;
-  any_moment = leaves_wider disk (λ x left. inl left) executed.any_moment;
-}
+text_stopped disk files steps halts text is old new fault state before after executed =
+    let stops = took disk files steps halts text is old new state before after fault executed.any_moment executed.stopped in
+    record {
+      done = tt;
+      stopped = stops.0;
+      taken = stops.1;
+      any_moment = leaves_wider disk (λ x left. inl left) executed.any_moment;
+    }
 
 text_leaves : {D : Type 0} (disk : Ghosts D) (files : Files) (steps : ℕ) (halts : Bool) (text : List ℕ) (is : Running) (old mid new : D) (state answered : State)
     → IsState disk is old state → SteppedTo files text state answered → Leaves disk (CutBeforeOrAfter state (SteppedTo files text state)) old mid → Leaves disk (CutInMover steps answered) mid new
@@ -178,18 +195,22 @@ text_leaves : {D : Type 0} (disk : Ghosts D) (files : Files) (steps : ℕ) (halt
 text_leaves disk files steps halts text is old mid new state answered here stepped first second =
     leaves_join disk (leaves_wider disk (λ x left. inl left) first) (leaves_wider disk (in_text files steps halts text state answered here.sound.database stepped) second)
 
-of_mover_unblamed : (fault : RunFault) → IsOfMover fault → IsUnblamed fault
-of_mover_unblamed RunFault.Sink no_fault = absurd no_fault
-of_mover_unblamed RunFault.Disk is = tt
-of_mover_unblamed (RunFault.Damaged name) no_fault = absurd no_fault
-of_mover_unblamed RunFault.Memory is = tt
-of_mover_unblamed RunFault.Read no_fault = absurd no_fault
-of_mover_unblamed RunFault.Halted no_fault = absurd no_fault
+stops_moving : {D : Type 0} (disk : Ghosts D) (files : Files) (steps : ℕ) (halts : Bool) (text : List ℕ) (is : Running) (mid new : D) (state answered : State) (why : Option Refusal) (before after : Option (List ℕ)) (fault : RunFault)
+    → Answered files state text why answered before after → Leaves disk (CutInMover steps answered) mid new → StoppedMover disk steps is new answered fault
+    → StopsInText disk (setting_of files steps halts) state text new before after fault
+stops_moving disk files steps halts text is mid new state answered why before after RunFault.Sink whole moments none = absurd none
+stops_moving disk files steps halts text is mid new state answered why before after RunFault.Disk whole moments failed =
+    inr (record { answered = answered; refusal = why; whole = whole; left = left_now disk moments })
+stops_moving disk files steps halts text is mid new state answered why before after (RunFault.Damaged name) whole moments none = absurd none
+stops_moving disk files steps halts text is mid new state answered why before after RunFault.Memory whole moments (next, moved, here) =
+    inr (inr (record { answered = answered; refusal = why; whole = whole; new = next; moved = moved; left = images_reopen disk new is next here }))
+stops_moving disk files steps halts text is mid new state answered why before after RunFault.Read whole moments none = absurd none
+stops_moving disk files steps halts text is mid new state answered why before after RunFault.Halted whole moments none = absurd none
 
 -- the text was answered, and then the mover failed
 pub mover_stopped : {D : Type 0} (disk : Ghosts D) (files : Files) (steps : ℕ) (halts : Bool) (text : List ℕ) (was between is : Running) (old mid new : D) (outcome : Outcome) (fault : RunFault) (state : State) (before after : Option (List ℕ))
     → IsState disk was old state → (executed : Executed disk files text between old mid (Ok outcome) state before after)
-    → ((answered : State) → IsState disk between mid answered → MovedOn disk steps is mid new (Err fault) IsOfMover answered)
+    → ((answered : State) → IsState disk between mid answered → MovedOn disk steps is mid new (Err fault) answered)
     → RanText disk (setting_of files steps halts) text is old new (Err fault) state before after
 mover_stopped disk files steps halts text was between is old mid new outcome fault state before after here executed moves =
     let done = executed.done in
@@ -197,14 +218,15 @@ mover_stopped disk files steps halts text was between is old mid new outcome fau
     let stepped : SteppedTo files text state done.0 = (done.1.printed, refusal_in outcome, done.1.step) in
     record {
       done = tt;
-      stopped = (of_mover_unblamed fault moved.stopped, inr (done.0, part_of_all files state text (refusal_in outcome) done.0 before after done.1));
+      stopped = stops_moving disk files steps halts text is mid new state done.0 (refusal_in outcome) before after fault done.1 moved.any_moment moved.stopped;
+      taken = (done.1.printed, done.1.taken);
       any_moment = text_leaves disk files steps halts text was old mid new state done.0 here stepped executed.any_moment moved.any_moment;
     }
 
 -- both were done
 pub text_ran : {D : Type 0} (disk : Ghosts D) (files : Files) (steps : ℕ) (halts : Bool) (text : List ℕ) (was between is : Running) (old mid new : D) (outcome : Outcome) (u : Unit {0}) (refused : Bool) (state : State) (before after : Option (List ℕ))
     → refused ≡ is_some (refusal_in outcome) → IsState disk was old state → (executed : Executed disk files text between old mid (Ok outcome) state before after)
-    → ((answered : State) → IsState disk between mid answered → MovedOn disk steps is mid new (Ok u) IsOfMover answered)
+    → ((answered : State) → IsState disk between mid answered → MovedOn disk steps is mid new (Ok u) answered)
     → RanText disk (setting_of files steps halts) text is old new (Ok refused) state before after
 text_ran disk files steps halts text was between is old mid new outcome u refused state before after refused_is here executed moves =
     let done = executed.done in
@@ -221,5 +243,6 @@ text_ran disk files steps halts text was between is old mid new outcome u refuse
         refused_is,
       );
       stopped = tt;
+      taken = (done.1.printed, done.1.taken);
       any_moment = text_leaves disk files steps halts text was old mid new state done.0 here stepped executed.any_moment moved.any_moment;
     }

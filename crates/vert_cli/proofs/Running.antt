@@ -4,14 +4,16 @@ use Rattle.std.specs.Prelude.{Option, is_some}
 use Rattle.std.proofs.Math.Bool.{or_assoc}
 use Rattle.std.proofs.lemmas.List.{append-nil, take_more, drop_more, get_or-map, length-map}
 use Rattle.common_laws.specs.Told.{Appends}
-use Rattle.common_laws.proofs.Telling.{appends_nothing, appends_join, front_of_all}
+use Rattle.common_laws.proofs.Telling.{appends_nothing, appends_join}
+use Rattle.col_disk.specs.declared.disk.Disk.{Ghosts}
 use Rattle.sql_tree.specs.declared.refusal.Refusal.{Refusal}
 use Rattle.db_model.specs.State.{State}
 use Rattle.db_model.specs.Loading.{Files}
 use Rattle.db_model.specs.Mover.{MoverRuns}
 use Rattle.db_model.specs.Run.{Setting, Passes, RunTexts}
-use Rattle.vert_cli.specs.Statements.{Answered, AnsweredPart}
-use Rattle.vert_cli.specs.Runs.{RanWhole, RanFront, TookNext, setting_of}
+use Rattle.vert_cli.specs.declared.faults.RunFault.{RunFault}
+use Rattle.vert_cli.specs.Statements.{Answered}
+use Rattle.vert_cli.specs.Runs.{RanWhole, StopsInNext, StopsInText, StoppedAt, setting_of}
 
 or_false : (b : Bool) → b ≡ (b || false)
 or_false true = refl
@@ -74,26 +76,23 @@ whole_next f spans i d setting old mid new refused told was why printed before b
 pub rest_is : {X : Type 0} (f : X → List ℕ) (spans : List X) (i : ℕ) (d : X) → i < length spans → drop i (map f spans) ≡ f (get_or spans i d) ∷ drop (i + 1) (map f spans)
 rest_is f spans i d below = drop_more (map f spans) i (f d) (below_map f spans i below) ∙ ap (λ (text : List ℕ). text ∷ drop (i + 1) (map f spans)) (get_or-map f spans i d (f d) below)
 
-took_more : (files : Files) (mid : State) (text : List ℕ) (more : List (List ℕ)) (before after : Option (List ℕ)) → TookNext files mid (text ∷ []) before after → TookNext files mid (text ∷ more) before after
-took_more files mid text more before after took = took
+in_more : {D : Type 0} (disk : Ghosts D) (setting : Setting) (mid : State) (text : List ℕ) (more : List (List ℕ)) (now : D) (before after : Option (List ℕ)) (fault : RunFault)
+    → StopsInText disk setting mid text now before after fault → StopsInNext disk setting mid (text ∷ more) now before after fault
+in_more disk setting mid text more now before after fault stops = stops
 
 -- of the texts of some spans the next one stopped
-pub front_next : {X : Type 0} (f : X → List ℕ) (spans : List X) (i : ℕ) (d : X) (setting : Setting) (old mid : State) (refused : Bool) (before between after : Option (List ℕ))
-    → i < length spans → RanWhole setting old (take i (map f spans)) refused mid before between → TookNext setting.files mid (f (get_or spans i d) ∷ []) between after
-    → RanFront setting old (map f spans) before after
-front_next f spans i d setting old mid refused before between after below whole took = record {
+pub stopped_next : {D : Type 0} (disk : Ghosts D) {X : Type 0} (f : X → List ℕ) (spans : List X) (i : ℕ) (d : X) (setting : Setting) (old mid : State) (refused : Bool) (now : D) (before between after : Option (List ℕ)) (fault : RunFault)
+    → i < length spans → RanWhole setting old (take i (map f spans)) refused mid before between → StopsInText disk setting mid (f (get_or spans i d)) now between after fault
+    → StoppedAt disk setting old (map f spans) now before after fault
+stopped_next disk f spans i d setting old mid refused now before between after fault below whole stops = record {
   count = i;
   refused = refused;
   mid = mid;
   between = between;
   ran = whole;
-  next = subst (λ (texts : List (List ℕ)). TookNext setting.files mid texts between after) (sym (rest_is f spans i d below))
-      (took_more setting.files mid (f (get_or spans i d)) (drop (i + 1) (map f spans)) between after took);
+  stops = subst (λ (texts : List (List ℕ)). StopsInNext disk setting mid texts now between after fault) (sym (rest_is f spans i d below))
+      (in_more disk setting mid (f (get_or spans i d)) (drop (i + 1) (map f spans)) now between after fault stops);
 }
-
--- what was answered whole was answered in part
-pub part_of_all : (files : Files) (old : State) (text : List ℕ) (why : Option Refusal) (new : State) (before after : Option (List ℕ)) → Answered files old text why new before after → AnsweredPart files old text new before after
-part_of_all files old text why new before after answered = record { printed = answered.printed; refusal = why; step = answered.step; taken = front_of_all before after answered.printed answered.taken }
 
 -- a text and the mover's steps behind it
 pub passes_of : (files : Files) (steps : ℕ) (halts : Bool) (old answered new : State) (text : List ℕ) (why : Option Refusal) (before after : Option (List ℕ))

@@ -1,115 +1,233 @@
--- How a run ends whose script is there.
-use Rattle.std.proofs.Common.{ℕ, ◌≡◌, ◌∙◌, ◌≤◌, inl, inr, List, length, refl, sym, ap, subst, arith}
-use Rattle.std.specs.Prelude.{Option, Some, None, IfSome}
+-- How a run begins and ends, by its words and by what the files have.
+use Rattle.std.proofs.Common.{ℕ, ◌≡◌, ◌∙◌, ◌≤◌, ◌<◌, inl, inr, Bool, true, false, List, [], ◌∷◌, drop, length, refl, sym, ap, subst, arith}
+use Rattle.std.specs.Prelude.{◌⊎◌, Option, Some, None, IfSome, Result, Ok, Err}
 use Rattle.common_laws.specs.Causes.{Rose}
 use Rattle.common_laws.specs.Maps.{Contents}
 use Rattle.col_disk.specs.Moved.{Leaves}
 use Rattle.col_disk.specs.declared.disk.Disk.{Ghosts}
+use Rattle.col_disk.proofs.Moving.{leaves_wider}
 use Rattle.col_io.specs.Files.{Finds}
 use Rattle.col_io.specs.declared.reading.Got.{Got}
-use Rattle.col_io.specs.declared.reading.Got.TheVariants.{Whole}
+use Rattle.col_io.specs.declared.reading.Got.TheVariants.{Absent, Whole, TooLong}
 use Rattle.sql_words.specs.Texts.{statement_texts}
 use Rattle.db_model.specs.Database.{Database}
+use Rattle.db_model.specs.State.{State}
 use Rattle.db_model.specs.Loading.{Files}
 use Rattle.db_model.specs.Run.{Setting}
 use Rattle.folder_model.specs.Reopening.{Reopens}
 use Rattle.generated_load.specs.Load.{generated_script}
+use Rattle.vert_cli.specs.declared.faults.RunFault.{RunFault}
 use Rattle.vert_cli.specs.declared.faults.Status.{Status}
 use Rattle.run_words.specs.Words.{Source, from_file, generated, Wanted}
-use Rattle.vert_cli.specs.Runs.{setting_of}
-use Rattle.vert_cli.specs.Ends.{OpenedEnd, ServedEnd, HeldEnds, ManyAt, IsRan, IsServed, IsServable, IsServableFrom, script_of, IsWithinLimits, IsOverLimits, CutInRun, CutInScript, FoundAs, RunEnds, RunLeaves, Counts, IsAnswered}
+use Rattle.vert_cli.specs.Runs.{setting_of, StopsInNext}
+use Rattle.vert_cli.specs.Ends.{status_of_end, NeverBegins, IsUnread, IsIdle, OpenedEnd, CutInRun, IsWithinLimits, IsOverLimits, IsServed, IsLarge, IsUnbegun, ScriptBegins, ScriptEnds, CutInScript, script_of, RunBegins, RunEnds, RunLeaves, IsAbsent, IsTooLarge, IsServableFrom, IsServable, ExactlyWhere, Counts, IsAnswered}
 use Rattle.vert_cli.proofs.FewTexts.{generated_within}
+
+-- ---- the status of a run that began
+
+pub sink_only : (ended : Result Bool RunFault) → status_of_end ended ≡ Status.SinkFault → ended ≡ Err RunFault.Sink
+sink_only (Ok true) is = absurd (cc)
+sink_only (Ok false) is = absurd (cc)
+sink_only (Err RunFault.Sink) is = refl
+sink_only (Err RunFault.Disk) is = absurd (cc)
+sink_only (Err (RunFault.Damaged q)) is = absurd (cc)
+sink_only (Err RunFault.Memory) is = absurd (cc)
+sink_only (Err RunFault.Read) is = absurd (cc)
+sink_only (Err RunFault.Halted) is = absurd (cc)
+
+pub read_only : (ended : Result Bool RunFault) → status_of_end ended ≡ Status.ReadFault → ended ≡ Err RunFault.Read
+read_only (Ok true) is = absurd (cc)
+read_only (Ok false) is = absurd (cc)
+read_only (Err RunFault.Sink) is = absurd (cc)
+read_only (Err RunFault.Disk) is = absurd (cc)
+read_only (Err (RunFault.Damaged q)) is = absurd (cc)
+read_only (Err RunFault.Memory) is = absurd (cc)
+read_only (Err RunFault.Read) is = refl
+read_only (Err RunFault.Halted) is = absurd (cc)
+
+pub disk_only : (ended : Result Bool RunFault) → (ended ≡ Err RunFault.Halted → ⊥) → status_of_end ended ≡ Status.DiskFault → ended ≡ Err RunFault.Disk
+disk_only (Ok true) going is = absurd (cc)
+disk_only (Ok false) going is = absurd (cc)
+disk_only (Err RunFault.Sink) going is = absurd (cc)
+disk_only (Err RunFault.Disk) going is = refl
+disk_only (Err (RunFault.Damaged q)) going is = absurd (cc)
+disk_only (Err RunFault.Memory) going is = absurd (cc)
+disk_only (Err RunFault.Read) going is = absurd (cc)
+disk_only (Err RunFault.Halted) going is = absurd (going refl)
+
+abbrev is_begun : Status → Bool
+is_begun Status.Done = true
+is_begun Status.Refused = true
+is_begun Status.Usage = false
+is_begun Status.NoScript = false
+is_begun Status.SinkFault = true
+is_begun Status.DiskFault = true
+is_begun (Status.Damaged q) = true
+is_begun Status.Memory = true
+is_begun Status.ReadFault = true
+is_begun Status.TooLarge = false
+
+end_begun : (ended : Result Bool RunFault) → is_begun (status_of_end ended) ≡ true
+end_begun (Ok true) = refl
+end_begun (Ok false) = refl
+end_begun (Err RunFault.Sink) = refl
+end_begun (Err RunFault.Disk) = refl
+end_begun (Err (RunFault.Damaged q)) = refl
+end_begun (Err RunFault.Memory) = refl
+end_begun (Err RunFault.Read) = refl
+end_begun (Err RunFault.Halted) = refl
+
+not_begun : (status : Status) → NeverBegins status → is_begun status ≡ false
+not_begun status (inl is) = ap is_begun is
+not_begun status (inr (inl is)) = ap is_begun is
+not_begun status (inr (inr is)) = ap is_begun is
+
+true_false : true ≡ false → ⊥
+true_false is = absurd (cc)
+
+pub never_begun : (ended : Result Bool RunFault) (status : Status) → status ≡ status_of_end ended → NeverBegins status → ⊥
+never_begun ended status is never = true_false (sym (end_begun ended) ∙ sym (ap is_begun is) ∙ not_begun status never)
+
+-- ---- a run that doesn't begin
+
+idle : {D : Type 0} (now : D) (told : Option (List ℕ)) → IsIdle now now told told
+idle now told = record { disk = refl; sink = refl }
+
+pub unbegun : {D : Type 0} (now : D) (told : Option (List ℕ)) (held : Option (List ℕ)) (status : Status) → IsUnbegun status held → ScriptBegins status held now now told told
+unbegun now told held status why = inl (why, idle now told)
+
+pub unbegun_ends : {D : Type 0} (disk : Ghosts D) (setting : Setting) (d : Database) (now : D) (told : Option (List ℕ)) (held : Option (List ℕ)) (status : Status)
+    → IsUnbegun status held → ScriptEnds status disk setting d held now now told told
+unbegun_ends disk setting d now told held status why = inl (why, idle now told)
+
+pub short : (held : Option (List ℕ)) → IsUnbegun Status.Memory held
+short held = inr (inr (inl refl))
+
+pub unread : (held : Option (List ℕ)) → IsUnbegun Status.ReadFault held
+unread held = inr (inr (inr refl))
+
+pub absent : (held : Option (List ℕ)) → held ≡ None → IsUnbegun Status.NoScript held
+absent held none = inl (refl, none)
+
+pub large : (held : Option (List ℕ)) → IsLarge held → IsUnbegun Status.TooLarge held
+large held over = inr (inl (refl, over))
+
+pub large_many : (script : List ℕ) → 4096 < length (statement_texts script) → IsLarge (Some script)
+large_many script many = (script, refl, inr many)
 
 -- ---- the texts are those of the script
 
-ends_at : {D : Type 0} (disk : Ghosts D) (setting : Setting) (d : Database) (script : List ℕ) (now : D) (before after : Option (List ℕ)) (status : Status)
-    → IsRan status → length (statement_texts script) ≤ 4096 → OpenedEnd status disk setting d (statement_texts script) now before after → ServedEnd status disk setting d script now before after
-ends_at disk setting d script now before after Status.Done ran few end = end
-ends_at disk setting d script now before after Status.Refused ran few end = end
-ends_at disk setting d script now before after Status.Usage ran few end = absurd ran
-ends_at disk setting d script now before after Status.NoScript ran few end = absurd ran
-ends_at disk setting d script now before after Status.SinkFault ran few end = end
-ends_at disk setting d script now before after Status.DiskFault ran few end = end
-ends_at disk setting d script now before after (Status.Damaged q) ran few end = end.2
-ends_at disk setting d script now before after Status.Memory ran few end = inr (few, end)
-ends_at disk setting d script now before after Status.ReadFault ran few end = end
-ends_at disk setting d script now before after Status.TooLarge ran few end = absurd ran
+pub texts_left : {D : Type 0} (disk : Ghosts D) (setting : Setting) (d : Database) (script : List ℕ) (texts : List (List ℕ)) (old new : D) (before after : Option (List ℕ))
+    → texts ≡ statement_texts script → Leaves disk (CutInRun setting d texts before after) old new → Leaves disk (CutInRun setting d (statement_texts script) before after) old new
+texts_left disk setting d script texts old new before after is leaves = subst (λ (ts : List (List ℕ)). Leaves disk (CutInRun setting d ts before after) old new) is leaves
 
-pub served : {D : Type 0} (disk : Ghosts D) (setting : Setting) (d : Database) (script : List ℕ) (texts : List (List ℕ)) (now : D) (before after : Option (List ℕ)) (status : Status)
-    → texts ≡ statement_texts script → length (statement_texts script) ≤ 4096 → IsRan status → OpenedEnd status disk setting d texts now before after → ServedEnd status disk setting d script now before after
-served disk setting d script texts now before after status is few ran end =
-    ends_at disk setting d script now before after status ran few (subst (λ (ts : List (List ℕ)). OpenedEnd status disk setting d ts now before after) is end)
+within : (script : List ℕ) → length script ≤ 67108864 → length (statement_texts script) ≤ 4096 → IsServed (Some script) script
+within script bytes few = record { there = refl; limits = record { bytes = bytes; statements = few } }
 
-pub texts_left : {D : Type 0} (disk : Ghosts D) (setting : Setting) (d : Database) (script : List ℕ) (texts : List (List ℕ)) (old new : D)
-    → texts ≡ statement_texts script → Leaves disk (CutInRun setting d texts) old new → Leaves disk (CutInRun setting d (statement_texts script)) old new
-texts_left disk setting d script texts old new is leaves = subst (λ (ts : List (List ℕ)). Leaves disk (CutInRun setting d ts) old new) is leaves
+pub served_begins : {D : Type 0} (script : List ℕ) (old now : D) (before after : Option (List ℕ)) (status : Status) (ended : Result Bool RunFault)
+    → length script ≤ 67108864 → length (statement_texts script) ≤ 4096 → status ≡ status_of_end ended → ScriptBegins status (Some script) old now before after
+served_begins script old now before after status ended bytes few is = inr (script, within script bytes few, (ended, is))
+
+pub served_ends : {D : Type 0} (disk : Ghosts D) (setting : Setting) (d : Database) (script : List ℕ) (texts : List (List ℕ)) (old now : D) (before after : Option (List ℕ)) (status : Status) (ended : Result Bool RunFault)
+    → length script ≤ 67108864 → length (statement_texts script) ≤ 4096 → status ≡ status_of_end ended → texts ≡ statement_texts script → OpenedEnd ended disk setting d texts old now before after
+    → ScriptEnds status disk setting d (Some script) old now before after
+served_ends disk setting d script texts old now before after status ended bytes few is texts_are ends = inr (record {
+  script = script;
+  served = within script bytes few;
+  ended = ended;
+  status_is = is;
+  ends = subst (λ (ts : List (List ℕ)). OpenedEnd ended disk setting d ts old now before after) texts_are ends;
+})
 
 -- ---- the script is what the files have
 
 told : (P : Files → Type 0) (content : Option Files) (there : Files) → content ≡ Some there → IfSome content P → P there
 told P content there is for = subst (λ (c : Option Files). IfSome c P) is for
 
-found_whole : (held : Option (List ℕ)) (max : ℕ) (bytes : _) → Finds held max (Whole bytes) → (held ≡ Some bytes.items) × (length bytes.items ≤ max)
+pub found_got : (content : Option Files) (there : Files) (name : List ℕ) (max : ℕ) (got was : Got) → got ≡ was → content ≡ Some there → IfSome content (λ map. Finds (map name) max got) → Finds (there name) max was
+found_got content there name max got was got_is is found = subst (λ (x : Got). Finds (there name) max x) got_is (told (λ map. Finds (map name) max got) content there is found)
+
+pub found_whole : (held : Option (List ℕ)) (max : ℕ) (bytes : _) → Finds held max (Whole bytes) → held ≡ Some bytes.items
 found_whole None max bytes found = absurd found
-found_whole (Some h) max bytes (same, within) = (ap Some (sym same), subst (λ (b : List ℕ). length b ≤ max) (sym same) within)
+found_whole (Some h) max bytes (same, fits) = ap Some (sym same)
 
-pub found_at : (content : Option Files) (there : Files) (name : List ℕ) (max : ℕ) (got : Got) (bytes : _) → got ≡ Whole bytes → content ≡ Some there → IfSome content (λ map. Finds (map name) max got)
-    → (there name ≡ Some bytes.items) × (length bytes.items ≤ max)
-found_at content there name max got bytes got_is is found =
-    found_whole (there name) max bytes (subst (λ (x : Got). Finds (there name) max x) got_is (told (λ map. Finds (map name) max got) content there is found))
+pub found_absent : (held : Option (List ℕ)) (max : ℕ) → Finds held max Absent → held ≡ None
+found_absent None max found = refl
+found_absent (Some h) max found = absurd found
 
-within : (held : Option (List ℕ)) (script : List ℕ) → held ≡ Some script → length script ≤ 67108864 → length (statement_texts script) ≤ 4096 → IsServed held script
-within held script is bytes few = record { there = is; limits = record { bytes = bytes; statements = few } }
+pub found_large : (held : Option (List ℕ)) → Finds held 67108864 TooLong → IsLarge held
+found_large None found = absurd found
+found_large (Some h) found = (h, refl, inl found)
 
-pub held_ends : {D : Type 0} (disk : Ghosts D) (setting : Setting) (d : Database) (held : Option (List ℕ)) (script : List ℕ) (now : D) (before after : Option (List ℕ)) (status : Status)
-    → held ≡ Some script → length script ≤ 67108864 → ManyAt status script → ServedEnd status disk setting d script now before after → HeldEnds status disk setting d held now before after
-held_ends disk setting d held script now before after Status.Done is bytes many end = (script, within held script is bytes many, end)
-held_ends disk setting d held script now before after Status.Refused is bytes many end = (script, within held script is bytes many, end)
-held_ends disk setting d held script now before after Status.Usage is bytes many end = absurd many
-held_ends disk setting d held script now before after Status.NoScript is bytes many end = absurd many
-held_ends disk setting d held script now before after Status.SinkFault is bytes many end = (script, within held script is bytes many, end)
-held_ends disk setting d held script now before after Status.DiskFault is bytes many end = (script, within held script is bytes many, end)
-held_ends disk setting d held script now before after (Status.Damaged q) is bytes many end = end
-held_ends disk setting d held script now before after Status.Memory is bytes many (inl same) = inl same
-held_ends disk setting d held script now before after Status.Memory is bytes many (inr end) = inr (script, within held script is bytes end.0, end.1)
-held_ends disk setting d held script now before after Status.ReadFault is bytes many end = inr (script, within held script is bytes many, end)
-held_ends disk setting d held script now before after Status.TooLarge is bytes many end = (script, is, inr many, end)
+pub held_begins : {D : Type 0} (held : Option (List ℕ)) (script : List ℕ) (old now : D) (before after : Option (List ℕ)) (status : Status)
+    → held ≡ Some script → ScriptBegins status (Some script) old now before after → ScriptBegins status held old now before after
+held_begins held script old now before after status is begins = subst (λ (h : Option (List ℕ)). ScriptBegins status h old now before after) (sym is) begins
 
-pub script_left : {D : Type 0} (disk : Ghosts D) (setting : Setting) (d : Database) (held : Option (List ℕ)) (script : List ℕ) (old new : D)
-    → held ≡ Some script → Leaves disk (CutInRun setting d (statement_texts script)) old new → Leaves disk (CutInScript setting d held) old new
-script_left disk setting d held script old new is leaves = subst (λ (h : Option (List ℕ)). Leaves disk (CutInScript setting d h) old new) (sym is) leaves
+pub held_ends : {D : Type 0} (disk : Ghosts D) (setting : Setting) (d : Database) (held : Option (List ℕ)) (script : List ℕ) (old now : D) (before after : Option (List ℕ)) (status : Status)
+    → held ≡ Some script → ScriptEnds status disk setting d (Some script) old now before after → ScriptEnds status disk setting d held old now before after
+held_ends disk setting d held script old now before after status is ends = subst (λ (h : Option (List ℕ)). ScriptEnds status disk setting d h old now before after) (sym is) ends
 
-pub found_as : (held : Option (List ℕ)) (script : List ℕ) (status : Status) → held ≡ Some script → length script ≤ 67108864 → ManyAt status script → FoundAs status held
-found_as held script Status.Done is bytes many = (script, within held script is bytes many)
-found_as held script Status.Refused is bytes many = (script, within held script is bytes many)
-found_as held script Status.Usage is bytes many = many
-found_as held script Status.NoScript is bytes many = absurd many
-found_as held script Status.SinkFault is bytes many = (script, within held script is bytes many)
-found_as held script Status.DiskFault is bytes many = (script, within held script is bytes many)
-found_as held script (Status.Damaged q) is bytes many = (script, within held script is bytes many)
-found_as held script Status.Memory is bytes many = tt
-found_as held script Status.ReadFault is bytes many = tt
-found_as held script Status.TooLarge is bytes many = (script, is, inr many)
+pub script_left : {D : Type 0} (disk : Ghosts D) (setting : Setting) (d : Database) (held : Option (List ℕ)) (script : List ℕ) (old new : D) (before after : Option (List ℕ))
+    → held ≡ Some script → Leaves disk (CutInRun setting d (statement_texts script) before after) old new → Leaves disk (CutInScript setting d held before after) old new
+script_left disk setting d held script old new before after is leaves = subst (λ (h : Option (List ℕ)). Leaves disk (CutInScript setting d h before after) old new) (sym is) leaves
 
-served_from : (source : Source) (there : Files) → IsServableFrom source there → (text : List ℕ) × IsServed (script_of source there) text
-served_from (from_file name) there served = served
-served_from (generated lines seed) there served = (generated_script, record { there = refl; limits = generated_within })
+script_still : (setting : Setting) (d : Database) (held : Option (List ℕ)) (before after : Option (List ℕ)) (x : Contents) → Reopens x d → CutInScript setting d held before after x
+script_still setting d None before after x opens = opens
+script_still setting d (Some script) before after x opens = inl opens
 
--- ---- the words couldn't be read for want of memory
+pub script_rests : {D : Type 0} (disk : Ghosts D) (setting : Setting) (d : Database) (held : Option (List ℕ)) (now : D) (before after : Option (List ℕ)) → Leaves disk (λ x. Reopens x d) now now → Leaves disk (CutInScript setting d held before after) now now
+script_rests disk setting d held now before after leaves = leaves_wider disk (script_still setting d held before after) leaves
 
-pub short_end : {D : Type 0} (disk : Ghosts D) (there : Files) (words : Option Wanted) (d : Database) (now : D) (taken : Option (List ℕ)) → RunEnds Status.Memory disk there words d now taken taken
-short_end disk there None d now taken = inr (refl, refl)
-short_end disk there (Some w) d now taken = inl refl
+-- ---- the words
 
-script_still : (setting : Setting) (d : Database) (held : Option (List ℕ)) (x : Contents) → Reopens x d → CutInScript setting d held x
-script_still setting d None x opens = opens
-script_still setting d (Some script) x opens = inl opens
+pub words_begin : {D : Type 0} (there : Files) (words : Option Wanted) (w : Wanted) (old now : D) (before after : Option (List ℕ)) (status : Status)
+    → Some w ≡ words → ScriptBegins status (script_of w.source there) old now before after → RunBegins status there words old now before after
+words_begin there words w old now before after status is begins = subst (λ (ws : Option Wanted). RunBegins status there ws old now before after) is begins
 
-pub still_left : (there : Files) (words : Option Wanted) (d : Database) (x : Contents) → Reopens x d → RunLeaves there words d x
-still_left there None d x opens = opens
-still_left there (Some w) d x opens = script_still (setting_of there w.steps w.halts) d (script_of w.source there) x opens
+pub misused : {D : Type 0} (there : Files) (words : Option Wanted) (now : D) (told : Option (List ℕ)) → ◌≡◌ {A = Option Wanted} None words → RunBegins Status.Usage there words now now told told
+misused there words now told none = subst (λ (ws : Option Wanted). RunBegins Status.Usage there ws now now told told) none (record { status_is = inl refl; idle = idle now told })
 
--- ---- what is answered where no count of faults rose
+pub misused_ends : {D : Type 0} (disk : Ghosts D) (there : Files) (words : Option Wanted) (d : Database) (now : D) (told : Option (List ℕ)) → ◌≡◌ {A = Option Wanted} None words → RunEnds Status.Usage disk there words d now now told told
+misused_ends disk there words d now told none = subst (λ (ws : Option Wanted). RunEnds Status.Usage disk there ws d now now told told) none (record { status_is = inl refl; idle = idle now told })
+
+-- the words couldn't be read for want of memory
+pub short_begins : {D : Type 0} (there : Files) (words : Option Wanted) (now : D) (told : Option (List ℕ)) → RunBegins Status.Memory there words now now told told
+short_begins there None now told = record { status_is = inr refl; idle = idle now told }
+short_begins there (Some w) now told = unbegun now told (script_of w.source there) Status.Memory (short (script_of w.source there))
+
+pub short_end : {D : Type 0} (disk : Ghosts D) (there : Files) (words : Option Wanted) (d : Database) (now : D) (told : Option (List ℕ)) → RunEnds Status.Memory disk there words d now now told told
+short_end disk there None d now told = record { status_is = inr refl; idle = idle now told }
+short_end disk there (Some w) d now told =
+    unbegun_ends disk (setting_of there w.steps w.halts) d now told (script_of w.source there) Status.Memory (short (script_of w.source there))
+
+pub still_left : (there : Files) (words : Option Wanted) (d : Database) (before after : Option (List ℕ)) (x : Contents) → Reopens x d → RunLeaves there words d before after x
+still_left there None d before after x opens = opens
+still_left there (Some w) d before after x opens = script_still (setting_of there w.steps w.halts) d (script_of w.source there) before after x opens
+
+-- words that name a script aren't misused
+pub begins_named : {D : Type 0} (held : Option (List ℕ)) (old now : D) (before after : Option (List ℕ)) (status : Status) → ScriptBegins status held old now before after → status ≡ Status.Usage → ⊥
+begins_named held old now before after status (inl (inl (is, none), rest)) same = differs (sym is ∙ same)
+  where
+    differs : Status.NoScript ≡ Status.Usage → ⊥
+    differs is = absurd (cc)
+begins_named held old now before after status (inl (inr (inl (is, over)), rest)) same = differs (sym is ∙ same)
+  where
+    differs : Status.TooLarge ≡ Status.Usage → ⊥
+    differs is = absurd (cc)
+begins_named held old now before after status (inl (inr (inr (inl is)), rest)) same = differs (sym is ∙ same)
+  where
+    differs : Status.Memory ≡ Status.Usage → ⊥
+    differs is = absurd (cc)
+begins_named held old now before after status (inl (inr (inr (inr is)), rest)) same = differs (sym is ∙ same)
+  where
+    differs : Status.ReadFault ≡ Status.Usage → ⊥
+    differs is = absurd (cc)
+begins_named held old now before after status (inr (script, served, (ended, is))) same = never_begun ended status is (inl same)
+
+-- ---- a script that is absent or too large
+
+none_some : (script : List ℕ) → ◌≡◌ {A = Option (List ℕ)} None (Some script) → ⊥
+none_some script is = absurd (cc)
 
 same_script : (held : Option (List ℕ)) (script other : List ℕ) → held ≡ Some script → held ≡ Some other → script ≡ other
 same_script held script other is was = some_same script other (sym is ∙ was)
@@ -125,29 +243,108 @@ not_over : (script : List ℕ) → IsWithinLimits script → IsOverLimits script
 not_over script limits (inl over) = omega (arith, limits.bytes, over)
 not_over script limits (inr over) = omega (arith, limits.statements, over)
 
-answered : {D : Type 0} (disk : Ghosts D) (setting : Setting) (d : Database) (held : Option (List ℕ)) (script : List ℕ) (now : D) (before after : Option (List ℕ)) (old new : Counts) (status : Status)
-    → IsServed held script → HeldEnds status disk setting d held now before after
-    → (status ≡ Status.SinkFault → Rose old.sink new.sink) → (status ≡ Status.ReadFault → Rose old.files new.files) → (status ≡ Status.DiskFault → Rose old.disk new.disk) → IsAnswered status old new
-answered disk setting d held script now before after old new Status.Done served end sink read fault = tt
-answered disk setting d held script now before after old new Status.Refused served end sink read fault = tt
-answered disk setting d held script now before after old new Status.Usage served end sink read fault = end
-answered disk setting d held script now before after old new Status.NoScript served end sink read fault = absurd (none_some (sym end.0 ∙ served.there))
-  where
-    none_some : ◌≡◌ {A = Option (List ℕ)} None (Some script) → ⊥
-    none_some is = absurd (cc)
-answered disk setting d held script now before after old new Status.SinkFault served end sink read fault = sink refl
-answered disk setting d held script now before after old new Status.DiskFault served end sink read fault = fault refl
-answered disk setting d held script now before after old new (Status.Damaged q) served end sink read fault = end
-answered disk setting d held script now before after old new Status.Memory served end sink read fault = tt
-answered disk setting d held script now before after old new Status.ReadFault served end sink read fault = read refl
-answered disk setting d held script now before after old new Status.TooLarge served end sink read fault =
-    not_over end.0 (subst IsWithinLimits (same_script held script end.0 served.there end.1) served.limits) end.2
+not_large : (held : Option (List ℕ)) (script : List ℕ) → IsServed held script → IsLarge held → ⊥
+not_large held script served (other, there, over) = not_over other (subst IsWithinLimits (same_script held script other served.there there) served.limits) over
 
-pub complete : {D : Type 0} (disk : Ghosts D) (there : Files) (words : Option Wanted) (w : Wanted) (d : Database) (now : D) (before after : Option (List ℕ)) (old new : Counts) (status : Status)
-    → words ≡ Some w → HeldEnds status disk (setting_of there w.steps w.halts) d (script_of w.source there) now before after
-    → (status ≡ Status.SinkFault → Rose old.sink new.sink) → (status ≡ Status.ReadFault → Rose old.files new.files) → (status ≡ Status.DiskFault → Rose old.disk new.disk)
-    → IsServable words there → IsAnswered status old new
-complete disk there words w d now before after old new status is end sink read fault servable =
+absent_where : {D : Type 0} (held : Option (List ℕ)) (old now : D) (before after : Option (List ℕ)) (status : Status) → ScriptBegins status held old now before after → ExactlyWhere status Status.NoScript (held ≡ None)
+absent_where held old now before after status (inl (inl (is, none), rest)) = record { only = λ same. none; always = λ same. inl is }
+absent_where held old now before after status (inl (inr (inl (is, (script, there, over))), rest)) =
+    record { only = λ same. absurd (differs (sym is ∙ same)); always = λ none. absurd (none_some script (sym none ∙ there)) }
+  where
+    differs : Status.TooLarge ≡ Status.NoScript → ⊥
+    differs is = absurd (cc)
+absent_where held old now before after status (inl (inr (inr (inl is)), rest)) = record { only = λ same. absurd (differs (sym is ∙ same)); always = λ none. inr (inl is) }
+  where
+    differs : Status.Memory ≡ Status.NoScript → ⊥
+    differs is = absurd (cc)
+absent_where held old now before after status (inl (inr (inr (inr is)), rest)) = record { only = λ same. absurd (differs (sym is ∙ same)); always = λ none. inr (inr is) }
+  where
+    differs : Status.ReadFault ≡ Status.NoScript → ⊥
+    differs is = absurd (cc)
+absent_where held old now before after status (inr (script, served, (ended, is))) = record {
+  only = λ same. absurd (never_begun ended status is (inr (inl same)));
+  always = λ none. absurd (none_some script (sym none ∙ served.there));
+}
+
+large_where : {D : Type 0} (held : Option (List ℕ)) (old now : D) (before after : Option (List ℕ)) (status : Status) → ScriptBegins status held old now before after → ExactlyWhere status Status.TooLarge (IsLarge held)
+large_where held old now before after status (inl (inl (is, none), rest)) =
+    record { only = λ same. absurd (differs (sym is ∙ same)); always = λ over. absurd (none_some over.0 (sym none ∙ over.1)) }
+  where
+    differs : Status.NoScript ≡ Status.TooLarge → ⊥
+    differs is = absurd (cc)
+large_where held old now before after status (inl (inr (inl (is, over)), rest)) = record { only = λ same. over; always = λ same. inl is }
+large_where held old now before after status (inl (inr (inr (inl is)), rest)) = record { only = λ same. absurd (differs (sym is ∙ same)); always = λ over. inr (inl is) }
+  where
+    differs : Status.Memory ≡ Status.TooLarge → ⊥
+    differs is = absurd (cc)
+large_where held old now before after status (inl (inr (inr (inr is)), rest)) = record { only = λ same. absurd (differs (sym is ∙ same)); always = λ over. inr (inr is) }
+  where
+    differs : Status.ReadFault ≡ Status.TooLarge → ⊥
+    differs is = absurd (cc)
+large_where held old now before after status (inr (script, served, (ended, is))) = record {
+  only = λ same. absurd (never_begun ended status is (inr (inr same)));
+  always = λ over. absurd (not_large held script served over);
+}
+
+pub no_script_where : {D : Type 0} (there : Files) (words : Option Wanted) (w : Wanted) (old now : D) (before after : Option (List ℕ)) (status : Status)
+    → Some w ≡ words → ScriptBegins status (script_of w.source there) old now before after → ExactlyWhere status Status.NoScript (IsAbsent words there)
+no_script_where there words w old now before after status is begins =
+    subst (λ (ws : Option Wanted). ExactlyWhere status Status.NoScript (IsAbsent ws there)) is (absent_where (script_of w.source there) old now before after status begins)
+
+pub too_large_where : {D : Type 0} (there : Files) (words : Option Wanted) (w : Wanted) (old now : D) (before after : Option (List ℕ)) (status : Status)
+    → Some w ≡ words → ScriptBegins status (script_of w.source there) old now before after → ExactlyWhere status Status.TooLarge (IsTooLarge words there)
+too_large_where there words w old now before after status is begins =
+    subst (λ (ws : Option Wanted). ExactlyWhere status Status.TooLarge (IsTooLarge ws there)) is (large_where (script_of w.source there) old now before after status begins)
+
+-- ---- what is answered where no count of faults rose
+
+served_from : (source : Source) (there : Files) → IsServableFrom source there → (text : List ℕ) × IsServed (script_of source there) text
+served_from (from_file name) there served = served
+served_from (generated lines seed) there served = (generated_script, record { there = refl; limits = generated_within })
+
+-- no run stops for a file that is blamed
+none_blamed : {D : Type 0} (disk : Ghosts D) (setting : Setting) (mid : State) (rest : List (List ℕ)) (now : D) (before after : Option (List ℕ)) (q : ℕ) → StopsInNext disk setting mid rest now before after (RunFault.Damaged q) → ⊥
+none_blamed disk setting mid [] now before after q (halts, none) = none
+none_blamed disk setting mid (text ∷ more) now before after q none = none
+
+abbrev fault_as : RunFault → Result Bool RunFault
+fault_as fault = Err fault
+
+pub unblamed_end : {D : Type 0} (disk : Ghosts D) (setting : Setting) (d : Database) (texts : List (List ℕ)) (old now : D) (before after : Option (List ℕ)) (q : ℕ)
+    → OpenedEnd (fault_as (RunFault.Damaged q)) disk setting d texts old now before after → ⊥
+unblamed_end disk setting d texts old now before after q (inl closed) = by closed.fault
+  where
+    by : (fault_as (RunFault.Damaged q) ≡ fault_as RunFault.Disk) ⊎ (fault_as (RunFault.Damaged q) ≡ fault_as RunFault.Memory) → ⊥
+    by (inl is) = absurd (cc)
+    by (inr is) = absurd (cc)
+unblamed_end disk setting d texts old now before after q (inr (next, parts, starts, stopped)) = none_blamed disk setting stopped.mid (drop stopped.count texts) now stopped.between after q stopped.stops
+
+answered_end : {D : Type 0} (disk : Ghosts D) (setting : Setting) (d : Database) (texts : List (List ℕ)) (old now : D) (before after : Option (List ℕ)) (was new : Counts) (status : Status) (ended : Result Bool RunFault)
+    → status ≡ status_of_end ended → OpenedEnd ended disk setting d texts old now before after
+    → (status ≡ Status.SinkFault → Rose was.sink new.sink) → (status ≡ Status.ReadFault → Rose was.files new.files) → (status ≡ Status.DiskFault → Rose was.disk new.disk) → IsAnswered status was new
+answered_end disk setting d texts old now before after was new status (Ok refused) is ends sink read fault = inl (refused, is)
+answered_end disk setting d texts old now before after was new status (Err RunFault.Sink) is ends sink read fault = inr (inr (inl (is, sink is)))
+answered_end disk setting d texts old now before after was new status (Err RunFault.Disk) is ends sink read fault = inr (inr (inr (inr (is, fault is))))
+answered_end disk setting d texts old now before after was new status (Err (RunFault.Damaged q)) is ends sink read fault = absurd (unblamed_end disk setting d texts old now before after q ends)
+answered_end disk setting d texts old now before after was new status (Err RunFault.Memory) is ends sink read fault = inr (inl is)
+answered_end disk setting d texts old now before after was new status (Err RunFault.Read) is ends sink read fault = inr (inr (inr (inl (is, read is))))
+answered_end disk setting d texts old now before after was new status (Err RunFault.Halted) is ends sink read fault = inr (inr (inr (inr (is, fault is))))
+
+answered : {D : Type 0} (disk : Ghosts D) (setting : Setting) (d : Database) (held : Option (List ℕ)) (script : List ℕ) (old now : D) (before after : Option (List ℕ)) (was new : Counts) (status : Status)
+    → IsServed held script → ScriptEnds status disk setting d held old now before after
+    → (status ≡ Status.SinkFault → Rose was.sink new.sink) → (status ≡ Status.ReadFault → Rose was.files new.files) → (status ≡ Status.DiskFault → Rose was.disk new.disk) → IsAnswered status was new
+answered disk setting d held script old now before after was new status served (inl (inl (is, none), rest)) sink read fault = absurd (none_some script (sym none ∙ served.there))
+answered disk setting d held script old now before after was new status served (inl (inr (inl (is, over)), rest)) sink read fault = absurd (not_large held script served over)
+answered disk setting d held script old now before after was new status served (inl (inr (inr (inl is)), rest)) sink read fault = inr (inl is)
+answered disk setting d held script old now before after was new status served (inl (inr (inr (inr is)), rest)) sink read fault = inr (inr (inr (inl (is, read is))))
+answered disk setting d held script old now before after was new status served (inr ran) sink read fault =
+    answered_end disk setting d (statement_texts ran.script) old now before after was new status ran.ended ran.status_is ran.ends sink read fault
+
+pub complete : {D : Type 0} (disk : Ghosts D) (there : Files) (words : Option Wanted) (w : Wanted) (d : Database) (old now : D) (before after : Option (List ℕ)) (was new : Counts) (status : Status)
+    → words ≡ Some w → ScriptEnds status disk (setting_of there w.steps w.halts) d (script_of w.source there) old now before after
+    → (status ≡ Status.SinkFault → Rose was.sink new.sink) → (status ≡ Status.ReadFault → Rose was.files new.files) → (status ≡ Status.DiskFault → Rose was.disk new.disk)
+    → IsServable words there → IsAnswered status was new
+complete disk there words w d old now before after was new status is ends sink read fault servable =
     let here : IsServable (Some w) there = subst (λ (x : Option Wanted). IsServable x there) is servable in
     let (text, served) = served_from w.source there here in
-    answered disk (setting_of there w.steps w.halts) d (script_of w.source there) text now before after old new status served end sink read fault
+    answered disk (setting_of there w.steps w.halts) d (script_of w.source there) text old now before after was new status served ends sink read fault

@@ -1,9 +1,10 @@
 //! How a run and a statement end.
 #![tactic(auto)]
 
-ghost use Rattle.std.specs.Prelude.{◌≡◌, is_some};
-ghost use Rattle.vert_cli.specs.Statements.{refusal_in, outcome_of};
-ghost use Rattle.vert_cli.specs.Ends.{code_of, fault_of, fault_of_step, status_of, status_of_run};
+ghost use Rattle.std.specs.Prelude.{◌≡◌, ◌||◌, is_some};
+ghost use Rattle.vert_cli.specs.Sessions.{is_of_disk};
+ghost use Rattle.vert_cli.specs.Statements.{refusal_in, outcome_of, fault_of, fault_of_step};
+ghost use Rattle.vert_cli.specs.Ends.{code_of, status_of, status_of_end, status_of_run};
 
 use col_disk::StoreFault;
 use sql_tree::Refusal;
@@ -123,6 +124,20 @@ impl RunFault {
             RunFault::Halted => Status::DiskFault,
         }
     }
+
+    // Whether the disk failed.
+    pub(crate) fn is_of_disk(self) -> bool
+        ensures { result ≡ is_of_disk self }
+    {
+        match self {
+            RunFault::Sink => false,
+            RunFault::Disk => true,
+            RunFault::Damaged(_) => false,
+            RunFault::Memory => false,
+            RunFault::Read => false,
+            RunFault::Halted => false,
+        }
+    }
 }
 
 // A fault of the store, as one of the run.
@@ -157,4 +172,21 @@ pub(crate) fn status_of_run(refused: bool) -> Status
     } else {
         Status::Done
     }
+}
+
+// The status of a run that came to its end, or stopped.
+pub(crate) fn status_of_end(ended: Result<bool, RunFault>) -> Status
+    ensures { result ≡ status_of_end ended }
+{
+    match ended {
+        Ok(refused) => status_of_run(refused),
+        Err(fault) => fault.status(),
+    }
+}
+
+// One or the other.
+pub(crate) fn either(one: bool, other: bool) -> bool
+    ensures { result ≡ (one || other) }
+{
+    one || other
 }

@@ -3,12 +3,12 @@
 //! `run` does all that the program does: it reads its words and the script, opens the tables that the folder holds, runs the script's
 //! statements in order, each with the mover's steps behind it, writes what each prints, and makes the end. A generated script runs over the
 //! files that have its load. Its promise is the run theorem
-//! (`RunEnds` and `RunLeaves` of `specs/Ends.antt`), over a folder that reopens to a database (`IsOpenable`): how a run ends by its
-//! status, and, where a crash would have left the folder so too (`IsSettled`), that whatever a crash leaves at any moment of the run reopens
-//! to the tables before or after the event in work, cut at a closed epoch that is no earlier than the last good one before it
-//! (`IsOnTheWay` of `specs/Runs.antt`). `Session` promises the same of the opening, of one statement (`Executed` of
-//! `specs/Statements.antt`), of the mover's steps (`MovedOn`) and of the end. What the words ask for is
-//! `wanted` of `run_words`.
+//! (`RunEnds` and `RunLeaves` of `specs/Ends.antt`), over a folder that reopens to a database (`IsOpenable`): what was printed and what a crash
+//! leaves when the run has ended or stopped, by its status, and, where a crash would have left the folder so too (`IsSettled`), that whatever a
+//! crash leaves at any moment of the run reopens to the tables before or after an event of it, cut at a closed epoch that is no earlier than
+//! the last good one before it (`IsOnTheWay` of `specs/Runs.antt`). `Session` promises the same of the opening, of one statement (`Executed` of
+//! `specs/Statements.antt`), of the mover's steps (`MovedOn`) and of the end, and says which answer halts it (`halts_by` of
+//! `specs/Sessions.antt`). What the words ask for is `wanted` of `run_words`.
 #![tactic(auto)]
 
 mod faults;

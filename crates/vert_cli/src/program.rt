@@ -1,7 +1,7 @@
 //! The program.
 #![tactic(auto)]
 
-ghost use Rattle.std.specs.Prelude.{◌≡◌, ◌≢◌, ◌≤◌, ◌⊎◌, map, None, Some, IfSome, string_bytes};
+ghost use Rattle.std.specs.Prelude.{◌≡◌, ◌≢◌, ◌≤◌, ◌⊎◌, map, None, Some, string_bytes};
 ghost use Rattle.common_laws.specs.Causes.{Rose};
 ghost use Rattle.col_disk.specs.Moved.{Leaves};
 ghost use Rattle.db_model.specs.Database.{Database as Logical};
@@ -11,7 +11,7 @@ ghost use Rattle.run_words.specs.Words.{wanted};
 ghost use Rattle.generated_load.specs.Load.{generated_files, generated_script};
 ghost use Rattle.vert_cli.specs.declared.faults.Status.TheVariants.{Usage as usage_refused, NoScript as no_script, SinkFault as sink_fault, ReadFault as read_fault, DiskFault as disk_fault, Memory as no_memory, TooLarge as too_large};
 ghost use Rattle.vert_cli.specs.Runs.{setting_of};
-ghost use Rattle.vert_cli.specs.Ends.{AreFilesFor, AreFilesOf, CutInScript, ExactlyWhere, FoundAs, HeldEnds, IsAbsent, IsAnswered, IsOpenable, IsServable, IsSettled, IsTooLarge, NotCalledAt, RunEnds, RunLeaves, UntouchedAt, script_of};
+ghost use Rattle.vert_cli.specs.Ends.{AreFilesFor, AreFilesOf, CutInScript, ExactlyWhere, IsAbsent, IsAnswered, IsIdle, IsOpenable, IsServable, IsSettled, IsTooLarge, NeverBegins, RunBegins, RunEnds, RunLeaves, ScriptBegins, ScriptEnds, script_of};
 
 use crate::faults::Status;
 use crate::script::run_script;
@@ -40,16 +40,16 @@ pub fn run<F: Files, S: Sink, D: Disk>(
 ) -> Status
     ensures usage { result ≡ usage_refused → wanted (map string_bytes words.now) ≡ None }
     ensures refused { wanted (map string_bytes words.now) ≡ None → (result ≡ usage_refused) ⊎ (result ≡ no_memory) }
+    ensures begins { (there : LoadFiles) → AreFilesOf (wanted (map string_bytes words.now)) (F.content files.old) there → RunBegins result there (wanted (map string_bytes words.now)) disk.old disk.new (S.taken out.old) (S.taken out.new) }
     ensures no_script { (there : LoadFiles) → AreFilesOf (wanted (map string_bytes words.now)) (F.content files.old) there → ExactlyWhere result no_script (IsAbsent (wanted (map string_bytes words.now)) there) }
     ensures too_large { (there : LoadFiles) → AreFilesOf (wanted (map string_bytes words.now)) (F.content files.old) there → ExactlyWhere result too_large (IsTooLarge (wanted (map string_bytes words.now)) there) }
     ensures output { (there : LoadFiles) (d : Logical) → AreFilesOf (wanted (map string_bytes words.now)) (F.content files.old) there → IsOpenable ⟦<D as Disk>⟧ disk.old d
-        → RunEnds result ⟦<D as Disk>⟧ there (wanted (map string_bytes words.now)) d disk.new (S.taken out.old) (S.taken out.new) }
+        → RunEnds result ⟦<D as Disk>⟧ there (wanted (map string_bytes words.now)) d disk.old disk.new (S.taken out.old) (S.taken out.new) }
     ensures any_moment { (there : LoadFiles) (d : Logical) → AreFilesOf (wanted (map string_bytes words.now)) (F.content files.old) there → IsOpenable ⟦<D as Disk>⟧ disk.old d → IsSettled ⟦<D as Disk>⟧ disk.old d
-        → Leaves ⟦<D as Disk>⟧ (RunLeaves there (wanted (map string_bytes words.now)) d) disk.old disk.new }
+        → Leaves ⟦<D as Disk>⟧ (RunLeaves there (wanted (map string_bytes words.now)) d (S.taken out.old) (S.taken out.new)) disk.old disk.new }
     ensures complete { (there : LoadFiles) (d : Logical) → AreFilesOf (wanted (map string_bytes words.now)) (F.content files.old) there → IsOpenable ⟦<D as Disk>⟧ disk.old d → IsServable (wanted (map string_bytes words.now)) there
         → IsAnswered result (record { sink = S.faults out.old; files = F.faults files.old; disk = D.faults disk.old }) (record { sink = S.faults out.new; files = F.faults files.new; disk = D.faults disk.new }) }
-    ensures untouched { UntouchedAt result (S.taken out.old) (S.taken out.new) }
-    ensures not_called { NotCalledAt result disk.old disk.new }
+    ensures idle { NeverBegins result → IsIdle disk.old disk.new (S.taken out.old) (S.taken out.new) }
     ensures content { F.content files.new ≡ F.content files.old }
     ensures sink { result ≡ sink_fault → Rose (S.faults out.old) (S.faults out.new) }
     ensures read { result ≡ read_fault → Rose (F.faults files.old) (F.faults files.new) }
@@ -83,14 +83,13 @@ fn run_source<F: Files, S: Sink, D: Disk>(
     out: &mut S,
     disk: &mut D,
 ) -> Status
+    ensures begins { (there : LoadFiles) → AreFilesFor (source_told source) (F.content files.old) there → ScriptBegins result (script_of (source_told source) there) disk.old disk.new (S.taken out.old) (S.taken out.new) }
     ensures ends { (there : LoadFiles) (d : Logical) → AreFilesFor (source_told source) (F.content files.old) there → IsOpenable ⟦<D as Disk>⟧ disk.old d
-        → HeldEnds result ⟦<D as Disk>⟧ (setting_of there steps halts) d (script_of (source_told source) there) disk.new (S.taken out.old) (S.taken out.new) }
+        → ScriptEnds result ⟦<D as Disk>⟧ (setting_of there steps halts) d (script_of (source_told source) there) disk.old disk.new (S.taken out.old) (S.taken out.new) }
     ensures any_moment { (there : LoadFiles) (d : Logical) → AreFilesFor (source_told source) (F.content files.old) there → IsOpenable ⟦<D as Disk>⟧ disk.old d → IsSettled ⟦<D as Disk>⟧ disk.old d
-        → Leaves ⟦<D as Disk>⟧ (CutInScript (setting_of there steps halts) d (script_of (source_told source) there)) disk.old disk.new }
-    ensures found { (there : LoadFiles) → AreFilesFor (source_told source) (F.content files.old) there → FoundAs result (script_of (source_told source) there) }
+        → Leaves ⟦<D as Disk>⟧ (CutInScript (setting_of there steps halts) d (script_of (source_told source) there) (S.taken out.old) (S.taken out.new)) disk.old disk.new }
     ensures named { result ≢ usage_refused }
-    ensures untouched { UntouchedAt result (S.taken out.old) (S.taken out.new) }
-    ensures not_called { NotCalledAt result disk.old disk.new }
+    ensures idle { NeverBegins result → IsIdle disk.old disk.new (S.taken out.old) (S.taken out.new) }
     ensures content { F.content files.new ≡ F.content files.old }
     ensures sink { result ≡ sink_fault → Rose (S.faults out.old) (S.faults out.new) }
     ensures read { result ≡ read_fault → Rose (F.faults files.old) (F.faults files.new) }
@@ -117,14 +116,13 @@ fn run_generated<S: Sink, D: Disk>(
     out: &mut S,
     disk: &mut D,
 ) -> Status
+    ensures begins { ScriptBegins result (Some generated_script) disk.old disk.new (S.taken out.old) (S.taken out.new) }
     ensures ends { (d : Logical) → IsOpenable ⟦<D as Disk>⟧ disk.old d
-        → HeldEnds result ⟦<D as Disk>⟧ (setting_of (generated_files lines seed) steps halts) d (Some generated_script) disk.new (S.taken out.old) (S.taken out.new) }
+        → ScriptEnds result ⟦<D as Disk>⟧ (setting_of (generated_files lines seed) steps halts) d (Some generated_script) disk.old disk.new (S.taken out.old) (S.taken out.new) }
     ensures any_moment { (d : Logical) → IsOpenable ⟦<D as Disk>⟧ disk.old d → IsSettled ⟦<D as Disk>⟧ disk.old d
-        → Leaves ⟦<D as Disk>⟧ (CutInScript (setting_of (generated_files lines seed) steps halts) d (Some generated_script)) disk.old disk.new }
-    ensures found { FoundAs result (Some generated_script) }
+        → Leaves ⟦<D as Disk>⟧ (CutInScript (setting_of (generated_files lines seed) steps halts) d (Some generated_script) (S.taken out.old) (S.taken out.new)) disk.old disk.new }
     ensures named { result ≢ usage_refused }
-    ensures untouched { UntouchedAt result (S.taken out.old) (S.taken out.new) }
-    ensures not_called { NotCalledAt result disk.old disk.new }
+    ensures idle { NeverBegins result → IsIdle disk.old disk.new (S.taken out.old) (S.taken out.new) }
     ensures sink { result ≡ sink_fault → Rose (S.faults out.old) (S.faults out.new) }
     ensures read { result ≢ read_fault }
     ensures fault { result ≡ disk_fault → Rose (D.faults disk.old) (D.faults disk.new) }
@@ -145,14 +143,13 @@ fn run_file<F: Files, S: Sink, D: Disk>(
     out: &mut S,
     disk: &mut D,
 ) -> Status
+    ensures begins { (there : LoadFiles) → F.content files.old ≡ Some there → ScriptBegins result (there name.now) disk.old disk.new (S.taken out.old) (S.taken out.new) }
     ensures ends { (there : LoadFiles) (d : Logical) → F.content files.old ≡ Some there → IsOpenable ⟦<D as Disk>⟧ disk.old d
-        → HeldEnds result ⟦<D as Disk>⟧ (setting_of there steps halts) d (there name.now) disk.new (S.taken out.old) (S.taken out.new) }
+        → ScriptEnds result ⟦<D as Disk>⟧ (setting_of there steps halts) d (there name.now) disk.old disk.new (S.taken out.old) (S.taken out.new) }
     ensures any_moment { (there : LoadFiles) (d : Logical) → F.content files.old ≡ Some there → IsOpenable ⟦<D as Disk>⟧ disk.old d → IsSettled ⟦<D as Disk>⟧ disk.old d
-        → Leaves ⟦<D as Disk>⟧ (CutInScript (setting_of there steps halts) d (there name.now)) disk.old disk.new }
-    ensures found { IfSome (F.content files.old) (λ there. FoundAs result (there name.now)) }
+        → Leaves ⟦<D as Disk>⟧ (CutInScript (setting_of there steps halts) d (there name.now) (S.taken out.old) (S.taken out.new)) disk.old disk.new }
     ensures named { result ≢ usage_refused }
-    ensures untouched { UntouchedAt result (S.taken out.old) (S.taken out.new) }
-    ensures not_called { NotCalledAt result disk.old disk.new }
+    ensures idle { NeverBegins result → IsIdle disk.old disk.new (S.taken out.old) (S.taken out.new) }
     ensures content { F.content files.new ≡ F.content files.old }
     ensures sink { result ≡ sink_fault → Rose (S.faults out.old) (S.faults out.new) }
     ensures read { result ≡ read_fault → Rose (F.faults files.old) (F.faults files.new) }

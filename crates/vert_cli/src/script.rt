@@ -1,7 +1,7 @@
 //! A script's statements, run in order.
 #![tactic(auto)]
 
-ghost use Rattle.std.specs.Prelude.{◌≡◌, ◌≤◌, ◌||◌, Bool, false, length, map, All, Some, IfOk, IsErrOf};
+ghost use Rattle.std.specs.Prelude.{◌≡◌, ◌≤◌, Bool, false, length, map, All, Some, IfOk, IsErrOf};
 ghost use Rattle.common_laws.specs.Causes.{Rose, HasCause};
 ghost use Rattle.col_disk.specs.Moved.{Leaves};
 ghost use Rattle.db_model.specs.Database.{Database as Logical};
@@ -12,9 +12,9 @@ ghost use Rattle.store_step.specs.Running.{IsState};
 ghost use Rattle.vert_cli.specs.declared.faults.RunFault.TheVariants.{Sink as sink_failed, Disk as disk_failed, Read as read_failed, Halted as halted};
 ghost use Rattle.vert_cli.specs.declared.faults.Status.TheVariants.{SinkFault as sink_fault, DiskFault as disk_fault, ReadFault as read_fault};
 ghost use Rattle.vert_cli.specs.Runs.{RanText, RanTexts, setting_of};
-ghost use Rattle.vert_cli.specs.Ends.{CutInRun, IsOpenable, IsRan, IsSettled, ManyAt, NotCalledAt, OpenedEnd, ServedEnd, UntouchedAt};
+ghost use Rattle.vert_cli.specs.Ends.{CutInRun, IsIdle, IsOpenable, IsSettled, NeverBegins, OpenedEnd, ScriptBegins, ScriptEnds};
 
-use crate::faults::{RunFault, Status, fault_of, status_of_run};
+use crate::faults::{RunFault, Status, either, fault_of, status_of_end};
 use crate::session::Session;
 use col_disk::Disk;
 use col_io::{Files, Sink};
@@ -35,13 +35,13 @@ pub(crate) fn run_script<F: Files, S: Sink, D: Disk>(
     out: &mut S,
     disk: &mut D,
 ) -> Status
+    requires { length script.now ≤ 67108864 }
+    ensures begins { ScriptBegins result (Some script.now) disk.old disk.new (S.taken out.old) (S.taken out.new) }
     ensures ends { (there : LoadFiles) (d : Logical) → F.content files.old ≡ Some there → IsOpenable ⟦<D as Disk>⟧ disk.old d
-        → ServedEnd result ⟦<D as Disk>⟧ (setting_of there steps halts) d script.now disk.new (S.taken out.old) (S.taken out.new) }
+        → ScriptEnds result ⟦<D as Disk>⟧ (setting_of there steps halts) d (Some script.now) disk.old disk.new (S.taken out.old) (S.taken out.new) }
     ensures any_moment { (there : LoadFiles) (d : Logical) → F.content files.old ≡ Some there → IsOpenable ⟦<D as Disk>⟧ disk.old d → IsSettled ⟦<D as Disk>⟧ disk.old d
-        → Leaves ⟦<D as Disk>⟧ (CutInRun (setting_of there steps halts) d (statement_texts script.now)) disk.old disk.new }
-    ensures too_many { ManyAt result script.now }
-    ensures untouched { UntouchedAt result (S.taken out.old) (S.taken out.new) }
-    ensures not_called { NotCalledAt result disk.old disk.new }
+        → Leaves ⟦<D as Disk>⟧ (CutInRun (setting_of there steps halts) d (statement_texts script.now) (S.taken out.old) (S.taken out.new)) disk.old disk.new }
+    ensures idle { NeverBegins result → IsIdle disk.old disk.new (S.taken out.old) (S.taken out.new) }
     ensures content { F.content files.new ≡ F.content files.old }
     ensures sink { result ≡ sink_fault → Rose (S.faults out.old) (S.faults out.new) }
     ensures read { result ≡ read_fault → Rose (F.faults files.old) (F.faults files.new) }
@@ -57,7 +57,7 @@ pub(crate) fn run_script<F: Files, S: Sink, D: Disk>(
     if spans.len() > MOST_STATEMENTS {
         return Status::TooLarge;
     }
-    run_opened(
+    status_of_end(run_opened(
         alloc,
         script,
         spans.as_slice(),
@@ -66,10 +66,11 @@ pub(crate) fn run_script<F: Files, S: Sink, D: Disk>(
         files,
         out,
         disk,
-    )
+    ))
 }
 
-// Runs the texts of these spans of a script over the tables of the folder, and then the end, where the run doesn't halt without it.
+// Runs the texts of these spans of a script over the tables of the folder, and then the end, where the run doesn't halt without it, and says
+// whether some text was refused.
 fn run_opened<F: Files, S: Sink, D: Disk>(
     alloc: Global,
     script: &[u8],
@@ -79,35 +80,34 @@ fn run_opened<F: Files, S: Sink, D: Disk>(
     files: &mut F,
     out: &mut S,
     disk: &mut D,
-) -> Status
+) -> Result<bool, RunFault>
     requires within { All (LiesWithin (length script.now)) spans.now }
     ensures ends { (there : LoadFiles) (d : Logical) → F.content files.old ≡ Some there → IsOpenable ⟦<D as Disk>⟧ disk.old d
-        → OpenedEnd result ⟦<D as Disk>⟧ (setting_of there steps halts) d (map (cut script.now) spans.now) disk.new (S.taken out.old) (S.taken out.new) }
+        → OpenedEnd result ⟦<D as Disk>⟧ (setting_of there steps halts) d (map (cut script.now) spans.now) disk.old disk.new (S.taken out.old) (S.taken out.new) }
     ensures any_moment { (there : LoadFiles) (d : Logical) → F.content files.old ≡ Some there → IsOpenable ⟦<D as Disk>⟧ disk.old d → IsSettled ⟦<D as Disk>⟧ disk.old d
-        → Leaves ⟦<D as Disk>⟧ (CutInRun (setting_of there steps halts) d (map (cut script.now) spans.now)) disk.old disk.new }
-    ensures ran { IsRan result }
+        → Leaves ⟦<D as Disk>⟧ (CutInRun (setting_of there steps halts) d (map (cut script.now) spans.now) (S.taken out.old) (S.taken out.new)) disk.old disk.new }
     ensures content { F.content files.new ≡ F.content files.old }
-    ensures sink { result ≡ sink_fault → Rose (S.faults out.old) (S.faults out.new) }
-    ensures read { result ≡ read_fault → Rose (F.faults files.old) (F.faults files.new) }
-    ensures fault { result ≡ disk_fault → Rose (D.faults disk.old) (D.faults disk.new) }
+    ensures sink { IsErrOf result sink_failed → Rose (S.faults out.old) (S.faults out.new) }
+    ensures read { IsErrOf result read_failed → Rose (F.faults files.old) (F.faults files.new) }
+    ensures cause { HasCause disk_failed (D.faults disk.old) (D.faults disk.new) result }
     ensures later { S.faults out.old ≤ S.faults out.new }
     ensures files_later { F.faults files.old ≤ F.faults files.new }
-    ensures disk_later { D.faults disk.old ≤ D.faults disk.new }
+    ensures not_halted { IsErrOf result halted → ⊥ }
 {
     let mut session = match Session::open(alloc, disk) {
         Ok(session) => session,
-        Err(fault) => return fault_of(fault).status(),
+        Err(fault) => return Err(fault_of(fault)),
     };
     let refused = match run_spans(alloc, &mut session, script, spans, steps, files, out, disk) {
         Ok(refused) => refused,
-        Err(fault) => return fault.status(),
+        Err(fault) => return Err(fault),
     };
     if halts {
-        return status_of_run(refused);
+        return Ok(refused);
     }
     match session.close(alloc, disk) {
-        Ok(()) => status_of_run(refused),
-        Err(fault) => fault_of(fault).status(),
+        Ok(()) => Ok(refused),
+        Err(fault) => Err(fault_of(fault)),
     }
 }
 
@@ -151,13 +151,6 @@ fn run_spans<F: Files, S: Sink, D: Disk>(
         }
     }
     Ok(refused)
-}
-
-// One or the other.
-fn either(one: bool, other: bool) -> bool
-    ensures { result ≡ (one || other) }
-{
-    one || other
 }
 
 // Runs one statement text with the mover's steps behind it, and says whether it was refused.

@@ -1,7 +1,7 @@
 //! A session: a running store that statements are run on, one after the other.
 #![tactic(auto)]
 
-ghost use Rattle.std.specs.Prelude.{◌≡◌, ◌≤◌, ℕ, Some, false, true, IfOk, IfErr, OnOk, IsErrOf};
+ghost use Rattle.std.specs.Prelude.{◌≡◌, ◌≤◌, ◌||◌, ℕ, Some, false, true, IfOk, IfErr, OnOk, IsErrOf};
 ghost use Rattle.common_laws.specs.Causes.{Rose, HasCause};
 ghost use Rattle.common_laws.specs.Maps.{Contents};
 ghost use Rattle.col_disk.specs.Moved.{ImageOf, Leaves};
@@ -10,14 +10,14 @@ ghost use Rattle.db_model.specs.Database.{Database as Logical};
 ghost use Rattle.db_model.specs.Loading.{Files as LoadFiles};
 ghost use Rattle.db_model.specs.State.{State, opened_with};
 ghost use Rattle.folder_model.specs.Reopening.{Reopens};
-ghost use Rattle.store_step.specs.Opening.{BlamesOpening};
+ghost use Rattle.store_step.specs.Opening.{BlamesOpening, IsStartOf};
 ghost use Rattle.store_step.specs.Running.{Running, IsState};
-ghost use Rattle.col_disk.specs.Faults.{IsUnblamed as IsUnblamedStore};
 ghost use Rattle.store_step.specs.Steps.{Ends};
 ghost use Rattle.vert_cli.specs.declared.faults.RunFault.TheVariants.{Sink as sink_failed, Disk as stopped, Read as read_failed, Halted as halted};
-ghost use Rattle.vert_cli.specs.Statements.{Executed, IsOfMover, MovedOn};
+ghost use Rattle.vert_cli.specs.Sessions.{halts_by, is_of_disk};
+ghost use Rattle.vert_cli.specs.Statements.{Executed, MovedOn, in_run};
 
-use crate::faults::{Outcome, RunFault, fault_of, fault_of_step};
+use crate::faults::{Outcome, RunFault, either, fault_of, fault_of_step};
 use col_disk::{Disk, StoreFault};
 use col_io::{Files, Sink, SinkFault, write_all};
 use std::alloc::Global;
@@ -45,7 +45,7 @@ impl Session {
     /// opening: the body of the greatest open gate, a listed file that is absent or not what it has to be, or a data file where no gate is
     /// open.
     pub fn open<D: Disk>(alloc: Global, disk: &mut D) -> Result<Session, StoreFault>
-        ensures opened { IfOk result (λ s. (m : Contents) (d : Logical) → D.holds disk.old ≡ Some m → Reopens m d → (next : ℕ) × (parts : ℕ) × IsState ⟦<D as Disk>⟧ s.running disk.new (opened_with next parts d)) }
+        ensures opened { IfOk result (λ s. (m : Contents) (d : Logical) → D.holds disk.old ≡ Some m → Reopens m d → (next : ℕ) × (parts : ℕ) × IsStartOf m next parts × IsState ⟦<D as Disk>⟧ s.running disk.new (opened_with next parts d)) }
         ensures live { IfOk result (λ s. s.halted ≡ false) }
         ensures any_moment { (m : Contents) (d : Logical) → D.holds disk.old ≡ Some m → ((x : Contents) → ImageOf ⟦<D as Disk>⟧ disk.old x → Reopens x d) → Leaves ⟦<D as Disk>⟧ (λ x. Reopens x d) disk.old disk.new }
         ensures blamed { IfErr result (BlamesOpening (D.holds disk.old)) }
@@ -64,10 +64,9 @@ impl Session {
     fn note(&mut self, fault: RunFault) -> RunFault
         ensures same { result ≡ fault }
         ensures running { self.new.running ≡ self.old.running }
+        ensures flag { self.new.halted ≡ (self.old.halted || is_of_disk result) }
     {
-        if fault == RunFault::Disk {
-            self.halted = true;
-        }
+        self.halted = either(self.halted, fault.is_of_disk());
         fault
     }
 
@@ -76,8 +75,9 @@ impl Session {
     /// The whole printed text is made first and written afterwards. After `Ok` the sink took exactly the text, and the refusal in the
     /// outcome is the statement's. After `Sink` the statement has taken effect, and a front of its text was taken; the sink's count of
     /// faults rose. After `Memory` nothing was taken and nothing changed, but for moveouts that were done; or the sink was short of memory,
-    /// and the statement has taken effect. Whatever a crash leaves at any moment reopens to the tables before or after the statement. Once
-    /// the disk has failed, `Halted` is answered and nothing is called.
+    /// and the statement has taken effect. After `Read` the statement is a COPY, nothing was taken and nothing changed. Whatever a crash leaves
+    /// at any moment reopens to the tables before or after the statement. `Disk`, and no other answer, halts the session: from then on
+    /// `Halted` is answered and nothing is called.
     pub fn execute<F: Files, S: Sink, D: Disk>(
         &mut self,
         alloc: Global,
@@ -88,6 +88,7 @@ impl Session {
     ) -> Result<Outcome, RunFault>
         ensures executed { (there : LoadFiles) (state : State) → F.content files.old ≡ Some there → self.old.halted ≡ false → IsState ⟦<D as Disk>⟧ self.old.running disk.old state
             → Executed ⟦<D as Disk>⟧ there text.now self.new.running disk.old disk.new result state (S.taken out.old) (S.taken out.new) }
+        ensures flag { self.new.halted ≡ (self.old.halted || halts_by result) }
         ensures live { IfOk result (λ outcome. self.new.halted ≡ false) }
         ensures content { F.content files.new ≡ F.content files.old }
         ensures sink { IsErrOf result sink_failed → Rose (S.faults out.old) (S.faults out.new) }
@@ -96,7 +97,7 @@ impl Session {
         ensures later { S.faults out.old ≤ S.faults out.new }
         ensures files_later { F.faults files.old ≤ F.faults files.new }
         ensures only_halted { IsErrOf result halted → self.old.halted ≡ true }
-        ensures always_halted { self.old.halted ≡ true → IsErrOf result halted × (self.new ≡ self.old) × (disk.new ≡ disk.old) × (out.new ≡ out.old) }
+        ensures always_halted { self.old.halted ≡ true → IsErrOf result halted × (self.new ≡ self.old) × (files.new ≡ files.old) × (disk.new ≡ disk.old) × (out.new ≡ out.old) }
     {
         if self.halted {
             return Err(RunFault::Halted);
@@ -112,14 +113,16 @@ impl Session {
         }
     }
 
-    /// So many steps of the mover. Once the disk has failed, `Halted` is answered and nothing is called.
+    /// So many steps of the mover. After `Memory` some of them were made. `Disk`, and no other answer, halts the session: from then on
+    /// `Halted` is answered and nothing is called.
     pub fn move_on<D: Disk>(
         &mut self,
         alloc: Global,
         steps: u32,
         disk: &mut D,
     ) -> Result<(), RunFault>
-        ensures moved { (state : State) → self.old.halted ≡ false → IsState ⟦<D as Disk>⟧ self.old.running disk.old state → MovedOn ⟦<D as Disk>⟧ steps self.new.running disk.old disk.new result IsOfMover state }
+        ensures moved { (state : State) → self.old.halted ≡ false → IsState ⟦<D as Disk>⟧ self.old.running disk.old state → MovedOn ⟦<D as Disk>⟧ steps self.new.running disk.old disk.new result state }
+        ensures flag { self.new.halted ≡ (self.old.halted || halts_by result) }
         ensures live { OnOk result (self.new.halted ≡ false) }
         ensures no_sink { IsErrOf result sink_failed → ⊥ }
         ensures no_read { IsErrOf result read_failed → ⊥ }
@@ -137,7 +140,8 @@ impl Session {
     }
 
     /// The end of a script: what waits for COMMIT in any session is dropped, and all tables go to disk, up to a moveout that would draw
-    /// where the numbers of files are spent. Whatever a crash leaves at any moment reopens to the same tables.
+    /// where the numbers of files are spent. After `Memory` no table changed, but for moveouts that were done. Whatever a crash leaves at any
+    /// moment reopens to the same tables.
     pub fn close<D: Disk>(self, alloc: Global, disk: &mut D) -> Result<(), StoreFault>
         ensures ends { (state : State) → IsState ⟦<D as Disk>⟧ self.running disk.old state → (is : Running) × Ends ⟦<D as Disk>⟧ is disk.old disk.new result state }
         ensures cause { HasCause disk_failed (D.faults disk.old) (D.faults disk.new) result }
@@ -154,7 +158,7 @@ fn move_steps<D: Disk>(
     steps: u32,
     disk: &mut D,
 ) -> Result<(), StoreFault>
-    ensures moved { (state : State) → IsState ⟦<D as Disk>⟧ store.old disk.old state → MovedOn ⟦<D as Disk>⟧ steps store.new disk.old disk.new result IsUnblamedStore state }
+    ensures moved { (state : State) → IsState ⟦<D as Disk>⟧ store.old disk.old state → MovedOn ⟦<D as Disk>⟧ steps store.new disk.old disk.new (in_run result) state }
     ensures cause { HasCause disk_failed (D.faults disk.old) (D.faults disk.new) result }
 {
     for _ in 0..steps {

@@ -54,7 +54,7 @@ returns-in-Ok-TooLong-clause-steps g c = λ text there state spelled told here.
 
 pub returns-in-Err-Failed-clause-steps : goal.returns-in-Err-Failed-clause-steps
 returns-in-Err-Failed-clause-steps g c = λ text there state spelled told here.
-    failed_steps g.D.Disk there text c.args.store.now c.args.disk.now state here (c.every_image_reopens.ensures c.args.store.now.seen.catalogue c.args.store.now.seen.stores c.args.disk.now state.database here.database)
+    failed_steps g.D.Disk there text c.args.table.now c.args.file.now c.args.store.now c.args.disk.now state spelled here (c.every_image_reopens.ensures c.args.store.now.seen.catalogue c.args.store.now.seen.stores c.args.disk.now state.database here.database)
 
 pub returns-in-Err-Memory-clause-steps : goal.returns-in-Err-Memory-clause-steps
 returns-in-Err-Memory-clause-steps g c = λ text there state spelled told here.

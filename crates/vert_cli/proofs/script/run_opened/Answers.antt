@@ -1,10 +1,11 @@
-use Rattle.std.proofs.Common.{◌∙◌, map, sym, ap, subst}
+use Rattle.std.proofs.Common.{map, sym, subst}
+use Rattle.std.specs.Prelude.{Result, Err, Bool}
 use Rattle.db_model.specs.State.{opened_with}
 use Rattle.sql_words.specs.Texts.{cut}
-use Rattle.vert_cli.specs.declared.faults.Status.{Status}
+use Rattle.vert_cli.specs.declared.faults.RunFault.{RunFault}
 use Rattle.vert_cli.specs.Runs.{setting_of}
-use Rattle.vert_cli.specs.Ends.{status_of, OpenedEnd}
-use Rattle.vert_cli.proofs.Ending.{not_opened, texts_stopped, texts_halted, texts_ended, end_failed, opening_leaves, texts_leave, end_leaves}
+use Rattle.vert_cli.specs.Ends.{OpenedEnd}
+use Rattle.vert_cli.proofs.Ending.{starts_with, not_opened, texts_stopped, texts_halted, texts_ended, end_failed, opening_leaves, texts_leave, end_leaves}
 use Rattle.vert_cli.proofs.script.run_opened.Goals as goal
 
 pub returns-in-Err-clause-ends : goal.returns-in-Err-clause-ends
@@ -12,70 +13,54 @@ returns-in-Err-clause-ends g c = λ there d content openable.
     let setting = setting_of there c.args.steps c.args.halts in
     let texts = map (cut c.args.script.now) c.args.spans.now in
     let told = g.S.Sink.taken c.args.out.now in
-    subst (λ (s : Status). OpenedEnd s g.D.Disk setting d texts c.open.new.disk told told) (sym (c.status.ensures ∙ ap status_of c.fault_of.ensures))
-    (not_opened g.D.Disk setting d texts c.args.disk.now c.open.new.disk c.in-Err.fault told openable c.in-Err.ensures.blamed)
+    subst (λ (fault : RunFault). OpenedEnd (Err fault) g.D.Disk setting d texts c.args.disk.now c.open.new.disk told told) (sym c.fault_of.ensures)
+    (not_opened g.D.Disk setting d texts c.args.disk.now c.open.new.disk c.in-Err.fault told openable c.in-Err.ensures.blamed (λ settled. c.in-Err.ensures.any_moment openable.files d openable.told settled))
 
 pub returns-in-Err-clause-any_moment : goal.returns-in-Err-clause-any_moment
 returns-in-Err-clause-any_moment g c = λ there d content openable images.
-    opening_leaves g.D.Disk (setting_of there c.args.steps c.args.halts) d (map (cut c.args.script.now) c.args.spans.now) c.args.disk.now c.open.new.disk
+    opening_leaves g.D.Disk (setting_of there c.args.steps c.args.halts) d (map (cut c.args.script.now) c.args.spans.now) c.args.disk.now c.open.new.disk (g.S.Sink.taken c.args.out.now) (g.S.Sink.taken c.args.out.now)
     (c.in-Err.ensures.any_moment openable.files d openable.told images)
 
 pub returns-in-Err-run_spans-clause-ends : goal.returns-in-Err-run_spans-clause-ends
 returns-in-Err-run_spans-clause-ends g c = λ there d content openable.
-    let setting = setting_of there c.args.steps c.args.halts in
-    let texts = map (cut c.args.script.now) c.args.spans.now in
-    let before = g.S.Sink.taken c.args.out.now in
-    let after = g.S.Sink.taken c.run_spans.new.out in
     let start = c.in-Ok.ensures.opened openable.files d openable.told openable.reopens in
-    subst (λ (s : Status). OpenedEnd s g.D.Disk setting d texts c.run_spans.new.disk before after) (sym c.status-in-Err-run_spans.ensures)
-    (texts_stopped g.D.Disk setting d texts start.0 start.1 c.run_spans.new.session.running c.open.new.disk c.run_spans.new.disk c.in-Err-run_spans.fault before after
-    (c.in-Err-run_spans.ensures.ran there (opened_with start.0 start.1 d) c.args.halts content start.2))
+    texts_stopped g.D.Disk (setting_of there c.args.steps c.args.halts) d (map (cut c.args.script.now) c.args.spans.now) start.0 start.1 c.run_spans.new.session.running c.args.disk.now c.open.new.disk c.run_spans.new.disk c.in-Err-run_spans.fault
+    (g.S.Sink.taken c.args.out.now) (g.S.Sink.taken c.run_spans.new.out)
+    (starts_with g.D.Disk openable.files c.args.disk.now start.0 start.1 openable.told start.2) (c.in-Err-run_spans.ensures.ran there (opened_with start.0 start.1 d) c.args.halts content start.3)
 
 pub returns-in-Err-run_spans-clause-any_moment : goal.returns-in-Err-run_spans-clause-any_moment
 returns-in-Err-run_spans-clause-any_moment g c = λ there d content openable images.
-    let setting = setting_of there c.args.steps c.args.halts in
-    let texts = map (cut c.args.script.now) c.args.spans.now in
     let start = c.in-Ok.ensures.opened openable.files d openable.told openable.reopens in
-    let ran = c.in-Err-run_spans.ensures.ran there (opened_with start.0 start.1 d) c.args.halts content start.2 in
-    texts_leave g.D.Disk setting d texts start.0 start.1 c.args.disk.now c.open.new.disk c.run_spans.new.disk (c.in-Ok.ensures.any_moment openable.files d openable.told images) ran.any_moment
+    let ran = c.in-Err-run_spans.ensures.ran there (opened_with start.0 start.1 d) c.args.halts content start.3 in
+    texts_leave g.D.Disk (setting_of there c.args.steps c.args.halts) d (map (cut c.args.script.now) c.args.spans.now) start.0 start.1 c.args.disk.now c.open.new.disk c.run_spans.new.disk (g.S.Sink.taken c.args.out.now) (g.S.Sink.taken c.run_spans.new.out)
+    (c.in-Ok.ensures.any_moment openable.files d openable.told images) ran.any_moment
 
 pub returns-then-halts-clause-ends : goal.returns-then-halts-clause-ends
 returns-then-halts-clause-ends g c = λ there d content openable.
-    let setting = setting_of there c.args.steps c.args.halts in
-    let texts = map (cut c.args.script.now) c.args.spans.now in
-    let before = g.S.Sink.taken c.args.out.now in
-    let after = g.S.Sink.taken c.run_spans.new.out in
     let start = c.in-Ok.ensures.opened openable.files d openable.told openable.reopens in
-    subst (λ (s : Status). OpenedEnd s g.D.Disk setting d texts c.run_spans.new.disk before after) (sym c.status_of_run.ensures)
-    (texts_halted g.D.Disk there c.args.steps c.args.halts d texts start.0 start.1 c.run_spans.new.session.running c.open.new.disk c.run_spans.new.disk c.in-Ok-run_spans.refused before after c.if-halts.true
-    (c.in-Ok-run_spans.ensures.ran there (opened_with start.0 start.1 d) c.args.halts content start.2))
+    texts_halted g.D.Disk there c.args.steps c.args.halts d (map (cut c.args.script.now) c.args.spans.now) start.0 start.1 c.run_spans.new.session.running c.args.disk.now c.open.new.disk c.run_spans.new.disk c.in-Ok-run_spans.refused
+    (g.S.Sink.taken c.args.out.now) (g.S.Sink.taken c.run_spans.new.out) (starts_with g.D.Disk openable.files c.args.disk.now start.0 start.1 openable.told start.2) c.if-halts.true (c.in-Ok-run_spans.ensures.ran there (opened_with start.0 start.1 d) c.args.halts content start.3)
 
 pub returns-then-halts-clause-any_moment : goal.returns-then-halts-clause-any_moment
 returns-then-halts-clause-any_moment g c = λ there d content openable images.
-    let setting = setting_of there c.args.steps c.args.halts in
-    let texts = map (cut c.args.script.now) c.args.spans.now in
     let start = c.in-Ok.ensures.opened openable.files d openable.told openable.reopens in
-    let ran = c.in-Ok-run_spans.ensures.ran there (opened_with start.0 start.1 d) c.args.halts content start.2 in
-    texts_leave g.D.Disk setting d texts start.0 start.1 c.args.disk.now c.open.new.disk c.run_spans.new.disk (c.in-Ok.ensures.any_moment openable.files d openable.told images) ran.any_moment
+    let ran = c.in-Ok-run_spans.ensures.ran there (opened_with start.0 start.1 d) c.args.halts content start.3 in
+    texts_leave g.D.Disk (setting_of there c.args.steps c.args.halts) d (map (cut c.args.script.now) c.args.spans.now) start.0 start.1 c.args.disk.now c.open.new.disk c.run_spans.new.disk (g.S.Sink.taken c.args.out.now) (g.S.Sink.taken c.run_spans.new.out)
+    (c.in-Ok.ensures.any_moment openable.files d openable.told images) ran.any_moment
 
 pub returns-in-Ok-close-clause-ends : goal.returns-in-Ok-close-clause-ends
 returns-in-Ok-close-clause-ends g c = λ there d content openable.
-    let setting = setting_of there c.args.steps c.args.halts in
-    let texts = map (cut c.args.script.now) c.args.spans.now in
-    let before = g.S.Sink.taken c.args.out.now in
-    let after = g.S.Sink.taken c.run_spans.new.out in
     let start = c.in-Ok.ensures.opened openable.files d openable.told openable.reopens in
-    subst (λ (s : Status). OpenedEnd s g.D.Disk setting d texts c.close.new.disk before after) (sym c.status_of_run-in-Ok-close.ensures)
-    (texts_ended g.D.Disk there c.args.steps c.args.halts d texts start.0 start.1 c.run_spans.new.session.running c.open.new.disk c.run_spans.new.disk c.close.new.disk c.in-Ok-run_spans.refused c.in-Ok-close.field-0 before after c.if-halts.false
-    (c.in-Ok-run_spans.ensures.ran there (opened_with start.0 start.1 d) c.args.halts content start.2) (λ state here. c.in-Ok-close.ensures.ends state here))
+    texts_ended g.D.Disk there c.args.steps c.args.halts d (map (cut c.args.script.now) c.args.spans.now) start.0 start.1 c.run_spans.new.session.running c.args.disk.now c.open.new.disk c.run_spans.new.disk c.close.new.disk c.in-Ok-run_spans.refused
+    c.in-Ok-close.field-0 (g.S.Sink.taken c.args.out.now) (g.S.Sink.taken c.run_spans.new.out) (starts_with g.D.Disk openable.files c.args.disk.now start.0 start.1 openable.told start.2) c.if-halts.false
+    (c.in-Ok-run_spans.ensures.ran there (opened_with start.0 start.1 d) c.args.halts content start.3) (λ state here. c.in-Ok-close.ensures.ends state here)
 
 pub returns-in-Ok-close-clause-any_moment : goal.returns-in-Ok-close-clause-any_moment
 returns-in-Ok-close-clause-any_moment g c = λ there d content openable images.
-    let texts = map (cut c.args.script.now) c.args.spans.now in
     let start = c.in-Ok.ensures.opened openable.files d openable.told openable.reopens in
-    end_leaves g.D.Disk there c.args.steps c.args.halts d texts start.0 start.1 c.run_spans.new.session.running c.args.disk.now c.open.new.disk c.run_spans.new.disk c.close.new.disk c.in-Ok-run_spans.refused _ (g.S.Sink.taken c.args.out.now)
-    (g.S.Sink.taken c.run_spans.new.out) c.if-halts.false (c.in-Ok.ensures.any_moment openable.files d openable.told images)
-    (c.in-Ok-run_spans.ensures.ran there (opened_with start.0 start.1 d) c.args.halts content start.2) (λ state here. c.in-Ok-close.ensures.ends state here)
+    end_leaves g.D.Disk there c.args.steps c.args.halts d (map (cut c.args.script.now) c.args.spans.now) start.0 start.1 c.run_spans.new.session.running c.args.disk.now c.open.new.disk c.run_spans.new.disk c.close.new.disk c.in-Ok-run_spans.refused _
+    (g.S.Sink.taken c.args.out.now) (g.S.Sink.taken c.run_spans.new.out) c.if-halts.false (c.in-Ok.ensures.any_moment openable.files d openable.told images)
+    (c.in-Ok-run_spans.ensures.ran there (opened_with start.0 start.1 d) c.args.halts content start.3) (λ state here. c.in-Ok-close.ensures.ends state here)
 
 pub returns-in-Err-close-clause-ends : goal.returns-in-Err-close-clause-ends
 returns-in-Err-close-clause-ends g c = λ there d content openable.
@@ -84,14 +69,13 @@ returns-in-Err-close-clause-ends g c = λ there d content openable.
     let before = g.S.Sink.taken c.args.out.now in
     let after = g.S.Sink.taken c.run_spans.new.out in
     let start = c.in-Ok.ensures.opened openable.files d openable.told openable.reopens in
-    subst (λ (s : Status). OpenedEnd s g.D.Disk setting d texts c.close.new.disk before after) (sym (c.status-in-Err-close.ensures ∙ ap status_of c.fault_of-in-Err-close.ensures))
-    (end_failed g.D.Disk setting d texts start.0 start.1 c.run_spans.new.session.running c.open.new.disk c.run_spans.new.disk c.close.new.disk c.in-Ok-run_spans.refused c.in-Err-close.fault before after
-    (c.in-Ok-run_spans.ensures.ran there (opened_with start.0 start.1 d) c.args.halts content start.2) (λ state here. c.in-Err-close.ensures.ends state here))
+    subst (λ (fault : RunFault). OpenedEnd (Err fault) g.D.Disk setting d texts c.args.disk.now c.close.new.disk before after) (sym c.fault_of-in-Err-close.ensures)
+    (end_failed g.D.Disk there c.args.steps c.args.halts d texts start.0 start.1 c.run_spans.new.session.running c.args.disk.now c.open.new.disk c.run_spans.new.disk c.close.new.disk c.in-Ok-run_spans.refused c.in-Err-close.fault before after (starts_with g.D.Disk openable.files c.args.disk.now start.0 start.1 openable.told start.2) c.if-halts.false
+    (c.in-Ok-run_spans.ensures.ran there (opened_with start.0 start.1 d) c.args.halts content start.3) (λ state here. c.in-Err-close.ensures.ends state here))
 
 pub returns-in-Err-close-clause-any_moment : goal.returns-in-Err-close-clause-any_moment
 returns-in-Err-close-clause-any_moment g c = λ there d content openable images.
-    let texts = map (cut c.args.script.now) c.args.spans.now in
     let start = c.in-Ok.ensures.opened openable.files d openable.told openable.reopens in
-    end_leaves g.D.Disk there c.args.steps c.args.halts d texts start.0 start.1 c.run_spans.new.session.running c.args.disk.now c.open.new.disk c.run_spans.new.disk c.close.new.disk c.in-Ok-run_spans.refused _ (g.S.Sink.taken c.args.out.now)
-    (g.S.Sink.taken c.run_spans.new.out) c.if-halts.false (c.in-Ok.ensures.any_moment openable.files d openable.told images)
-    (c.in-Ok-run_spans.ensures.ran there (opened_with start.0 start.1 d) c.args.halts content start.2) (λ state here. c.in-Err-close.ensures.ends state here)
+    end_leaves g.D.Disk there c.args.steps c.args.halts d (map (cut c.args.script.now) c.args.spans.now) start.0 start.1 c.run_spans.new.session.running c.args.disk.now c.open.new.disk c.run_spans.new.disk c.close.new.disk c.in-Ok-run_spans.refused _
+    (g.S.Sink.taken c.args.out.now) (g.S.Sink.taken c.run_spans.new.out) c.if-halts.false (c.in-Ok.ensures.any_moment openable.files d openable.told images)
+    (c.in-Ok-run_spans.ensures.ran there (opened_with start.0 start.1 d) c.args.halts content start.3) (λ state here. c.in-Err-close.ensures.ends state here)
