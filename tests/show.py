@@ -5,8 +5,9 @@
 
 Over the folders that the scripts of examples/ and tests/ leave, with and without steps of the mover and the end, and over odd ones made here:
 nothing is told damaged, the rows decoded are those that the program prints, files are written as FORMATS.md says, and a dump loads again to the
-same schema and rows. Over small folders with each byte changed, and each file cut or removed: vert-show ends well, tells a damage wherever the
-program ends with status 6, and where it tells none the program prints the rows decoded. The last line is 'N passed, M failed'.
+same schema and rows. Where the program was killed nothing is told damaged, and the rows decoded are those that it reopens to. Over small folders
+with each byte changed, and each file cut or removed: vert-show ends well, tells a damage wherever the program ends with status 6, and where it
+tells none the program prints the rows decoded. The last line is 'N passed, M failed'.
 """
 import contextlib
 import glob
@@ -19,12 +20,14 @@ import shutil
 import subprocess
 import sys
 import tempfile
+import time
 
 TOP = os.path.dirname(os.path.dirname(os.path.abspath(__file__)))
 SHOW = os.path.join(TOP, 'bin/vert-show')
 sys.dont_write_bytecode = True
 sys.path.insert(0, os.path.join(TOP, 'tools'))
 import block_cases  # noqa: E402
+import folders  # noqa: E402
 from huddwerys_folder import dump, look, schema  # noqa: E402
 from huddwerys_folder.blocks import DeleteVector, PositionIndex, block_values  # noqa: E402
 from huddwerys_folder.catalogue import Container  # noqa: E402
@@ -408,6 +411,35 @@ def small_limits(work):
         is_same(f'{name}: the rows', run(place, asking_all(seen)), run(new, asking_all(seen)))
 
 
+def killed_folders(work):
+    """What a program that was killed leaves is no damage, and decoded to what the next one opens to."""
+    dice, place, copy, longest, killed = random.Random(4), os.path.join(work, 'd'), os.path.join(work, 'copy'), 1.0, 0
+    shutil.rmtree(place, ignore_errors=True)
+    kept = folders.Folder(PROGRAM, place)
+    kept.begin()
+    for turn in range(60):
+        epoch, rows = kept.now()
+        kept.commits = {epoch: rows}
+        lines, _ = kept.transactions(dice, epoch + 1, 20)
+        kept.say(lines)
+        start, child = time.monotonic(), subprocess.Popen([PROGRAM, place, kept.script], stdout=subprocess.PIPE)
+        try:
+            text, _ = child.communicate(timeout=dice.random() * longest)
+            longest = max(1.5 * (time.monotonic() - start), 0.01)
+        except subprocess.TimeoutExpired:
+            child.kill()
+            text, _ = child.communicate()
+            killed += 1
+        kept.tables += folders.announced(text.decode())[1]
+        seen = look.Look(Folder(place))
+        seen.check()
+        holds(f'killed folder {turn}: the verdict', seen.is_well(), list(map(str, seen.damages.values())), seen.breaches)
+        shutil.rmtree(copy, ignore_errors=True)
+        shutil.copytree(place, copy)
+        is_same(f'killed folder {turn}: its rows', (0, all_decoded(seen)), run(copy, asking_all(seen)))
+    holds('some were killed', killed > 10, killed)
+
+
 # ---- damaged folders
 
 SMALL = [
@@ -568,7 +600,7 @@ def words(work):
 def main():
     # in memory where that can be, since each run syncs what it finds
     with tempfile.TemporaryDirectory(dir='/dev/shm' if os.access('/dev/shm', os.W_OK) else None) as work:
-        for part in (example, words, pieces, scripts, odd_folders, random_schemas, small_limits, damaged_folders):
+        for part in (example, words, pieces, scripts, odd_folders, random_schemas, small_limits, killed_folders, damaged_folders):
             if part.__name__ not in (sys.argv[2:] or [part.__name__]):
                 continue
             part(work)
