@@ -6,8 +6,8 @@
 Over the folders that the scripts of examples/ and tests/ leave, with and without steps of the mover and the end, and over odd ones made here:
 nothing is told damaged, the rows decoded are those that the program prints, files are written as FORMATS.md says, and a dump loads again to the
 same schema and rows. Where the program was killed nothing is told damaged, and the rows decoded are those that it reopens to. Over small folders
-with each byte changed, and each file cut or removed: vert-show ends well, tells a damage wherever the program ends with status 6, and where it
-tells none the program prints the rows decoded. The last line is 'N passed, M failed'.
+with each byte changed, and each file cut or removed: vert-show ends well, tells a damage wherever the program ends with status 6 (over one of
+which each file is read exactly there), and where it tells none the program prints the rows decoded. The last line is 'N passed, M failed'.
 """
 import contextlib
 import glob
@@ -455,6 +455,12 @@ SMALL = [
 ]
 
 
+READ = '''
+    CREATE TABLE t (a INTEGER, s VARCHAR(9)); INSERT INTO t VALUES (2, 'x'), (1, NULL), (70, 'b'); COMMIT;
+    INSERT INTO t VALUES (3, 'c'), (4, 'x'), (NULL, 'y'); COMMIT; SELECT DO_TM_TASK('moveout'); DELETE FROM t WHERE a = 1; COMMIT;
+'''
+
+
 def changes(files):
     """Other contents: each byte changed in three ways, each file removed, emptied, cut and lengthened."""
     for name, data in sorted(files.items(), key=lambda it: int(it[0])):
@@ -470,27 +476,51 @@ def changes(files):
         yield f'{a} and {b} swapped', {a: files[b], b: files[a]}
 
 
+def changed_folders(place, script):
+    """The folder of a script before and behind each change: what was changed, in turn."""
+    shutil.rmtree(place, ignore_errors=True)
+    is_same('a small folder', 0, run(place, script)[0])
+    files = {name: open(os.path.join(place, name), 'rb').read() for name in os.listdir(place)}
+    for what, changed in changes(files):
+        for name, data in changed.items():
+            path = os.path.join(place, name)
+            if data is None:
+                os.remove(path)
+            else:
+                open(path, 'wb').write(data)
+        yield what
+        for name in changed:
+            open(os.path.join(place, name), 'wb').write(files[name])
+
+
 def damaged_folders(work):
     place, out, copy = (os.path.join(work, it) for it in ('d', 'out', 'copy'))
     for number, script in enumerate(SMALL):
         shutil.rmtree(place, ignore_errors=True)
-        is_same('a small folder', 0, run(place, script)[0])
-        files = {name: open(os.path.join(place, name), 'rb').read() for name in os.listdir(place)}
+        run(place, script)
         whole = look.Look(Folder(place))
-        for turn, (what, changed) in enumerate(changes(files)):
-            for name, data in changed.items():
-                path = os.path.join(place, name)
-                if data is None:
-                    os.remove(path)
-                else:
-                    open(path, 'wb').write(data)
+        for turn, what in enumerate(changed_folders(place, script)):
             damaged_folder(f'small folder {number}, {what}', whole, place, copy, out)
             if turn % 50 == 0:
                 status, _, told = shown(place, '--check')
                 is_well = 'Traceback' not in told and (status, bool(told)) in ((0, False), (6, True))
                 holds(f'small folder {number}, {what}: as a program', is_well, status, told)
-            for name in changed:
-                open(os.path.join(place, name), 'wb').write(files[name])
+
+
+def files_that_are_read(work):
+    """Of a folder of which each file is read it tells a damage exactly where the program ends with status 6, values of other types aside."""
+    place, copy = os.path.join(work, 'd'), os.path.join(work, 'copy')
+    for what in changed_folders(place, READ):
+        seen = look.Look(Folder(place))
+        if seen.catalogue:
+            seen.check()
+        shutil.rmtree(copy, ignore_errors=True)
+        shutil.copytree(place, copy)
+        names = [table.name for table in seen.catalogue.tables] if seen.catalogue else ['t']
+        status, _ = run(copy, ''.join(f'SELECT * FROM {name}; AT EPOCH 1 SELECT * FROM {name};' for name in names))
+        told = [damage.reason for damage in seen.damages.values()] + seen.breaches
+        is_of_types = told and all(re.search('NOT NULL|of type|octets$', why) for why in told)
+        holds(f'{what}: told by both or neither', (status == 6) == bool(told) or is_of_types, status, told)
 
 
 def damaged_folder(what, whole, place, copy, out):
@@ -600,7 +630,7 @@ def words(work):
 def main():
     # in memory where that can be, since each run syncs what it finds
     with tempfile.TemporaryDirectory(dir='/dev/shm' if os.access('/dev/shm', os.W_OK) else None) as work:
-        for part in (example, words, pieces, scripts, odd_folders, random_schemas, small_limits, killed_folders, damaged_folders):
+        for part in (example, words, pieces, scripts, odd_folders, random_schemas, small_limits, killed_folders, damaged_folders, files_that_are_read):
             if part.__name__ not in (sys.argv[2:] or [part.__name__]):
                 continue
             part(work)
