@@ -3,10 +3,11 @@
 
     tests/show.py [PROGRAM [PART ..]]      default: crates/vert/out/vert, and all parts: example words scripts odd_folders ..
 
-Over the folders that the scripts of examples/ and tests/ leave, with and without steps of the mover and the end, and over odd ones made here: nothing is
-told damaged, the rows decoded are those that the program prints, files are written as FORMATS.md says, and a dump loads again to the same schema and
-rows. Over small folders with each byte changed, and each file cut or removed: vert-show ends well, tells a damage wherever the program
-ends with status 6, and where it tells none the program prints the rows decoded. The last line is 'N passed, M failed'.
+Over the folders that the scripts of examples/ and tests/ leave, with and without steps of the mover and the end, and over odd ones made here:
+nothing is told damaged, the rows decoded are those that the program prints, files are written as FORMATS.md says, and a dump loads again to the
+same schema and rows. Where the program was killed nothing is told damaged, and the rows decoded are those that it reopens to. Over small folders
+with each byte changed, and each file cut or removed: vert-show ends well, tells a damage wherever the program ends with status 6 (over one of
+which each file is read exactly there), and where it tells none the program prints the rows decoded. The last line is 'N passed, M failed'.
 """
 import contextlib
 import glob
@@ -19,16 +20,19 @@ import shutil
 import subprocess
 import sys
 import tempfile
+import time
 
 TOP = os.path.dirname(os.path.dirname(os.path.abspath(__file__)))
 SHOW = os.path.join(TOP, 'bin/vert-show')
 sys.dont_write_bytecode = True
 sys.path.insert(0, os.path.join(TOP, 'tools'))
 import block_cases  # noqa: E402
+import folders  # noqa: E402
 from huddwerys_folder import dump, look, schema  # noqa: E402
-from huddwerys_folder.blocks import ROWS, block_values  # noqa: E402
+from huddwerys_folder.blocks import DeleteVector, PositionIndex, block_values  # noqa: E402
+from huddwerys_folder.catalogue import Container  # noqa: E402
 from huddwerys_folder.folder import Damaged, Folder, seen_in  # noqa: E402
-from huddwerys_folder.spelling import rank  # noqa: E402
+from huddwerys_folder.spelling import Malformed, rank, value_at, vint_at  # noqa: E402
 
 PASSED, FAILED = [], []
 
@@ -97,6 +101,84 @@ def all_decoded(seen):
 
 def asking_all(seen):
     return ''.join(f'SELECT * FROM {table.name};\n' for table in seen.catalogue.tables)
+
+
+# ---- single files
+
+# hexadecimal; nothing at all is none of these either
+WRONG = {
+    'vint': '''
+        80 8000 808000 ffffffffffffffffff02 ffffffffffffffffffff01 80808080808080808000
+    ''',
+    'value': '''
+        01 0100000000000000 018000000000000000 02 0200000001 0200000001ff 0200000002c080 0200000003eda080 05 ff
+    ''',
+    'block': '''
+        00 0401 040200 05 0400 040100ff 01 0100 010100 01010000 010200010001 01020301030100 010203010301 0101008108 0102030104ff0700
+        01020380080401 02000000000000000000 020100000000000000 0201800000000000000001 0201000000000000000002 0201000000000000000100
+        02017fffffffffffffff0100 02027fffffffffffffff0102 0300 03010001 0301000101 03020403020001 03020303020001 030203040100
+        0302030402000102 03020304020002 0301000200 030100010000
+    ''',
+    'index of 2 rows': '''
+        01 02 0200 02000000 0201000304 0200010304 0200000403 020000030400 030000030400 820000000304
+    ''',
+    'delete vector of 3 rows': '''
+        00 01 0100 010001 010302 010000 01000200 02000202 020002010202 0200020202
+    ''',
+}
+# what is too much of a kind
+LONG = {'value': '020000fde9' + '61' * 65001, 'block': '048108' + '00' * 1025}
+RIGHT = {
+    'vint': {
+        '00': 0, '7f': 127, '8001': 128, 'ffffffffffffffffff01': 2**64 - 1,
+    },
+    'value': {
+        '00': None, '017fffffffffffffff': 2**63 - 1, '018000000000000001': -(2**63) + 1, '0200000000': b'', '0200000002c3a9': b'\xc3\xa9',
+        '03': False, '04': True,
+    },
+    'block': {
+        '040100': [None], '010203020401': [False, False, True], '0202ffffffffffffffff0102': [-1, 0],
+        '02030000000000000000000000': [None, None, None], '0302000303000100': [None, False, None],
+    },
+    'index of 2 rows': {
+        '0200000304': (False, True), '0200000000': (None, None),
+    },
+    'delete vector of 3 rows': {
+        '010102': {1: 2}, '0200020102': {0: 2, 2: 2},
+    },
+}
+
+
+def read_as(kind, data):
+    """What the bytes are that spell one thing of a kind."""
+    if kind == 'block':
+        return block_values(data, 'AUTO')
+    if kind.startswith('index'):
+        entry = PositionIndex(data, 2).entries[0]
+        return entry.least, entry.greatest
+    if kind.startswith('delete'):
+        return DeleteVector(data, Container(1, 3, 1, 1, 0, 9, 2)).epochs
+    part, at = (vint_at if kind == 'vint' else value_at)(data, 0)
+    is_same(f'{kind} {data.hex()}: its end', len(data), at)
+    return part
+
+
+def pieces(_):
+    """What is spelled wrong in one way each, and what is spelled right."""
+    for kind, spelled in RIGHT.items():
+        for text, wanted in spelled.items():
+            is_same(f'{kind} {text}', repr(wanted), repr(read_as(kind, bytes.fromhex(text))))
+    for kind, spelled in WRONG.items():
+        for text in ['', LONG.get(kind, ''), *spelled.split()]:
+            try:
+                got = read_as(kind, bytes.fromhex(text))
+                holds(f'{kind} {text[:40]}: refused', False, got)
+            except Malformed:
+                holds(f'{kind} {text[:40]}: refused', True)
+    for values in block_cases.lists(random.Random(5)):
+        for made in (block_cases.plain(values), block_cases.rle(values), block_cases.delta(values), block_cases.dictionary(values)):
+            if made:
+                is_same('a block made by other means', repr(values), repr(block_values(made, 'AUTO')))
 
 
 # ---- a whole folder
@@ -184,8 +266,8 @@ def scripts(work):
 # ---- odd folders
 
 TEXTS = [
-    '', ' ', '  x ', '|', '"', '""', "'", "''", 'a|b', 'a"b', '"a"', '\r', '\n', '\r\n', 'a\nb|c"d', '\ufeff', '\ufeffx', 'x\ufeff', 'NULL', 'null', '\\', '\\N', '\t',
-    'é', '日本', '\U0001f600', '\0', 'a\0b', '--', ';', ';--', 't', '0', '-1', ',', '\x7f', '\x85', '\u2028',
+    '', ' ', '  x ', '|', '"', '""', "'", "''", 'a|b', 'a"b', '"a"', '\r', '\n', '\r\n', 'a\nb|c"d', '\ufeff', '\ufeffx', 'x\ufeff', 'NULL', 'null',
+    '\\', '\\N', '\t', 'é', '日本', '\U0001f600', '\0', 'a\0b', '--', ';', ';--', 't', '0', '-1', ',', '\x7f', '\x85', '\u2028',
 ]
 NUMBERS = [0, 1, -1, 127, 128, 2**31, -(2**31), 2**63 - 1, -(2**63) + 1, 10**18]
 
@@ -202,13 +284,16 @@ def insert(table, rows):
 
 def odd_texts():
     rows = [(text, TEXTS[-1 - i], i) for i, text in enumerate(TEXTS)] + [(None, text, None) for text in TEXTS]
-    script = 'CREATE TABLE t (a VARCHAR(40), b VARCHAR(40) NOT NULL, c INTEGER);\nCREATE TABLE lone (a VARCHAR(40));\n'
+    script = 'CREATE TABLE t (a VARCHAR(40), b VARCHAR(40) NOT NULL, c INTEGER);\n'
+    script += 'CREATE TABLE lone (a VARCHAR(40)); CREATE TABLE marked (a VARCHAR(9));\n'
+    script += insert('marked', [('\ufeffx',), ('\ufeff',)])
     script += insert('t', rows) + insert('lone', [(text,) for text in TEXTS + [None, None]]) + 'COMMIT;\n'
     return script + "DELETE FROM t WHERE c > 3 AND c < 9; UPDATE t SET a = b, b = '' WHERE c = 12; COMMIT;\n"
 
 
 def odd_numbers():
-    script = 'CREATE TABLE t (a INTEGER, b BOOLEAN, c INTEGER NOT NULL); CREATE TABLE lone (a INTEGER); CREATE TABLE truths (b BOOLEAN); CREATE TABLE none (a INTEGER);\n'
+    script = 'CREATE TABLE t (a INTEGER, b BOOLEAN, c INTEGER NOT NULL); CREATE TABLE lone (a INTEGER);\n'
+    script += 'CREATE TABLE truths (b BOOLEAN); CREATE TABLE none (a INTEGER);\n'
     script += insert('t', [(a, b, c) for a in [*NUMBERS, None] for b in (True, False, None) for c in NUMBERS[:3]])
     return script + insert('lone', [(a,) for a in [*NUMBERS, None]]) + insert('truths', [(True,), (False,), (None,)]) + 'COMMIT;\n'
 
@@ -222,10 +307,10 @@ def odd_encodings():
         columns = [f'{name} ENCODING {encoding if encoding != "DELTAVAL" or "INTEGER" in kind else "AUTO"}' for name, kind in kinds]
         script += f"CREATE PROJECTION in_{encoding.lower()} ({', '.join(columns)}) AS SELECT n, s, b, m FROM t ORDER BY s, m;\n"
     for first in (0, 2500, 2600):
-        rows = [
-            (dice.choice([None, i, dice.randrange(9), i * 10**12]), dice.choice([None, '', 'x', f'text {i}']), dice.choice([None, True, False]), i // 3)
-            for i in range(first, 2500 if first == 0 else first + 40)
-        ]
+        rows = []
+        for i in range(first, 2500 if first == 0 else first + 40):
+            text, truth = dice.choice([None, '', 'x', f'text {i}']), dice.choice([None, True, False])
+            rows.append((dice.choice([None, i, dice.randrange(9), i * 10**12]), text, truth, i // 3))
         script += insert('t', rows) + "COMMIT;\nSELECT DO_TM_TASK('moveout');\n"
         script += f'DELETE FROM t WHERE n = {first % 9} OR m = 3; COMMIT;\nDELETE FROM t WHERE b AND m < {first + 20}; COMMIT;\n'
     return script
@@ -234,13 +319,16 @@ def odd_encodings():
 def odd_names():
     """Projections with names that stand in the way of other tables, and a table called as another's first projection."""
     script = '''
-        CREATE TABLE y (a INTEGER, b INTEGER); CREATE PROJECTION yy (b, a) AS SELECT b, a FROM y ORDER BY b; DROP PROJECTION y_super; CREATE TABLE y_super (c INTEGER);
-        CREATE TABLE a (x INTEGER); CREATE TABLE b (x INTEGER);
-        CREATE PROJECTION stand_in_1 (x) AS SELECT x FROM a; DROP PROJECTION a_super; CREATE PROJECTION p (x) AS SELECT x FROM b; DROP PROJECTION b_super;
-        CREATE PROJECTION b_super (x ENCODING RLE) AS SELECT x FROM a; DROP PROJECTION stand_in_1; CREATE PROJECTION a_super (x) AS SELECT x FROM b; DROP PROJECTION p;
+        CREATE TABLE y (a INTEGER, b INTEGER); CREATE PROJECTION yy (b, a) AS SELECT b, a FROM y ORDER BY b; DROP PROJECTION y_super;
+        CREATE TABLE y_super (c INTEGER);
+        CREATE TABLE a (x INTEGER); CREATE PROJECTION stand_in_1 (x) AS SELECT x FROM a; DROP PROJECTION a_super;
+        CREATE TABLE b (x INTEGER); CREATE PROJECTION p (x) AS SELECT x FROM b; DROP PROJECTION b_super;
+        CREATE PROJECTION b_super (x ENCODING RLE) AS SELECT x FROM a; DROP PROJECTION stand_in_1;
+        CREATE PROJECTION a_super (x) AS SELECT x FROM b; DROP PROJECTION p;
         CREATE TABLE s (p INTEGER, q INTEGER); CREATE PROJECTION other (p, q) AS SELECT p, q FROM s; DROP PROJECTION s_super;
         CREATE PROJECTION s_super (q, p) AS SELECT q, p FROM s ORDER BY p; DROP PROJECTION other;
-        CREATE TABLE stand_in_1 (z INTEGER); CREATE TABLE full (p INTEGER); CREATE PROJECTION spare (p) AS SELECT p FROM full; DROP PROJECTION full_super;
+        CREATE TABLE stand_in_1 (z INTEGER);
+        CREATE TABLE full (p INTEGER); CREATE PROJECTION spare (p) AS SELECT p FROM full; DROP PROJECTION full_super;
         CREATE PROJECTION full_super (p ENCODING PLAIN) AS SELECT p FROM full; DROP PROJECTION spare;
     '''
     script += ''.join(f'CREATE PROJECTION f{i} (p) AS SELECT p FROM full;\n' for i in range(15))
@@ -261,7 +349,9 @@ def odd_late():
     return '''
         CREATE TABLE t (a INTEGER, b VARCHAR(5)); INSERT INTO t VALUES (1, 'x'), (2, ''); COMMIT; CREATE PROJECTION late (b) AS SELECT b FROM t;
         CREATE TABLE u (a INTEGER); INSERT INTO u VALUES (1); COMMIT; SELECT DO_TM_TASK('moveout');
-        INSERT INTO t VALUES (3, NULL); COMMIT; DELETE FROM t WHERE a = 1; INSERT INTO u VALUES (2); COMMIT; \\step; DELETE FROM u; COMMIT; \\step;
+        INSERT INTO t VALUES (3, NULL); COMMIT; DELETE FROM t WHERE a = 1; INSERT INTO u VALUES (2); COMMIT; \\step;
+        DELETE FROM u; COMMIT; \\step;
+        INSERT INTO t VALUES (4, 'y'); COMMIT; \\step;
     '''
 
 
@@ -281,17 +371,17 @@ def odd_folders(work):
 
 def random_schemas(work):
     """Tables and projections that take each other's names, whatever the program lets stand."""
-    place, names = os.path.join(work, 'd'), [name + behind for name in 'xyz' for behind in ('', '_super', '_super_super')] + ['stand_in_1', 'p', 'q']
+    place = os.path.join(work, 'd')
+    names = [name + behind for name in 'xyz' for behind in ('', '_super', '_super_super')] + ['stand_in_1', 'p', 'q']
     for seed in range(20):
         dice, script = random.Random(seed), ''
         for _ in range(60):
             columns = dice.sample('abc', dice.choice([1, 2, 3, 3]))
-            listed, some = ', '.join(columns), [it + dice.choice(['', ' ENCODING PLAIN']) for it in columns]
+            listed, some = ', '.join(columns), ', '.join(it + dice.choice(['', ' ENCODING PLAIN']) for it in columns)
+            projection = f'CREATE PROJECTION {dice.choice(names)} ({some}) AS SELECT {listed} FROM {dice.choice(names)}'
             script += dice.choice([
-                f'CREATE TABLE {dice.choice(names)} (a INTEGER, b INTEGER, c INTEGER);\n',
-                f"CREATE PROJECTION {dice.choice(names)} ({', '.join(some)}) AS SELECT {listed} FROM {dice.choice(names)} ORDER BY {dice.choice(columns)};\n",
-                f"CREATE PROJECTION {dice.choice(names)} ({', '.join(some)}) AS SELECT {listed} FROM {dice.choice(names)};\n",
-                f'DROP PROJECTION {dice.choice(names)};\n',
+                f'CREATE TABLE {dice.choice(names)} (a INTEGER, b INTEGER, c INTEGER);\n', f'{projection};\n',
+                f'{projection} ORDER BY {dice.choice(columns)};\n', f'DROP PROJECTION {dice.choice(names)};\n',
             ])
         script += ''.join(f'INSERT INTO {name} VALUES (1, 2, 3), (NULL, 3, 1);\n' for name in names) + 'COMMIT;\n'
         shutil.rmtree(place, ignore_errors=True)
@@ -321,15 +411,54 @@ def small_limits(work):
         is_same(f'{name}: the rows', run(place, asking_all(seen)), run(new, asking_all(seen)))
 
 
+def killed_folders(work):
+    """What a program that was killed leaves is no damage, and decoded to what the next one opens to."""
+    dice, place, copy, longest, killed = random.Random(4), os.path.join(work, 'd'), os.path.join(work, 'copy'), 1.0, 0
+    shutil.rmtree(place, ignore_errors=True)
+    kept = folders.Folder(PROGRAM, place)
+    kept.begin()
+    for turn in range(60):
+        epoch, rows = kept.now()
+        kept.commits = {epoch: rows}
+        lines, _ = kept.transactions(dice, epoch + 1, 20)
+        kept.say(lines)
+        start, child = time.monotonic(), subprocess.Popen([PROGRAM, place, kept.script], stdout=subprocess.PIPE)
+        try:
+            text, _ = child.communicate(timeout=dice.random() * longest)
+            longest = max(1.5 * (time.monotonic() - start), 0.01)
+        except subprocess.TimeoutExpired:
+            child.kill()
+            text, _ = child.communicate()
+            killed += 1
+        kept.tables += folders.announced(text.decode())[1]
+        seen = look.Look(Folder(place))
+        seen.check()
+        holds(f'killed folder {turn}: the verdict', seen.is_well(), list(map(str, seen.damages.values())), seen.breaches)
+        shutil.rmtree(copy, ignore_errors=True)
+        shutil.copytree(place, copy)
+        is_same(f'killed folder {turn}: its rows', (0, all_decoded(seen)), run(copy, asking_all(seen)))
+    holds('some were killed', killed > 10, killed)
+
+
 # ---- damaged folders
 
 SMALL = [
     'CREATE TABLE t (a INTEGER); INSERT INTO t VALUES (2), (1); COMMIT;',
-    '''CREATE TABLE t (a INTEGER NOT NULL, b VARCHAR(5)); CREATE PROJECTION p (b ENCODING BLOCK_DICT, a ENCODING DELTAVAL) AS SELECT b, a FROM t ORDER BY b;
-       INSERT INTO t VALUES (1, 'x'), (2, NULL), (3, 'x'), (4, ''); COMMIT; SELECT DO_TM_TASK('moveout'); DELETE FROM t WHERE a > 2; COMMIT; INSERT INTO t VALUES (9, 'z'); COMMIT;''',
-    '''CREATE TABLE t (f BOOLEAN, n INTEGER); CREATE PROJECTION p (n ENCODING RLE) AS SELECT n FROM t; CREATE PROJECTION q (f ENCODING PLAIN, n) AS SELECT f, n FROM t;
-       INSERT INTO t VALUES (TRUE, 1), (FALSE, 1), (NULL, 300); COMMIT; SELECT DO_TM_TASK('moveout'); CREATE PROJECTION late (f) AS SELECT f FROM t; CREATE TABLE u (x INTEGER);''',
+    '''CREATE TABLE t (a INTEGER NOT NULL, b VARCHAR(5));
+       CREATE PROJECTION p (b ENCODING BLOCK_DICT, a ENCODING DELTAVAL) AS SELECT b, a FROM t ORDER BY b;
+       INSERT INTO t VALUES (1, 'x'), (2, NULL), (3, 'b'), (4, ''), (20, 'c'); COMMIT; SELECT DO_TM_TASK('moveout');
+       DELETE FROM t WHERE a > 2; COMMIT; INSERT INTO t VALUES (9, 'z'); COMMIT;''',
+    '''CREATE TABLE t (f BOOLEAN, n INTEGER);
+       CREATE PROJECTION p (n ENCODING RLE) AS SELECT n FROM t; CREATE PROJECTION q (f ENCODING PLAIN, n) AS SELECT f, n FROM t;
+       INSERT INTO t VALUES (TRUE, 2), (FALSE, 3), (NULL, 300); COMMIT; SELECT DO_TM_TASK('moveout');
+       CREATE PROJECTION late (f) AS SELECT f FROM t; CREATE TABLE u (x INTEGER);''',
 ]
+
+
+READ = '''
+    CREATE TABLE t (a INTEGER, s VARCHAR(9)); INSERT INTO t VALUES (2, 'x'), (1, NULL), (70, 'b'); COMMIT;
+    INSERT INTO t VALUES (3, 'c'), (4, 'x'), (NULL, 'y'); COMMIT; SELECT DO_TM_TASK('moveout'); DELETE FROM t WHERE a = 1; COMMIT;
+'''
 
 
 def changes(files):
@@ -347,23 +476,51 @@ def changes(files):
         yield f'{a} and {b} swapped', {a: files[b], b: files[a]}
 
 
+def changed_folders(place, script):
+    """The folder of a script before and behind each change: what was changed, in turn."""
+    shutil.rmtree(place, ignore_errors=True)
+    is_same('a small folder', 0, run(place, script)[0])
+    files = {name: open(os.path.join(place, name), 'rb').read() for name in os.listdir(place)}
+    for what, changed in changes(files):
+        for name, data in changed.items():
+            path = os.path.join(place, name)
+            if data is None:
+                os.remove(path)
+            else:
+                open(path, 'wb').write(data)
+        yield what
+        for name in changed:
+            open(os.path.join(place, name), 'wb').write(files[name])
+
+
 def damaged_folders(work):
     place, out, copy = (os.path.join(work, it) for it in ('d', 'out', 'copy'))
     for number, script in enumerate(SMALL):
         shutil.rmtree(place, ignore_errors=True)
-        is_same('a small folder', 0, run(place, script)[0])
-        files = {name: open(os.path.join(place, name), 'rb').read() for name in os.listdir(place)}
+        run(place, script)
         whole = look.Look(Folder(place))
-        for what, changed in changes(files):
-            for name, data in changed.items():
-                path = os.path.join(place, name)
-                if data is None:
-                    os.remove(path)
-                else:
-                    open(path, 'wb').write(data)
+        for turn, what in enumerate(changed_folders(place, script)):
             damaged_folder(f'small folder {number}, {what}', whole, place, copy, out)
-            for name in changed:
-                open(os.path.join(place, name), 'wb').write(files[name])
+            if turn % 50 == 0:
+                status, _, told = shown(place, '--check')
+                is_well = 'Traceback' not in told and (status, bool(told)) in ((0, False), (6, True))
+                holds(f'small folder {number}, {what}: as a program', is_well, status, told)
+
+
+def files_that_are_read(work):
+    """Of a folder of which each file is read it tells a damage exactly where the program ends with status 6, values of other types aside."""
+    place, copy = os.path.join(work, 'd'), os.path.join(work, 'copy')
+    for what in changed_folders(place, READ):
+        seen = look.Look(Folder(place))
+        if seen.catalogue:
+            seen.check()
+        shutil.rmtree(copy, ignore_errors=True)
+        shutil.copytree(place, copy)
+        names = [table.name for table in seen.catalogue.tables] if seen.catalogue else ['t']
+        status, _ = run(copy, ''.join(f'SELECT * FROM {name}; AT EPOCH 1 SELECT * FROM {name};' for name in names))
+        told = [damage.reason for damage in seen.damages.values()] + seen.breaches
+        is_of_types = told and all(re.search('NOT NULL|of type|octets$', why) for why in told)
+        holds(f'{what}: told by both or neither', (status == 6) == bool(told) or is_of_types, status, told)
 
 
 def damaged_folder(what, whole, place, copy, out):
@@ -384,6 +541,9 @@ def damaged_folder(what, whole, place, copy, out):
     if seen.is_well() and seen.catalogue:
         try:
             is_same(f'{what}: told well', (0, all_decoded(seen)), (status, text))
+            for table in seen.catalogue.tables:
+                rows = [decoded_rows(seen, table, projection) for projection in table.supers()]
+                holds(f'{what}: the projections of {table.name}', all(it == rows[0] for it in rows), rows)
         except Damaged as why:
             holds(f'{what}: told well', False, why)
     else:
@@ -443,10 +603,12 @@ def words(work):
     is_same('an empty folder', (0, ''), (shown(odd)[0], shown(odd)[2]))
     open(os.path.join(odd, 'notes.txt'), 'w').write('x')
     for what, status, asked in [
-        ('no word', 2, []), ('two folders', 2, [place, place]), ('an unknown option', 2, [place, '--all']), ('no new folder', 2, [place, '--dump']),
-        ('--check and --dump', 2, [place, '--check', '--dump', 'x']), ('an absent folder', 3, [os.path.join(work, 'absent')]), ('a folder of others', 3, [odd]),
+        ('no word', 2, []), ('two folders', 2, [place, place]), ('an unknown option', 2, [place, '--all']),
+        ('no new folder', 2, [place, '--dump']), ('--check and --dump', 2, [place, '--check', '--dump', 'x']),
+        ('an absent folder', 3, [os.path.join(work, 'absent')]), ('a folder of others', 3, [odd]),
         ('a file in place of the folder', 5, [os.path.join(odd, 'notes.txt')]), ('a new folder that is there', 4, [place, '--dump', odd]),
-        ('a new folder inside', 4, [place, '--dump', os.path.join(place, 'out')]), ('a new folder in none', 4, [place, '--dump', os.path.join(work, 'no', 'out')]),
+        ('a new folder inside', 4, [place, '--dump', os.path.join(place, 'out')]),
+        ('a new folder in none', 4, [place, '--dump', os.path.join(work, 'no', 'out')]),
     ]:
         got, text, told = shown(*asked)
         is_same(f'{what}: its status', status, got)
@@ -461,13 +623,14 @@ def words(work):
     is_same('a missing file', (6, True, True), (status, f'file {name}, ' in told, 'Damaged files' in text))
     os.remove(os.path.join(place, next(name for name in os.listdir(place) if int(name) % 4 == 2)))
     is_same('a missing gate', 6, shown(place)[0])
-    is_same('a missing gate, dumped', (6, False), (shown(place, '--dump', os.path.join(work, 'out2'))[0], os.path.exists(os.path.join(work, 'out2'))))
+    out = os.path.join(work, 'out2')
+    is_same('a missing gate, dumped', (6, False), (shown(place, '--dump', out)[0], os.path.exists(out)))
 
 
 def main():
     # in memory where that can be, since each run syncs what it finds
     with tempfile.TemporaryDirectory(dir='/dev/shm' if os.access('/dev/shm', os.W_OK) else None) as work:
-        for part in (example, words, scripts, odd_folders, random_schemas, small_limits, damaged_folders):
+        for part in (example, words, pieces, scripts, odd_folders, random_schemas, small_limits, killed_folders, damaged_folders, files_that_are_read):
             if part.__name__ not in (sys.argv[2:] or [part.__name__]):
                 continue
             part(work)
