@@ -1,5 +1,5 @@
 -- How a run of statement texts over the tables of a folder ends, and what a crash leaves of it.
-use Rattle.std.proofs.Common.{ℕ, ◌+◌, ◌<◌, ◌≤◌, ◌≡◌, ◌||◌, inl, inr, Bool, true, false, List, [], ◌∷◌, take, drop, map, length, get_or, ap, sym, subst, refl, ◌∙◌, arith}
+use Rattle.std.proofs.Common.{ℕ, ◌+◌, ◌<◌, ◌≤◌, ◌≡◌, ◌||◌, inl, inr, Bool, true, false, List, take, drop, map, length, get_or, ap, sym, subst, refl, ◌∙◌, arith}
 use Rattle.std.specs.Prelude.{Option, Some, Result, Ok, Err, unwrap_or}
 use Rattle.std.proofs.lemmas.List.{take_all, drop_all, length-map}
 use Rattle.common_laws.specs.Maps.{Contents}

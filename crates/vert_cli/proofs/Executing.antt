@@ -1,5 +1,5 @@
 -- One statement text that is run, and the mover's steps behind it.
-use Rattle.std.proofs.Common.{ℕ, ◌+◌, ◌≡◌, ◌<◌, inl, inr, Bool, List, [], ◌∷◌, refl, sym, ap, subst}
+use Rattle.std.proofs.Common.{ℕ, ◌+◌, ◌≡◌, ◌<◌, inl, inr, Bool, List, refl, sym, ap, subst}
 use Rattle.std.specs.Prelude.{Option, Some, None, Result, Ok, Err, is_some}
 use Rattle.common_laws.specs.Told.{Appends, AppendsFront}
 use Rattle.col_disk.specs.Moved.{Leaves}

@@ -5,7 +5,6 @@ use Rattle.common_laws.specs.Causes.{Rose}
 use Rattle.common_laws.specs.Maps.{Contents}
 use Rattle.col_disk.specs.Moved.{Leaves}
 use Rattle.col_disk.specs.declared.disk.Disk.{Ghosts}
-use Rattle.col_disk.proofs.Moving.{leaves_wider}
 use Rattle.col_io.specs.Files.{Finds}
 use Rattle.col_io.specs.declared.reading.Got.{Got}
 use Rattle.col_io.specs.declared.reading.Got.TheVariants.{Absent, Whole, TooLong}
@@ -20,7 +19,7 @@ use Rattle.vert_cli.specs.declared.faults.RunFault.{RunFault}
 use Rattle.vert_cli.specs.declared.faults.Status.{Status}
 use Rattle.run_words.specs.Words.{Source, from_file, generated, Wanted}
 use Rattle.vert_cli.specs.Runs.{setting_of, StopsInNext}
-use Rattle.vert_cli.specs.Ends.{status_of_end, NeverBegins, IsUnread, IsIdle, OpenedEnd, CutInRun, IsWithinLimits, IsOverLimits, IsServed, IsLarge, IsUnbegun, ScriptBegins, ScriptEnds, CutInScript, script_of, RunBegins, RunEnds, RunLeaves, IsAbsent, IsTooLarge, IsServableFrom, IsServable, ExactlyWhere, Counts, IsAnswered}
+use Rattle.vert_cli.specs.Ends.{status_of_end, NeverBegins, IsIdle, OpenedEnd, CutInRun, IsWithinLimits, IsOverLimits, IsServed, IsLarge, IsUnbegun, ScriptBegins, ScriptEnds, CutInScript, script_of, RunBegins, RunEnds, RunLeaves, IsAbsent, IsTooLarge, IsServableFrom, IsServable, ExactlyWhere, Counts, IsAnswered}
 use Rattle.vert_cli.proofs.FewTexts.{generated_within}
 
 -- ---- the status of a run that began
@@ -174,9 +173,6 @@ script_left disk setting d held script old new before after is leaves = subst (�
 script_still : (setting : Setting) (d : Database) (held : Option (List ℕ)) (before after : Option (List ℕ)) (x : Contents) → Reopens x d → CutInScript setting d held before after x
 script_still setting d None before after x opens = opens
 script_still setting d (Some script) before after x opens = inl opens
-
-pub script_rests : {D : Type 0} (disk : Ghosts D) (setting : Setting) (d : Database) (held : Option (List ℕ)) (now : D) (before after : Option (List ℕ)) → Leaves disk (λ x. Reopens x d) now now → Leaves disk (CutInScript setting d held before after) now now
-script_rests disk setting d held now before after leaves = leaves_wider disk (script_still setting d held before after) leaves
 
 -- ---- the words
 

@@ -1,5 +1,5 @@
 use Rattle.std.proofs.Common.{map, sym, subst}
-use Rattle.std.specs.Prelude.{Result, Err, Bool}
+use Rattle.std.specs.Prelude.{Err}
 use Rattle.db_model.specs.State.{opened_with}
 use Rattle.sql_words.specs.Texts.{cut}
 use Rattle.vert_cli.specs.declared.faults.RunFault.{RunFault}
