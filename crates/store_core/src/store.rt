@@ -5,7 +5,7 @@ ghost use Rattle.std.specs.Bool.{OnTrue};
 ghost use Rattle.std.specs.List.{All, slice_get, slice_index_or};
 ghost use Rattle.common_laws.specs.Causes.{HasCause};
 ghost use Rattle.common_laws.specs.Maps.{Contents};
-ghost use Rattle.col_disk.specs.Moved.{ImageOf, Leaves, Moved, NoName};
+ghost use Rattle.col_disk.specs.Moved.{Leaves, Moved, NoName};
 ghost use Rattle.col_disk.specs.declared.disk.DiskFault.TheVariants.{Memory};
 ghost use Rattle.col_disk.specs.declared.disk.StoreFault.TheVariants.{Memory as no_memory};
 ghost use Rattle.col_value.specs.Order.{IsRow};
@@ -23,7 +23,7 @@ ghost use Rattle.db_model.specs.Sound.{RowFits};
 ghost use Rattle.sound_laws.specs.Moves.{moved_at};
 ghost use Rattle.table_store.specs.Moving.{IsFreshAt};
 ghost use Rattle.folder_model.specs.Reopening.{Reopens};
-ghost use Rattle.store_opening.specs.Opening.{BlamesOpening, IsStartOf};
+ghost use Rattle.store_opening.specs.Opening.{BlamesOpening, IsStartOf, IsStill};
 ghost use Rattle.store_core.specs.Running.{IsState, frame_of};
 ghost use Rattle.store_core.specs.Sessions.{with_current, with_own, with_pending};
 ghost use Rattle.store_query.specs.Faults.{IsUnblamed};
@@ -93,7 +93,7 @@ impl Store {
     /// opening.
     pub fn open<D: Disk>(alloc: Global, disk: &mut D) -> Result<Store, StoreFault>
         ensures opened { IfOk result (λ s. (m : Contents) (d : Database) → D.holds disk.old ≡ Some m → Reopens m d → (parts : ℕ) × IsStartOf m s.seen.catalogue.next parts × IsState ⟦<D as Disk>⟧ s disk.new (opened_with s.seen.catalogue.next parts d)) }
-        ensures any_moment { (m : Contents) (d : Database) → D.holds disk.old ≡ Some m → ((x : Contents) → ImageOf ⟦<D as Disk>⟧ disk.old x → Reopens x d) → Leaves ⟦<D as Disk>⟧ (λ x. Reopens x d) disk.old disk.new }
+        ensures any_moment { (m : Contents) (d : Database) → D.holds disk.old ≡ Some m → Reopens m d → Leaves ⟦<D as Disk>⟧ (IsStill ⟦<D as Disk>⟧ disk.old d) disk.old disk.new }
         ensures blamed { IfErr result (BlamesOpening (D.holds disk.old)) }
         ensures cause { HasCause StoreFault.Disk (D.faults disk.old) (D.faults disk.new) result }
     {

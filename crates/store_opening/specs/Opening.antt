@@ -12,7 +12,7 @@ use Rattle.catalog_root.specs.Quiet.{Quiet}
 use Rattle.cut_job.specs.Blamed as cut
 use Rattle.db_model.specs.Database.{Database}
 use Rattle.db_model.specs.Sound.{IsSoundDatabase}
-use Rattle.folder_model.specs.Reopening.{IsCutOf}
+use Rattle.folder_model.specs.Reopening.{IsCutOf, Reopens}
 use Rattle.store_opening.specs.Loading.{BlamesTables}
 use Rattle.table_store.specs.Drawing.{FewContainers}
 
@@ -48,3 +48,7 @@ pub record IsQuietFor {D : Type 0} (disk : Ghosts D) (now : D) (v : ℕ) (c : Ca
   pub quiet : Quiet (disk.holds now) (ImageOf disk now) (Root v c) m
   pub is_cut : IsCutOf m c d
   pub sound : IsSoundDatabase d
+
+-- a crash would have left this at that moment, or it reopens to the database
+abbrev pub IsStill : {D : Type 0} → Ghosts D → D → Database → Contents → Type 0
+IsStill disk old d x = ImageOf disk old x ⊎ Reopens x d

@@ -20,7 +20,7 @@ ghost use Rattle.folder_model.specs.Reopening.{Reopens};
 ghost use Rattle.store_commit.specs.Seen.{Stands};
 ghost use Rattle.table_store.specs.Held.{projections_of};
 ghost use Rattle.store_opening.specs.Loading.{AreEntriesOf, BlamesTables};
-ghost use Rattle.store_opening.specs.Opening.{BlamesListed, BlamesOpening, IsOpenedFrom, IsOpenedOf, IsQuietFor};
+ghost use Rattle.store_opening.specs.Opening.{BlamesListed, BlamesOpening, IsOpenedFrom, IsOpenedOf, IsQuietFor, IsStill};
 
 use crate::loading::load_tables;
 use catalog_root::Found;
@@ -37,7 +37,7 @@ use table_store::{Parts, TableStore};
 pub fn open<D: Disk>(alloc: Global, disk: &mut D) -> Result<TableStore, StoreFault>
     ensures stands { IfOk result (λ s. (m : Contents) (d : Database) → D.holds disk.old ≡ Some m → Reopens m d → Stands ⟦<D as Disk>⟧ s disk.new d) }
     ensures numbers { IfOk result (λ s. (m : Contents) (d : Database) → D.holds disk.old ≡ Some m → Reopens m d → IsOpenedOf m s.catalogue) }
-    ensures any_moment { (m : Contents) (d : Database) → D.holds disk.old ≡ Some m → ((x : Contents) → ImageOf ⟦<D as Disk>⟧ disk.old x → Reopens x d) → Leaves ⟦<D as Disk>⟧ (λ x. Reopens x d) disk.old disk.new }
+    ensures any_moment { (m : Contents) (d : Database) → D.holds disk.old ≡ Some m → Reopens m d → Leaves ⟦<D as Disk>⟧ (IsStill ⟦<D as Disk>⟧ disk.old d) disk.old disk.new }
     ensures blamed { IfErr result (BlamesOpening (D.holds disk.old)) }
     ensures cause { HasCause StoreFault.Disk (D.faults disk.old) (D.faults disk.new) result }
 {

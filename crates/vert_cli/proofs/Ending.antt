@@ -11,16 +11,15 @@ use Rattle.db_model.specs.Database.{Database}
 use Rattle.db_model.specs.State.{State, opened_with}
 use Rattle.db_model.specs.Loading.{Files}
 use Rattle.db_model.specs.Run.{Setting, RunTexts, EndsUnless}
-use Rattle.folder_model.specs.Reopening.{Reopens}
 use Rattle.store_step.specs.Running.{Running, IsState}
 use Rattle.store_step.specs.Cuts.{CutBeforeOrAfter}
-use Rattle.store_step.specs.Opening.{BlamesOpening, IsStartOf}
+use Rattle.store_step.specs.Opening.{BlamesOpening, IsStartOf, IsStill}
 use Rattle.store_step.proofs.Unblamed.{reopening_unblamed}
 use Rattle.store_step.specs.Steps.{EndedAs, Ends}
 use Rattle.vert_cli.specs.declared.faults.RunFault.{RunFault}
 use Rattle.vert_cli.specs.Statements.{fault_of}
 use Rattle.vert_cli.specs.Runs.{setting_of, RanWhole, StopsInEnd, StopsInNext, StoppedAt, CutInText, TakesMore, IsOnTheWay, RanText, RanTexts}
-use Rattle.vert_cli.specs.Ends.{IsOpenable, IsSettled, StartsWith, OpenedEnd, CutInRun}
+use Rattle.vert_cli.specs.Ends.{IsOpenable, StartsWith, OpenedEnd, CutInRun}
 use Rattle.vert_cli.proofs.Taking.{first_all, first_more}
 use Rattle.vert_cli.proofs.Cuts.{leaves_still, left_now, images_from, images_reopen, on_the_way, on_the_way_still, begun, ended}
 use Rattle.vert_cli.proofs.Running.{whole_none, whole_next, stopped_next, rest_is}
@@ -90,10 +89,10 @@ so_far_all disk f spans i setting is old now start refused before after all so_f
 
 -- the folder didn't open, and is none that reopens
 pub not_opened : {D : Type 0} (disk : Ghosts D) (setting : Setting) (d : Database) (texts : List (List ℕ)) (old now : D) (fault : StoreFault) (told : Option (List ℕ))
-    → IsOpenable disk old d → BlamesOpening (disk.holds old) fault → (IsSettled disk old d → Leaves disk (λ x. Reopens x d) old now) → OpenedEnd (Err (fault_of fault)) disk setting d texts old now told told
-not_opened disk setting d texts old now StoreFault.Disk told openable blamed leaves = inl (record { fault = inl refl; untaken = refl; settled = λ settled. left_now disk (leaves settled) })
+    → IsOpenable disk old d → BlamesOpening (disk.holds old) fault → Leaves disk (IsStill disk old d) old now → OpenedEnd (Err (fault_of fault)) disk setting d texts old now told told
+not_opened disk setting d texts old now StoreFault.Disk told openable blamed leaves = inl (record { fault = inl refl; untaken = refl; left = left_now disk leaves })
 not_opened disk setting d texts old now (StoreFault.Damaged q) told openable blamed leaves = absurd (reopening_unblamed (disk.holds old) openable.files d q openable.told openable.reopens blamed)
-not_opened disk setting d texts old now StoreFault.Memory told openable blamed leaves = inl (record { fault = inr refl; untaken = refl; settled = λ settled. left_now disk (leaves settled) })
+not_opened disk setting d texts old now StoreFault.Memory told openable blamed leaves = inl (record { fault = inr refl; untaken = refl; left = left_now disk leaves })
 
 -- what the disk was told to hold it holds
 pub starts_with : {D : Type 0} (disk : Ghosts D) (m : Contents) (old : D) (next parts : ℕ) → disk.holds old ≡ Some m → IsStartOf m next parts → StartsWith disk old next parts
@@ -183,33 +182,34 @@ end_failed disk files steps halts d texts next parts is old mid now new refused 
 
 -- ---- what a crash leaves
 
-pub opening_leaves : {D : Type 0} (disk : Ghosts D) (setting : Setting) (d : Database) (texts : List (List ℕ)) (old now : D) (before after : Option (List ℕ)) → Leaves disk (λ x. Reopens x d) old now
-    → Leaves disk (CutInRun setting d texts before after) old now
-opening_leaves disk setting d texts old now before after leaves = leaves_wider disk (λ x reopens. inl reopens) leaves
+pub opening_leaves : {D : Type 0} (disk : Ghosts D) (setting : Setting) (d : Database) (texts : List (List ℕ)) (old now : D) (before after : Option (List ℕ)) → Leaves disk (IsStill disk old d) old now
+    → Leaves disk (CutInRun disk old setting d texts before after) old now
+opening_leaves disk setting d texts old now before after leaves = leaves_wider disk (λ x still. inl still) leaves
 
 pub texts_leave : {D : Type 0} (disk : Ghosts D) (setting : Setting) (d : Database) (texts : List (List ℕ)) (next parts : ℕ) (old mid now : D) (before after : Option (List ℕ))
-    → Leaves disk (λ x. Reopens x d) old mid → Leaves disk (IsOnTheWay setting (opened_with next parts d) texts before after) mid now → Leaves disk (CutInRun setting d texts before after) old now
-texts_leave disk setting d texts next parts old mid now before after first second =
-    leaves_join disk (opening_leaves disk setting d texts old mid before after first) (leaves_wider disk (λ x way. inr (next, parts, way)) second)
+    → StartsWith disk old next parts → Leaves disk (IsStill disk old d) old mid → Leaves disk (IsOnTheWay setting (opened_with next parts d) texts before after) mid now → Leaves disk (CutInRun disk old setting d texts before after) old now
+texts_leave disk setting d texts next parts old mid now before after starts first second =
+    leaves_join disk (opening_leaves disk setting d texts old mid before after first) (leaves_wider disk (λ x way. inr (next, parts, starts, way)) second)
 
 pub end_leaves : {D : Type 0} (disk : Ghosts D) (files : Files) (steps : ℕ) (halts : Bool) (d : Database) (texts : List (List ℕ)) (next parts : ℕ) (is : Running) (old mid now new : D) (refused : Bool) (result : Result (Unit {0}) StoreFault) (before after : Option (List ℕ))
-    → halts ≡ false → Leaves disk (λ x. Reopens x d) old mid → RanTexts disk (setting_of files steps halts) texts is mid now (Ok refused) (opened_with next parts d) before after
+    → StartsWith disk old next parts → halts ≡ false → Leaves disk (IsStill disk old d) old mid → RanTexts disk (setting_of files steps halts) texts is mid now (Ok refused) (opened_with next parts d) before after
     → ((state : State) → IsState disk is now state → (last : Running) × Ends disk last now new result state)
-    → Leaves disk (CutInRun (setting_of files steps halts) d texts before after) old new
-end_leaves disk files steps halts d texts next parts is old mid now new refused result before after halt opening ran ends =
+    → Leaves disk (CutInRun disk old (setting_of files steps halts) d texts before after) old new
+end_leaves disk files steps halts d texts next parts is old mid now new refused result before after starts halt opening ran ends =
     let (state, whole, here) = ran.done in
     let (last, end) = ends state here in
-    leaves_join disk (texts_leave disk (setting_of files steps halts) d texts next parts old mid now before after opening ran.any_moment)
+    leaves_join disk (texts_leave disk (setting_of files steps halts) d texts next parts old mid now before after starts opening ran.any_moment)
     (leaves_wider disk (way state whole) end.any_moment)
   where
     cut : (state : State) (x : Contents) → CutBeforeOrAfter state (EndedAs state) x → CutBeforeOrAfter state (EndsUnless halts state) x
     cut state x left = subst (λ (b : Bool). CutBeforeOrAfter state (EndsUnless b state) x) (sym halt) left
 
     way : (state : State) → RanWhole (setting_of files steps halts) (opened_with next parts d) texts refused state before after → (x : Contents) → CutBeforeOrAfter state (EndedAs state) x
-        → CutInRun (setting_of files steps halts) d texts before after x
+        → CutInRun disk old (setting_of files steps halts) d texts before after x
     way state whole x left = inr (
       next,
       parts,
+      starts,
       ended (setting_of files steps halts) (opened_with next parts d) state texts (length texts) whole.printed refused before after
           (subst (λ (some : List (List ℕ)). RunTexts (setting_of files steps halts) (opened_with next parts d) some whole.printed refused state) (sym (take_all (length texts) texts (omega arith))) whole.ran)
           (first_all before after whole.printed whole.taken) (drop_all (length texts) texts (omega arith)) x (cut state x left),

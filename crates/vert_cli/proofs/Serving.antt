@@ -13,13 +13,14 @@ use Rattle.db_model.specs.Database.{Database}
 use Rattle.db_model.specs.State.{State}
 use Rattle.db_model.specs.Loading.{Files}
 use Rattle.db_model.specs.Run.{Setting}
-use Rattle.folder_model.specs.Reopening.{Reopens}
+use Rattle.store_step.specs.Opening.{IsStill}
 use Rattle.generated_load.specs.Load.{generated_script}
 use Rattle.vert_cli.specs.declared.faults.RunFault.{RunFault}
 use Rattle.vert_cli.specs.declared.faults.Status.{Status}
 use Rattle.run_words.specs.Words.{Source, from_file, generated, Wanted}
 use Rattle.vert_cli.specs.Runs.{setting_of, StopsInNext}
 use Rattle.vert_cli.specs.Ends.{status_of_end, NeverBegins, IsIdle, OpenedEnd, CutInRun, IsWithinLimits, IsOverLimits, IsServed, IsLarge, IsUnbegun, ScriptBegins, ScriptEnds, CutInScript, script_of, RunBegins, RunEnds, RunLeaves, IsAbsent, IsTooLarge, IsServableFrom, IsServable, ExactlyWhere, Counts, IsAnswered}
+use Rattle.vert_cli.proofs.Cuts.{leaves_still}
 use Rattle.vert_cli.proofs.FewTexts.{generated_within}
 
 -- ---- the status of a run that began
@@ -117,8 +118,8 @@ large_many script many = (script, refl, inr many)
 -- ---- the texts are those of the script
 
 pub texts_left : {D : Type 0} (disk : Ghosts D) (setting : Setting) (d : Database) (script : List ℕ) (texts : List (List ℕ)) (old new : D) (before after : Option (List ℕ))
-    → texts ≡ statement_texts script → Leaves disk (CutInRun setting d texts before after) old new → Leaves disk (CutInRun setting d (statement_texts script) before after) old new
-texts_left disk setting d script texts old new before after is leaves = subst (λ (ts : List (List ℕ)). Leaves disk (CutInRun setting d ts before after) old new) is leaves
+    → texts ≡ statement_texts script → Leaves disk (CutInRun disk old setting d texts before after) old new → Leaves disk (CutInRun disk old setting d (statement_texts script) before after) old new
+texts_left disk setting d script texts old new before after is leaves = subst (λ (ts : List (List ℕ)). Leaves disk (CutInRun disk old setting d ts before after) old new) is leaves
 
 within : (script : List ℕ) → length script ≤ 67108864 → length (statement_texts script) ≤ 4096 → IsServed (Some script) script
 within script bytes few = record { there = refl; limits = record { bytes = bytes; statements = few } }
@@ -167,12 +168,16 @@ pub held_ends : {D : Type 0} (disk : Ghosts D) (setting : Setting) (d : Database
 held_ends disk setting d held script old now before after status is ends = subst (λ (h : Option (List ℕ)). ScriptEnds status disk setting d h old now before after) (sym is) ends
 
 pub script_left : {D : Type 0} (disk : Ghosts D) (setting : Setting) (d : Database) (held : Option (List ℕ)) (script : List ℕ) (old new : D) (before after : Option (List ℕ))
-    → held ≡ Some script → Leaves disk (CutInRun setting d (statement_texts script) before after) old new → Leaves disk (CutInScript setting d held before after) old new
-script_left disk setting d held script old new before after is leaves = subst (λ (h : Option (List ℕ)). Leaves disk (CutInScript setting d h before after) old new) (sym is) leaves
+    → held ≡ Some script → Leaves disk (CutInRun disk old setting d (statement_texts script) before after) old new → Leaves disk (CutInScript disk old setting d held before after) old new
+script_left disk setting d held script old new before after is leaves = subst (λ (h : Option (List ℕ)). Leaves disk (CutInScript disk old setting d h before after) old new) (sym is) leaves
 
-script_still : (setting : Setting) (d : Database) (held : Option (List ℕ)) (before after : Option (List ℕ)) (x : Contents) → Reopens x d → CutInScript setting d held before after x
-script_still setting d None before after x opens = opens
-script_still setting d (Some script) before after x opens = inl opens
+script_still : {D : Type 0} (disk : Ghosts D) (old : D) (setting : Setting) (d : Database) (held : Option (List ℕ)) (before after : Option (List ℕ)) (x : Contents) → IsStill disk old d x → CutInScript disk old setting d held before after x
+script_still disk old setting d None before after x still = still
+script_still disk old setting d (Some script) before after x still = inl still
+
+-- a disk that wasn't called
+pub script_rests : {D : Type 0} (disk : Ghosts D) (setting : Setting) (d : Database) (held : Option (List ℕ)) (now : D) (before after : Option (List ℕ)) → Leaves disk (CutInScript disk now setting d held before after) now now
+script_rests disk setting d held now before after = leaves_still disk now (λ x image. script_still disk now setting d held before after x (inl image))
 
 -- ---- the words
 
@@ -196,9 +201,12 @@ short_end disk there None d now told = record { status_is = inr refl; idle = idl
 short_end disk there (Some w) d now told =
     unbegun_ends disk (setting_of there w.steps w.halts) d now told (script_of w.source there) Status.Memory (short (script_of w.source there))
 
-pub still_left : (there : Files) (words : Option Wanted) (d : Database) (before after : Option (List ℕ)) (x : Contents) → Reopens x d → RunLeaves there words d before after x
-still_left there None d before after x opens = opens
-still_left there (Some w) d before after x opens = script_still (setting_of there w.steps w.halts) d (script_of w.source there) before after x opens
+still_left : {D : Type 0} (disk : Ghosts D) (old : D) (there : Files) (words : Option Wanted) (d : Database) (before after : Option (List ℕ)) (x : Contents) → IsStill disk old d x → RunLeaves disk old there words d before after x
+still_left disk old there None d before after x still = still
+still_left disk old there (Some w) d before after x still = script_still disk old (setting_of there w.steps w.halts) d (script_of w.source there) before after x still
+
+pub run_rests : {D : Type 0} (disk : Ghosts D) (there : Files) (words : Option Wanted) (d : Database) (now : D) (before after : Option (List ℕ)) → Leaves disk (RunLeaves disk now there words d before after) now now
+run_rests disk there words d now before after = leaves_still disk now (λ x image. still_left disk now there words d before after x (inl image))
 
 -- words that name a script aren't misused
 pub begins_named : {D : Type 0} (held : Option (List ℕ)) (old now : D) (before after : Option (List ℕ)) (status : Status) → ScriptBegins status held old now before after → status ≡ Status.Usage → ⊥

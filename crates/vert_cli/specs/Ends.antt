@@ -2,7 +2,6 @@
 use Rattle.std.specs.Prelude.{ℕ, ◌≡◌, ◌⊎◌, ◌≤◌, ◌<◌, ⊤, List, length, Bool, true, false, Option, Some, None, Result, Ok, Err}
 use Rattle.common_laws.specs.Causes.{Rose}
 use Rattle.common_laws.specs.Maps.{Contents}
-use Rattle.col_disk.specs.Moved.{ImageOf}
 use Rattle.col_disk.specs.declared.disk.Disk.{Ghosts}
 use Rattle.sql_words.specs.Texts.{statement_texts}
 use Rattle.db_model.specs.Database.{Database}
@@ -10,12 +9,12 @@ use Rattle.db_model.specs.State.{State, opened_with}
 use Rattle.db_model.specs.Loading.{Files}
 use Rattle.db_model.specs.Run.{Setting, EndsUnless}
 use Rattle.folder_model.specs.Reopening.{Reopens}
-use Rattle.store_step.specs.Opening.{IsStartOf}
+use Rattle.store_step.specs.Opening.{IsStartOf, IsStill}
 use Rattle.vert_cli.specs.declared.faults.RunFault.{RunFault}
 use Rattle.vert_cli.specs.declared.faults.Status.{Status}
 use Rattle.run_words.specs.Words.{Source, from_file, generated, Wanted}
 use Rattle.generated_load.specs.Load.{generated_files, generated_script}
-use Rattle.vert_cli.specs.Runs.{setting_of, RanWhole, IsLeft, StoppedAt, IsOnTheWay}
+use Rattle.vert_cli.specs.Runs.{setting_of, RanWhole, LeavesNow, IsLeft, StoppedAt, IsOnTheWay}
 
 -- ---- the statuses
 
@@ -76,10 +75,6 @@ pub record IsOpenable {D : Type 0} (disk : Ghosts D) (now : D) (d : Database) : 
   pub told : disk.holds now ≡ Some files
   pub reopens : Reopens files d
 
--- and so does whatever a crash would leave of it
-abbrev pub IsSettled : {D : Type 0} → Ghosts D → D → Database → Type 0
-IsSettled disk now d = (x : Contents) → ImageOf disk now x → Reopens x d
-
 -- All these texts ran, and the sink took exactly what they print; then came the end, where the run doesn't halt without it; and whatever a
 -- crash leaves reopens to the tables that were left then, cut at their last good epoch.
 pub record RanScript {D : Type 0} (disk : Ghosts D) (setting : Setting) (start : State) (texts : List (List ℕ)) (refused : Bool) (now : D) (before after : Option (List ℕ)) : Type 0 where
@@ -94,11 +89,11 @@ abbrev pub TextsEnd : {D : Type 0} → Result Bool RunFault → Ghosts D → Set
 TextsEnd (Ok refused) disk setting start texts now before after = RanScript disk setting start texts refused now before after
 TextsEnd (Err fault) disk setting start texts now before after = StoppedAt disk setting start texts now before after fault
 
--- The opening stopped: the sink took nothing, and a crash leaves what it would have left before.
+-- The opening stopped: the sink took nothing, and a crash leaves what it would have left before, or the folder's database.
 pub record NotOpened {D : Type 0} (disk : Ghosts D) (d : Database) (old now : D) (before after : Option (List ℕ)) (ended : Result Bool RunFault) : Type 0 where
   pub fault : (ended ≡ Err RunFault.Disk) ⊎ (ended ≡ Err RunFault.Memory)
   pub untaken : after ≡ before
-  pub settled : IsSettled disk old d → IsSettled disk now d
+  pub left : LeavesNow disk (IsStill disk old d) now
 
 -- the numbers of the storage with which a folder opens
 abbrev pub StartsWith : {D : Type 0} → Ghosts D → D → ℕ → ℕ → Type 0
@@ -109,9 +104,9 @@ abbrev pub OpenedEnd : {D : Type 0} → Result Bool RunFault → Ghosts D → Se
 OpenedEnd ended disk setting d texts old now before after =
     NotOpened disk d old now before after ended ⊎ ((next : ℕ) × (parts : ℕ) × StartsWith disk old next parts × TextsEnd ended disk setting (opened_with next parts d) texts now before after)
 
--- whatever a crash leaves while the texts run over a folder's database
-abbrev pub CutInRun : Setting → Database → List (List ℕ) → Option (List ℕ) → Option (List ℕ) → Contents → Type 0
-CutInRun setting d texts before after x = Reopens x d ⊎ ((next : ℕ) × (parts : ℕ) × IsOnTheWay setting (opened_with next parts d) texts before after x)
+-- whatever a crash leaves while the texts run over a folder's database: in the opening what it would have left before
+abbrev pub CutInRun : {D : Type 0} → Ghosts D → D → Setting → Database → List (List ℕ) → Option (List ℕ) → Option (List ℕ) → Contents → Type 0
+CutInRun disk old setting d texts before after x = IsStill disk old d x ⊎ ((next : ℕ) × (parts : ℕ) × StartsWith disk old next parts × IsOnTheWay setting (opened_with next parts d) texts before after x)
 
 -- ---- the script
 
@@ -153,9 +148,9 @@ abbrev pub ScriptEnds : {D : Type 0} → Status → Ghosts D → Setting → Dat
 ScriptEnds status disk setting d held old now before after = (IsUnbegun status held × IsIdle old now before after) ⊎ RanServed status disk setting d held old now before after
 
 -- what a crash leaves of it: the folder as it opened, or on the way of the script that is there
-abbrev pub CutInScript : Setting → Database → Option (List ℕ) → Option (List ℕ) → Option (List ℕ) → Contents → Type 0
-CutInScript setting d None before after x = Reopens x d
-CutInScript setting d (Some script) before after x = CutInRun setting d (statement_texts script) before after x
+abbrev pub CutInScript : {D : Type 0} → Ghosts D → D → Setting → Database → Option (List ℕ) → Option (List ℕ) → Option (List ℕ) → Contents → Type 0
+CutInScript disk old setting d None before after x = IsStill disk old d x
+CutInScript disk old setting d (Some script) before after x = CutInRun disk old setting d (statement_texts script) before after x
 
 -- ---- the words
 
@@ -190,9 +185,9 @@ RunEnds status disk files None d old now before after = IsMisused status old now
 RunEnds status disk files (Some w) d old now before after = ScriptEnds status disk (setting_of files w.steps w.halts) d (script_of w.source files) old now before after
 
 -- and what a crash leaves of it
-abbrev pub RunLeaves : Files → Option Wanted → Database → Option (List ℕ) → Option (List ℕ) → Contents → Type 0
-RunLeaves files None d before after x = Reopens x d
-RunLeaves files (Some w) d before after x = CutInScript (setting_of files w.steps w.halts) d (script_of w.source files) before after x
+abbrev pub RunLeaves : {D : Type 0} → Ghosts D → D → Files → Option Wanted → Database → Option (List ℕ) → Option (List ℕ) → Contents → Type 0
+RunLeaves disk old files None d before after x = IsStill disk old d x
+RunLeaves disk old files (Some w) d before after x = CutInScript disk old (setting_of files w.steps w.halts) d (script_of w.source files) before after x
 
 -- no file has the name that the words name
 abbrev pub IsAbsent : Option Wanted → Files → Type 0

@@ -11,7 +11,7 @@ ghost use Rattle.run_words.specs.Words.{wanted};
 ghost use Rattle.generated_load.specs.Load.{generated_files, generated_script};
 ghost use Rattle.vert_cli.specs.declared.faults.Status.TheVariants.{Usage as usage_refused, NoScript as no_script, SinkFault as sink_fault, ReadFault as read_fault, DiskFault as disk_fault, Memory as no_memory, TooLarge as too_large};
 ghost use Rattle.vert_cli.specs.Runs.{setting_of};
-ghost use Rattle.vert_cli.specs.Ends.{AreFilesFor, AreFilesOf, CutInScript, ExactlyWhere, IsAbsent, IsAnswered, IsIdle, IsOpenable, IsServable, IsSettled, IsTooLarge, NeverBegins, RunBegins, RunEnds, RunLeaves, ScriptBegins, ScriptEnds, script_of};
+ghost use Rattle.vert_cli.specs.Ends.{AreFilesFor, AreFilesOf, CutInScript, ExactlyWhere, IsAbsent, IsAnswered, IsIdle, IsOpenable, IsServable, IsTooLarge, NeverBegins, RunBegins, RunEnds, RunLeaves, ScriptBegins, ScriptEnds, script_of};
 
 use crate::faults::Status;
 use crate::script::run_script;
@@ -45,8 +45,8 @@ pub fn run<F: Files, S: Sink, D: Disk>(
     ensures too_large { (there : LoadFiles) → AreFilesOf (wanted (map string_bytes words.now)) (F.content files.old) there → ExactlyWhere result too_large (IsTooLarge (wanted (map string_bytes words.now)) there) }
     ensures output { (there : LoadFiles) (d : Logical) → AreFilesOf (wanted (map string_bytes words.now)) (F.content files.old) there → IsOpenable ⟦<D as Disk>⟧ disk.old d
         → RunEnds result ⟦<D as Disk>⟧ there (wanted (map string_bytes words.now)) d disk.old disk.new (S.taken out.old) (S.taken out.new) }
-    ensures any_moment { (there : LoadFiles) (d : Logical) → AreFilesOf (wanted (map string_bytes words.now)) (F.content files.old) there → IsOpenable ⟦<D as Disk>⟧ disk.old d → IsSettled ⟦<D as Disk>⟧ disk.old d
-        → Leaves ⟦<D as Disk>⟧ (RunLeaves there (wanted (map string_bytes words.now)) d (S.taken out.old) (S.taken out.new)) disk.old disk.new }
+    ensures any_moment { (there : LoadFiles) (d : Logical) → AreFilesOf (wanted (map string_bytes words.now)) (F.content files.old) there → IsOpenable ⟦<D as Disk>⟧ disk.old d
+        → Leaves ⟦<D as Disk>⟧ (RunLeaves ⟦<D as Disk>⟧ disk.old there (wanted (map string_bytes words.now)) d (S.taken out.old) (S.taken out.new)) disk.old disk.new }
     ensures complete { (there : LoadFiles) (d : Logical) → AreFilesOf (wanted (map string_bytes words.now)) (F.content files.old) there → IsOpenable ⟦<D as Disk>⟧ disk.old d → IsServable (wanted (map string_bytes words.now)) there
         → IsAnswered result (record { sink = S.faults out.old; files = F.faults files.old; disk = D.faults disk.old }) (record { sink = S.faults out.new; files = F.faults files.new; disk = D.faults disk.new }) }
     ensures idle { NeverBegins result → IsIdle disk.old disk.new (S.taken out.old) (S.taken out.new) }
@@ -86,8 +86,8 @@ fn run_source<F: Files, S: Sink, D: Disk>(
     ensures begins { (there : LoadFiles) → AreFilesFor (source_told source) (F.content files.old) there → ScriptBegins result (script_of (source_told source) there) disk.old disk.new (S.taken out.old) (S.taken out.new) }
     ensures ends { (there : LoadFiles) (d : Logical) → AreFilesFor (source_told source) (F.content files.old) there → IsOpenable ⟦<D as Disk>⟧ disk.old d
         → ScriptEnds result ⟦<D as Disk>⟧ (setting_of there steps halts) d (script_of (source_told source) there) disk.old disk.new (S.taken out.old) (S.taken out.new) }
-    ensures any_moment { (there : LoadFiles) (d : Logical) → AreFilesFor (source_told source) (F.content files.old) there → IsOpenable ⟦<D as Disk>⟧ disk.old d → IsSettled ⟦<D as Disk>⟧ disk.old d
-        → Leaves ⟦<D as Disk>⟧ (CutInScript (setting_of there steps halts) d (script_of (source_told source) there) (S.taken out.old) (S.taken out.new)) disk.old disk.new }
+    ensures any_moment { (there : LoadFiles) (d : Logical) → AreFilesFor (source_told source) (F.content files.old) there → IsOpenable ⟦<D as Disk>⟧ disk.old d
+        → Leaves ⟦<D as Disk>⟧ (CutInScript ⟦<D as Disk>⟧ disk.old (setting_of there steps halts) d (script_of (source_told source) there) (S.taken out.old) (S.taken out.new)) disk.old disk.new }
     ensures named { result ≢ usage_refused }
     ensures idle { NeverBegins result → IsIdle disk.old disk.new (S.taken out.old) (S.taken out.new) }
     ensures content { F.content files.new ≡ F.content files.old }
@@ -119,8 +119,8 @@ fn run_generated<S: Sink, D: Disk>(
     ensures begins { ScriptBegins result (Some generated_script) disk.old disk.new (S.taken out.old) (S.taken out.new) }
     ensures ends { (d : Logical) → IsOpenable ⟦<D as Disk>⟧ disk.old d
         → ScriptEnds result ⟦<D as Disk>⟧ (setting_of (generated_files lines seed) steps halts) d (Some generated_script) disk.old disk.new (S.taken out.old) (S.taken out.new) }
-    ensures any_moment { (d : Logical) → IsOpenable ⟦<D as Disk>⟧ disk.old d → IsSettled ⟦<D as Disk>⟧ disk.old d
-        → Leaves ⟦<D as Disk>⟧ (CutInScript (setting_of (generated_files lines seed) steps halts) d (Some generated_script) (S.taken out.old) (S.taken out.new)) disk.old disk.new }
+    ensures any_moment { (d : Logical) → IsOpenable ⟦<D as Disk>⟧ disk.old d
+        → Leaves ⟦<D as Disk>⟧ (CutInScript ⟦<D as Disk>⟧ disk.old (setting_of (generated_files lines seed) steps halts) d (Some generated_script) (S.taken out.old) (S.taken out.new)) disk.old disk.new }
     ensures named { result ≢ usage_refused }
     ensures idle { NeverBegins result → IsIdle disk.old disk.new (S.taken out.old) (S.taken out.new) }
     ensures sink { result ≡ sink_fault → Rose (S.faults out.old) (S.faults out.new) }
@@ -146,8 +146,8 @@ fn run_file<F: Files, S: Sink, D: Disk>(
     ensures begins { (there : LoadFiles) → F.content files.old ≡ Some there → ScriptBegins result (there name.now) disk.old disk.new (S.taken out.old) (S.taken out.new) }
     ensures ends { (there : LoadFiles) (d : Logical) → F.content files.old ≡ Some there → IsOpenable ⟦<D as Disk>⟧ disk.old d
         → ScriptEnds result ⟦<D as Disk>⟧ (setting_of there steps halts) d (there name.now) disk.old disk.new (S.taken out.old) (S.taken out.new) }
-    ensures any_moment { (there : LoadFiles) (d : Logical) → F.content files.old ≡ Some there → IsOpenable ⟦<D as Disk>⟧ disk.old d → IsSettled ⟦<D as Disk>⟧ disk.old d
-        → Leaves ⟦<D as Disk>⟧ (CutInScript (setting_of there steps halts) d (there name.now) (S.taken out.old) (S.taken out.new)) disk.old disk.new }
+    ensures any_moment { (there : LoadFiles) (d : Logical) → F.content files.old ≡ Some there → IsOpenable ⟦<D as Disk>⟧ disk.old d
+        → Leaves ⟦<D as Disk>⟧ (CutInScript ⟦<D as Disk>⟧ disk.old (setting_of there steps halts) d (there name.now) (S.taken out.old) (S.taken out.new)) disk.old disk.new }
     ensures named { result ≢ usage_refused }
     ensures idle { NeverBegins result → IsIdle disk.old disk.new (S.taken out.old) (S.taken out.new) }
     ensures content { F.content files.new ≡ F.content files.old }

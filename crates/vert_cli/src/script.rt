@@ -12,7 +12,7 @@ ghost use Rattle.store_step.specs.Running.{IsState};
 ghost use Rattle.vert_cli.specs.declared.faults.RunFault.TheVariants.{Sink as sink_failed, Disk as disk_failed, Read as read_failed, Halted as halted};
 ghost use Rattle.vert_cli.specs.declared.faults.Status.TheVariants.{SinkFault as sink_fault, DiskFault as disk_fault, ReadFault as read_fault};
 ghost use Rattle.vert_cli.specs.Runs.{RanText, RanTexts, setting_of};
-ghost use Rattle.vert_cli.specs.Ends.{CutInRun, IsIdle, IsOpenable, IsSettled, NeverBegins, OpenedEnd, ScriptBegins, ScriptEnds};
+ghost use Rattle.vert_cli.specs.Ends.{CutInRun, IsIdle, IsOpenable, NeverBegins, OpenedEnd, ScriptBegins, ScriptEnds};
 
 use crate::faults::{RunFault, Status, either, fault_of, status_of_end};
 use crate::session::Session;
@@ -39,8 +39,8 @@ pub(crate) fn run_script<F: Files, S: Sink, D: Disk>(
     ensures begins { ScriptBegins result (Some script.now) disk.old disk.new (S.taken out.old) (S.taken out.new) }
     ensures ends { (there : LoadFiles) (d : Logical) → F.content files.old ≡ Some there → IsOpenable ⟦<D as Disk>⟧ disk.old d
         → ScriptEnds result ⟦<D as Disk>⟧ (setting_of there steps halts) d (Some script.now) disk.old disk.new (S.taken out.old) (S.taken out.new) }
-    ensures any_moment { (there : LoadFiles) (d : Logical) → F.content files.old ≡ Some there → IsOpenable ⟦<D as Disk>⟧ disk.old d → IsSettled ⟦<D as Disk>⟧ disk.old d
-        → Leaves ⟦<D as Disk>⟧ (CutInRun (setting_of there steps halts) d (statement_texts script.now) (S.taken out.old) (S.taken out.new)) disk.old disk.new }
+    ensures any_moment { (there : LoadFiles) (d : Logical) → F.content files.old ≡ Some there → IsOpenable ⟦<D as Disk>⟧ disk.old d
+        → Leaves ⟦<D as Disk>⟧ (CutInRun ⟦<D as Disk>⟧ disk.old (setting_of there steps halts) d (statement_texts script.now) (S.taken out.old) (S.taken out.new)) disk.old disk.new }
     ensures idle { NeverBegins result → IsIdle disk.old disk.new (S.taken out.old) (S.taken out.new) }
     ensures content { F.content files.new ≡ F.content files.old }
     ensures sink { result ≡ sink_fault → Rose (S.faults out.old) (S.faults out.new) }
@@ -84,8 +84,8 @@ fn run_opened<F: Files, S: Sink, D: Disk>(
     requires within { All (LiesWithin (length script.now)) spans.now }
     ensures ends { (there : LoadFiles) (d : Logical) → F.content files.old ≡ Some there → IsOpenable ⟦<D as Disk>⟧ disk.old d
         → OpenedEnd result ⟦<D as Disk>⟧ (setting_of there steps halts) d (map (cut script.now) spans.now) disk.old disk.new (S.taken out.old) (S.taken out.new) }
-    ensures any_moment { (there : LoadFiles) (d : Logical) → F.content files.old ≡ Some there → IsOpenable ⟦<D as Disk>⟧ disk.old d → IsSettled ⟦<D as Disk>⟧ disk.old d
-        → Leaves ⟦<D as Disk>⟧ (CutInRun (setting_of there steps halts) d (map (cut script.now) spans.now) (S.taken out.old) (S.taken out.new)) disk.old disk.new }
+    ensures any_moment { (there : LoadFiles) (d : Logical) → F.content files.old ≡ Some there → IsOpenable ⟦<D as Disk>⟧ disk.old d
+        → Leaves ⟦<D as Disk>⟧ (CutInRun ⟦<D as Disk>⟧ disk.old (setting_of there steps halts) d (map (cut script.now) spans.now) (S.taken out.old) (S.taken out.new)) disk.old disk.new }
     ensures content { F.content files.new ≡ F.content files.old }
     ensures sink { IsErrOf result sink_failed → Rose (S.faults out.old) (S.faults out.new) }
     ensures read { IsErrOf result read_failed → Rose (F.faults files.old) (F.faults files.new) }

@@ -4,13 +4,13 @@
 ghost use Rattle.std.specs.Prelude.{◌≡◌, ◌≤◌, ◌||◌, ℕ, Some, false, true, IfOk, IfErr, OnOk, IsErrOf};
 ghost use Rattle.common_laws.specs.Causes.{Rose, HasCause};
 ghost use Rattle.common_laws.specs.Maps.{Contents};
-ghost use Rattle.col_disk.specs.Moved.{ImageOf, Leaves};
+ghost use Rattle.col_disk.specs.Moved.{Leaves};
 ghost use Rattle.col_disk.specs.declared.disk.StoreFault.TheVariants.{Disk as disk_failed};
 ghost use Rattle.db_model.specs.Database.{Database as Logical};
 ghost use Rattle.db_model.specs.Loading.{Files as LoadFiles};
 ghost use Rattle.db_model.specs.State.{State, opened_with};
 ghost use Rattle.folder_model.specs.Reopening.{Reopens};
-ghost use Rattle.store_step.specs.Opening.{BlamesOpening, IsStartOf};
+ghost use Rattle.store_step.specs.Opening.{BlamesOpening, IsStartOf, IsStill};
 ghost use Rattle.store_step.specs.Running.{Running, IsState};
 ghost use Rattle.store_step.specs.Steps.{Ends};
 ghost use Rattle.vert_cli.specs.declared.faults.RunFault.TheVariants.{Sink as sink_failed, Disk as stopped, Read as read_failed, Halted as halted};
@@ -47,7 +47,7 @@ impl Session {
     pub fn open<D: Disk>(alloc: Global, disk: &mut D) -> Result<Session, StoreFault>
         ensures opened { IfOk result (λ s. (m : Contents) (d : Logical) → D.holds disk.old ≡ Some m → Reopens m d → (next : ℕ) × (parts : ℕ) × IsStartOf m next parts × IsState ⟦<D as Disk>⟧ s.running disk.new (opened_with next parts d)) }
         ensures live { IfOk result (λ s. s.halted ≡ false) }
-        ensures any_moment { (m : Contents) (d : Logical) → D.holds disk.old ≡ Some m → ((x : Contents) → ImageOf ⟦<D as Disk>⟧ disk.old x → Reopens x d) → Leaves ⟦<D as Disk>⟧ (λ x. Reopens x d) disk.old disk.new }
+        ensures any_moment { (m : Contents) (d : Logical) → D.holds disk.old ≡ Some m → Reopens m d → Leaves ⟦<D as Disk>⟧ (IsStill ⟦<D as Disk>⟧ disk.old d) disk.old disk.new }
         ensures blamed { IfErr result (BlamesOpening (D.holds disk.old)) }
         ensures cause { HasCause disk_failed (D.faults disk.old) (D.faults disk.new) result }
     {

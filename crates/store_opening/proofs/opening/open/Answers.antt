@@ -1,5 +1,6 @@
+use Rattle.std.proofs.Common.{inl, inr}
 use Rattle.std.proofs.lemmas.Result.{IfOk-weaker}
-use Rattle.col_disk.proofs.Moving.{leaves_join}
+use Rattle.col_disk.proofs.Moving.{leaves_join, leaves_wider}
 use Rattle.store_opening.proofs.Quieted.{fresh_stands, opened_quiet, leaves_looked}
 use Rattle.store_opening.proofs.Started.{fresh_numbers, root_numbers}
 use Rattle.store_opening.proofs.opening.open.Goals as goal
@@ -30,10 +31,16 @@ returns-in-Ok-Root-clause-numbers g c =
     (opened_quiet g.D.Disk {old = c.args.disk.now} {now = c.open.new.disk} k.version k.catalogue k.field-0 m d k.field-0-is told c.open.ensures.kept (k.ensures.found m told) (k.ensures.settled m told) r)))
     c.open_root.ensures.numbers
 
+pub returns-in-Ok-Fresh-clause-any_moment : goal.returns-in-Ok-Fresh-clause-any_moment
+returns-in-Ok-Fresh-clause-any_moment g c = λ m d told r. leaves_looked g.D.Disk {old = c.args.disk.now} {new = c.open.new.disk} (λ x is. inl is) c.open.ensures.looks
+
 pub returns-in-Ok-Root-clause-any_moment : goal.returns-in-Ok-Root-clause-any_moment
-returns-in-Ok-Root-clause-any_moment g c = λ m d told each.
+returns-in-Ok-Root-clause-any_moment g c = λ m d told r.
     let k = c.in-Ok-Root in
-    leaves_join g.D.Disk (leaves_looked g.D.Disk {old = c.args.disk.now} {new = c.open.new.disk} each c.open.ensures.looks)
+    leaves_join g.D.Disk (leaves_looked g.D.Disk {old = c.args.disk.now} {new = c.open.new.disk} (λ x is. inl is) c.open.ensures.looks)
+    (leaves_wider g.D.Disk (λ x reopens. inr reopens)
     (c.open_root.ensures.any_moment m d
-    (opened_quiet g.D.Disk {old = c.args.disk.now} {now = c.open.new.disk} k.version k.catalogue k.field-0 m d k.field-0-is told c.open.ensures.kept (k.ensures.found m told) (k.ensures.settled m told)
-    (each m (g.D.Disk.laws.shows c.args.disk.now m told))))
+    (opened_quiet g.D.Disk {old = c.args.disk.now} {now = c.open.new.disk} k.version k.catalogue k.field-0 m d k.field-0-is told c.open.ensures.kept (k.ensures.found m told) (k.ensures.settled m told) r)))
+
+pub returns-in-Err-clause-any_moment : goal.returns-in-Err-clause-any_moment
+returns-in-Err-clause-any_moment g c = λ m d told r. leaves_looked g.D.Disk {old = c.args.disk.now} {new = c.open.new.disk} (λ x is. inl is) c.open.ensures.looks

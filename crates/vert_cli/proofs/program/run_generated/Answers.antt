@@ -21,10 +21,10 @@ returns-clause-ends g c = λ d openable.
     c.run_script.result is (c.run_script.ensures.ends (generated_files c.args.lines c.args.seed) d c.new-files.ensures.content openable)
 
 pub returns-clause-any_moment : goal.returns-clause-any_moment
-returns-clause-any_moment g c = λ d openable images.
+returns-clause-any_moment g c = λ d openable.
     let is : ◌≡◌ {A = Option (List ℕ)} (Some generated_script) (Some c.script.result.now) = ap Some (sym c.script.ensures) in
     script_left g.D.Disk (setting_of (generated_files c.args.lines c.args.seed) c.args.steps c.args.halts) d (Some generated_script) c.script.result.now c.args.disk.now c.run_script.new.disk (g.S.Sink.taken c.args.out.now) (g.S.Sink.taken c.run_script.new.out) is
-    (c.run_script.ensures.any_moment (generated_files c.args.lines c.args.seed) d c.new-files.ensures.content openable images)
+    (c.run_script.ensures.any_moment (generated_files c.args.lines c.args.seed) d c.new-files.ensures.content openable)
 
 pub returns-clause-named : goal.returns-clause-named
 returns-clause-named g c = λ is.

@@ -10,18 +10,18 @@ use Rattle.vert_cli.specs.Ends.{AreFilesFor, CutInScript, ScriptBegins, ScriptEn
 use Rattle.vert_cli.proofs.program.run_source.Goals as goal
 
 pub returns-in-Script-clause-any_moment : goal.returns-in-Script-clause-any_moment
-returns-in-Script-clause-any_moment g c = λ there d from openable images.
+returns-in-Script-clause-any_moment g c = λ there d from openable.
     let is : source_told c.args.source ≡ from_file (string_bytes c.in-Script.name) = ap source_told c.in-Script.is in
     let content : AreFilesFor (from_file (string_bytes c.in-Script.name)) (g.F.Files.content c.args.files.now) there = subst (λ (s : Source). AreFilesFor s (g.F.Files.content c.args.files.now) there) is from in
-    let named = subst (λ (n : List ℕ). Leaves g.D.Disk (CutInScript (setting_of there c.args.steps c.args.halts) d (there n) (g.S.Sink.taken c.args.out.now) (g.S.Sink.taken c.run_file.new.out)) c.args.disk.now c.run_file.new.disk) c.as_str.ensures.value (c.run_file.ensures.any_moment there d content openable images) in
-    subst (λ (s : Source). Leaves g.D.Disk (CutInScript (setting_of there c.args.steps c.args.halts) d (script_of s there) (g.S.Sink.taken c.args.out.now) (g.S.Sink.taken c.run_file.new.out)) c.args.disk.now c.run_file.new.disk) (sym is) named
+    let named = subst (λ (n : List ℕ). Leaves g.D.Disk (CutInScript g.D.Disk c.args.disk.now (setting_of there c.args.steps c.args.halts) d (there n) (g.S.Sink.taken c.args.out.now) (g.S.Sink.taken c.run_file.new.out)) c.args.disk.now c.run_file.new.disk) c.as_str.ensures.value (c.run_file.ensures.any_moment there d content openable) in
+    subst (λ (s : Source). Leaves g.D.Disk (CutInScript g.D.Disk c.args.disk.now (setting_of there c.args.steps c.args.halts) d (script_of s there) (g.S.Sink.taken c.args.out.now) (g.S.Sink.taken c.run_file.new.out)) c.args.disk.now c.run_file.new.disk) (sym is) named
 
 pub returns-in-Generated-clause-any_moment : goal.returns-in-Generated-clause-any_moment
-returns-in-Generated-clause-any_moment g c = λ there d from openable images.
+returns-in-Generated-clause-any_moment g c = λ there d from openable.
     let is : source_told c.args.source ≡ generated c.in-Generated.lines c.in-Generated.seed = ap source_told c.in-Generated.is in
     let loaded : AreFilesFor (generated c.in-Generated.lines c.in-Generated.seed) (g.F.Files.content c.args.files.now) there = subst (λ (s : Source). AreFilesFor s (g.F.Files.content c.args.files.now) there) is from in
-    let left = subst (λ (f : Files). Leaves g.D.Disk (CutInScript (setting_of f c.args.steps c.args.halts) d (Some generated_script) (g.S.Sink.taken c.args.out.now) (g.S.Sink.taken c.run_generated.new.out)) c.args.disk.now c.run_generated.new.disk) (sym loaded) (c.run_generated.ensures.any_moment d openable images) in
-    subst (λ (s : Source). Leaves g.D.Disk (CutInScript (setting_of there c.args.steps c.args.halts) d (script_of s there) (g.S.Sink.taken c.args.out.now) (g.S.Sink.taken c.run_generated.new.out)) c.args.disk.now c.run_generated.new.disk) (sym is) left
+    let left = subst (λ (f : Files). Leaves g.D.Disk (CutInScript g.D.Disk c.args.disk.now (setting_of f c.args.steps c.args.halts) d (Some generated_script) (g.S.Sink.taken c.args.out.now) (g.S.Sink.taken c.run_generated.new.out)) c.args.disk.now c.run_generated.new.disk) (sym loaded) (c.run_generated.ensures.any_moment d openable) in
+    subst (λ (s : Source). Leaves g.D.Disk (CutInScript g.D.Disk c.args.disk.now (setting_of there c.args.steps c.args.halts) d (script_of s there) (g.S.Sink.taken c.args.out.now) (g.S.Sink.taken c.run_generated.new.out)) c.args.disk.now c.run_generated.new.disk) (sym is) left
 
 pub returns-in-Generated-clause-begins : goal.returns-in-Generated-clause-begins
 returns-in-Generated-clause-begins g c = λ there from.

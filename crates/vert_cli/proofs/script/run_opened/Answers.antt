@@ -14,12 +14,12 @@ returns-in-Err-clause-ends g c = λ there d content openable.
     let texts = map (cut c.args.script.now) c.args.spans.now in
     let told = g.S.Sink.taken c.args.out.now in
     subst (λ (fault : RunFault). OpenedEnd (Err fault) g.D.Disk setting d texts c.args.disk.now c.open.new.disk told told) (sym c.fault_of.ensures)
-    (not_opened g.D.Disk setting d texts c.args.disk.now c.open.new.disk c.in-Err.fault told openable c.in-Err.ensures.blamed (λ settled. c.in-Err.ensures.any_moment openable.files d openable.told settled))
+    (not_opened g.D.Disk setting d texts c.args.disk.now c.open.new.disk c.in-Err.fault told openable c.in-Err.ensures.blamed (c.in-Err.ensures.any_moment openable.files d openable.told openable.reopens))
 
 pub returns-in-Err-clause-any_moment : goal.returns-in-Err-clause-any_moment
-returns-in-Err-clause-any_moment g c = λ there d content openable images.
+returns-in-Err-clause-any_moment g c = λ there d content openable.
     opening_leaves g.D.Disk (setting_of there c.args.steps c.args.halts) d (map (cut c.args.script.now) c.args.spans.now) c.args.disk.now c.open.new.disk (g.S.Sink.taken c.args.out.now) (g.S.Sink.taken c.args.out.now)
-    (c.in-Err.ensures.any_moment openable.files d openable.told images)
+    (c.in-Err.ensures.any_moment openable.files d openable.told openable.reopens)
 
 pub returns-in-Err-run_spans-clause-ends : goal.returns-in-Err-run_spans-clause-ends
 returns-in-Err-run_spans-clause-ends g c = λ there d content openable.
@@ -29,11 +29,11 @@ returns-in-Err-run_spans-clause-ends g c = λ there d content openable.
     (starts_with g.D.Disk openable.files c.args.disk.now start.0 start.1 openable.told start.2) (c.in-Err-run_spans.ensures.ran there (opened_with start.0 start.1 d) c.args.halts content start.3)
 
 pub returns-in-Err-run_spans-clause-any_moment : goal.returns-in-Err-run_spans-clause-any_moment
-returns-in-Err-run_spans-clause-any_moment g c = λ there d content openable images.
+returns-in-Err-run_spans-clause-any_moment g c = λ there d content openable.
     let start = c.in-Ok.ensures.opened openable.files d openable.told openable.reopens in
     let ran = c.in-Err-run_spans.ensures.ran there (opened_with start.0 start.1 d) c.args.halts content start.3 in
     texts_leave g.D.Disk (setting_of there c.args.steps c.args.halts) d (map (cut c.args.script.now) c.args.spans.now) start.0 start.1 c.args.disk.now c.open.new.disk c.run_spans.new.disk (g.S.Sink.taken c.args.out.now) (g.S.Sink.taken c.run_spans.new.out)
-    (c.in-Ok.ensures.any_moment openable.files d openable.told images) ran.any_moment
+    (starts_with g.D.Disk openable.files c.args.disk.now start.0 start.1 openable.told start.2) (c.in-Ok.ensures.any_moment openable.files d openable.told openable.reopens) ran.any_moment
 
 pub returns-then-halts-clause-ends : goal.returns-then-halts-clause-ends
 returns-then-halts-clause-ends g c = λ there d content openable.
@@ -42,11 +42,11 @@ returns-then-halts-clause-ends g c = λ there d content openable.
     (g.S.Sink.taken c.args.out.now) (g.S.Sink.taken c.run_spans.new.out) (starts_with g.D.Disk openable.files c.args.disk.now start.0 start.1 openable.told start.2) c.if-halts.true (c.in-Ok-run_spans.ensures.ran there (opened_with start.0 start.1 d) c.args.halts content start.3)
 
 pub returns-then-halts-clause-any_moment : goal.returns-then-halts-clause-any_moment
-returns-then-halts-clause-any_moment g c = λ there d content openable images.
+returns-then-halts-clause-any_moment g c = λ there d content openable.
     let start = c.in-Ok.ensures.opened openable.files d openable.told openable.reopens in
     let ran = c.in-Ok-run_spans.ensures.ran there (opened_with start.0 start.1 d) c.args.halts content start.3 in
     texts_leave g.D.Disk (setting_of there c.args.steps c.args.halts) d (map (cut c.args.script.now) c.args.spans.now) start.0 start.1 c.args.disk.now c.open.new.disk c.run_spans.new.disk (g.S.Sink.taken c.args.out.now) (g.S.Sink.taken c.run_spans.new.out)
-    (c.in-Ok.ensures.any_moment openable.files d openable.told images) ran.any_moment
+    (starts_with g.D.Disk openable.files c.args.disk.now start.0 start.1 openable.told start.2) (c.in-Ok.ensures.any_moment openable.files d openable.told openable.reopens) ran.any_moment
 
 pub returns-in-Ok-close-clause-ends : goal.returns-in-Ok-close-clause-ends
 returns-in-Ok-close-clause-ends g c = λ there d content openable.
@@ -56,10 +56,10 @@ returns-in-Ok-close-clause-ends g c = λ there d content openable.
     (c.in-Ok-run_spans.ensures.ran there (opened_with start.0 start.1 d) c.args.halts content start.3) (λ state here. c.in-Ok-close.ensures.ends state here)
 
 pub returns-in-Ok-close-clause-any_moment : goal.returns-in-Ok-close-clause-any_moment
-returns-in-Ok-close-clause-any_moment g c = λ there d content openable images.
+returns-in-Ok-close-clause-any_moment g c = λ there d content openable.
     let start = c.in-Ok.ensures.opened openable.files d openable.told openable.reopens in
     end_leaves g.D.Disk there c.args.steps c.args.halts d (map (cut c.args.script.now) c.args.spans.now) start.0 start.1 c.run_spans.new.session.running c.args.disk.now c.open.new.disk c.run_spans.new.disk c.close.new.disk c.in-Ok-run_spans.refused _
-    (g.S.Sink.taken c.args.out.now) (g.S.Sink.taken c.run_spans.new.out) c.if-halts.false (c.in-Ok.ensures.any_moment openable.files d openable.told images)
+    (g.S.Sink.taken c.args.out.now) (g.S.Sink.taken c.run_spans.new.out) (starts_with g.D.Disk openable.files c.args.disk.now start.0 start.1 openable.told start.2) c.if-halts.false (c.in-Ok.ensures.any_moment openable.files d openable.told openable.reopens)
     (c.in-Ok-run_spans.ensures.ran there (opened_with start.0 start.1 d) c.args.halts content start.3) (λ state here. c.in-Ok-close.ensures.ends state here)
 
 pub returns-in-Err-close-clause-ends : goal.returns-in-Err-close-clause-ends
@@ -74,8 +74,8 @@ returns-in-Err-close-clause-ends g c = λ there d content openable.
     (c.in-Ok-run_spans.ensures.ran there (opened_with start.0 start.1 d) c.args.halts content start.3) (λ state here. c.in-Err-close.ensures.ends state here))
 
 pub returns-in-Err-close-clause-any_moment : goal.returns-in-Err-close-clause-any_moment
-returns-in-Err-close-clause-any_moment g c = λ there d content openable images.
+returns-in-Err-close-clause-any_moment g c = λ there d content openable.
     let start = c.in-Ok.ensures.opened openable.files d openable.told openable.reopens in
     end_leaves g.D.Disk there c.args.steps c.args.halts d (map (cut c.args.script.now) c.args.spans.now) start.0 start.1 c.run_spans.new.session.running c.args.disk.now c.open.new.disk c.run_spans.new.disk c.close.new.disk c.in-Ok-run_spans.refused _
-    (g.S.Sink.taken c.args.out.now) (g.S.Sink.taken c.run_spans.new.out) c.if-halts.false (c.in-Ok.ensures.any_moment openable.files d openable.told images)
+    (g.S.Sink.taken c.args.out.now) (g.S.Sink.taken c.run_spans.new.out) (starts_with g.D.Disk openable.files c.args.disk.now start.0 start.1 openable.told start.2) c.if-halts.false (c.in-Ok.ensures.any_moment openable.files d openable.told openable.reopens)
     (c.in-Ok-run_spans.ensures.ran there (opened_with start.0 start.1 d) c.args.halts content start.3) (λ state here. c.in-Err-close.ensures.ends state here)

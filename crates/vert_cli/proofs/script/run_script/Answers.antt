@@ -4,7 +4,7 @@ use Rattle.std.proofs.lemmas.List.{length-map}
 use Rattle.sql_words.specs.Texts.{cut, statement_texts}
 use Rattle.vert_cli.specs.declared.faults.Status.{Status}
 use Rattle.vert_cli.specs.Runs.{setting_of}
-use Rattle.vert_cli.proofs.Serving.{disk_only, large, large_many, never_begun, read_only, served_begins, served_ends, short, sink_only, texts_left, unbegun, unbegun_ends}
+use Rattle.vert_cli.proofs.Serving.{disk_only, large, large_many, never_begun, read_only, script_rests, served_begins, served_ends, short, sink_only, texts_left, unbegun, unbegun_ends}
 use Rattle.vert_cli.proofs.script.run_script.Goals as goal
 
 pub returns-in-Err-clause-begins : goal.returns-in-Err-clause-begins
@@ -48,9 +48,9 @@ returns-clause-ends g c = λ there d content openable.
     c.status_of_end.result c.run_opened.result c.requires few c.status_of_end.ensures (ap (map (cut c.args.script.now)) (c.as_slice.ensures.value ∙ c.in-Ok.ensures.spans)) (c.run_opened.ensures.ends there d content openable)
 
 pub returns-clause-any_moment : goal.returns-clause-any_moment
-returns-clause-any_moment g c = λ there d content openable images.
+returns-clause-any_moment g c = λ there d content openable.
     texts_left g.D.Disk (setting_of there c.args.steps c.args.halts) d c.args.script.now (map (cut c.args.script.now) c.as_slice.result.now) c.args.disk.now c.run_opened.new.disk (g.S.Sink.taken c.args.out.now) (g.S.Sink.taken c.run_opened.new.out)
-    (ap (map (cut c.args.script.now)) (c.as_slice.ensures.value ∙ c.in-Ok.ensures.spans)) (c.run_opened.ensures.any_moment there d content openable images)
+    (ap (map (cut c.args.script.now)) (c.as_slice.ensures.value ∙ c.in-Ok.ensures.spans)) (c.run_opened.ensures.any_moment there d content openable)
 
 pub returns-clause-idle : goal.returns-clause-idle
 returns-clause-idle g c = λ never. absurd (never_begun c.run_opened.result c.status_of_end.result c.status_of_end.ensures never)
@@ -63,3 +63,11 @@ returns-clause-read g c = λ is. c.run_opened.ensures.read (read_only c.run_open
 
 pub returns-clause-fault : goal.returns-clause-fault
 returns-clause-fault g c = λ is. c.run_opened.ensures.cause.failed (disk_only c.run_opened.result c.run_opened.ensures.not_halted (sym c.status_of_end.ensures ∙ is))
+
+pub returns-in-Err-clause-any_moment : goal.returns-in-Err-clause-any_moment
+returns-in-Err-clause-any_moment g c = λ there d content openable.
+    script_rests g.D.Disk (setting_of there c.args.steps c.args.halts) d (Some c.args.script.now) c.args.disk.now (g.S.Sink.taken c.args.out.now) (g.S.Sink.taken c.args.out.now)
+
+pub returns-then-len-gt-MOST_STATEMENTS-clause-any_moment : goal.returns-then-len-gt-MOST_STATEMENTS-clause-any_moment
+returns-then-len-gt-MOST_STATEMENTS-clause-any_moment g c = λ there d content openable.
+    script_rests g.D.Disk (setting_of there c.args.steps c.args.halts) d (Some c.args.script.now) c.args.disk.now (g.S.Sink.taken c.args.out.now) (g.S.Sink.taken c.args.out.now)
