@@ -4,9 +4,9 @@
 //! statements in order, each with the mover's steps behind it, writes what each prints, and makes the end. A generated script runs over the
 //! files that have its load. Its promise is the run theorem
 //! (`RunEnds` and `RunLeaves` of `specs/Ends.antt`), over a folder that reopens to a database (`IsOpenable`): what was printed and what a crash
-//! leaves when the run has ended or stopped, by its status, and, where a crash would have left the folder so too (`IsSettled`), that whatever a
-//! crash leaves at any moment of the run reopens to the tables before or after an event of it, cut at a closed epoch that is no earlier than
-//! the last good one before it (`IsOnTheWay` of `specs/Runs.antt`). `Session` promises the same of the opening, of one statement (`Executed` of
+//! leaves when the run has ended or stopped, by its status, and that whatever a crash leaves at any moment of the run is what it would have
+//! left before the opening had synced (`IsStill`), or reopens to the tables before or after an event of the run, cut at a closed epoch that is
+//! no earlier than the last good one before it (`IsOnTheWay` of `specs/Runs.antt`). `Session` promises the same of the opening, of one statement (`Executed` of
 //! `specs/Statements.antt`), of the mover's steps (`MovedOn`) and of the end, and says which answer halts it (`halts_by` of
 //! `specs/Sessions.antt`). What the words ask for is `wanted` of `run_words`.
 #![tactic(auto)]
