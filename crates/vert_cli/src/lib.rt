@@ -13,9 +13,11 @@
 
 mod faults;
 mod program;
+mod schema;
 mod script;
 mod session;
 
 pub use faults::{Outcome, RunFault, Status};
 pub use program::run;
+pub use schema::Schema;
 pub use session::Session;

@@ -28,7 +28,7 @@ use store_step::{Answer, Store, end, mover_step, step};
 /// failed it is halted.
 #[derive(Drop)]
 pub struct Session {
-    store: Store,
+    pub(crate) store: Store,
     halted: bool,
 }
 

@@ -1,0 +1,5 @@
+pub mod Pieces
+pub mod Commands
+pub mod Excerpts
+pub mod Tables
+pub mod Schemas
