@@ -4,12 +4,12 @@ use Rattle.std.specs.Prelude.{Option, Some, Result, Ok}
 use Rattle.common_laws.specs.Told.{Appends}
 use Rattle.col_disk.specs.declared.disk.Disk.{Ghosts}
 use Rattle.sql_tree.specs.declared.refusal.Refusal.{Refusal}
-use Rattle.db_model.specs.State.{State}
-use Rattle.db_model.specs.Loading.{Files}
-use Rattle.db_model.specs.Mover.{MoverSteps, MoverRuns}
-use Rattle.db_model.specs.Step.{Step}
-use Rattle.store_step.specs.Running.{Running, IsState}
-use Rattle.store_step.specs.Forms.{is_served}
+use Rattle.vert_cli.specs.State.{State}
+use Rattle.vert_cli.specs.Loading.{Files}
+use Rattle.vert_cli.specs.Mover.{MoverSteps, MoverRuns}
+use Rattle.vert_cli.specs.Step.{Step}
+use Rattle.vert_cli.specs.Running.{Running, IsState}
+use Rattle.vert_cli.specs.Forms.{is_served}
 use Rattle.vert_cli.specs.declared.faults.Outcome.{Outcome}
 use Rattle.vert_cli.specs.Statements.{Executed, MovedOn, refusal_in}
 use Rattle.shell_run.specs.Answers.{Executes, Settles, Tells}

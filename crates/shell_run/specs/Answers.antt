@@ -3,12 +3,12 @@ use Rattle.std.specs.Prelude.{ℕ, ◌≡◌, ◌≤◌, List, Option}
 use Rattle.col_disk.specs.declared.disk.Disk.{Ghosts}
 use Rattle.sql_tree.specs.declared.refusal.Refusal.{Refusal}
 use Rattle.catalog_types.specs.Reached.{least_lge}
-use Rattle.db_model.specs.State.{State}
-use Rattle.db_model.specs.Loading.{Files}
-use Rattle.db_model.specs.Mover.{MoverRuns}
-use Rattle.db_model.specs.Step.{Step}
-use Rattle.store_step.specs.Running.{Running, IsState}
-use Rattle.store_step.specs.Forms.{is_served}
+use Rattle.vert_cli.specs.State.{State}
+use Rattle.vert_cli.specs.Loading.{Files}
+use Rattle.vert_cli.specs.Mover.{MoverRuns}
+use Rattle.vert_cli.specs.Step.{Step}
+use Rattle.vert_cli.specs.Running.{Running, IsState}
+use Rattle.vert_cli.specs.Forms.{is_served}
 
 -- A step was made of a state, these bytes are exactly what it prints, and the session is the state that is left.
 pub record Executes {D : Type 0} (disk : Ghosts D) (files : Files) (text : List ℕ) (is : Running) (now : D) (state : State) (printed : List ℕ) (refusal : Option Refusal) : Type 0 where

@@ -1,9 +1,9 @@
 //! A statement text that is run, and answered once what it committed is in the folder.
 
 ghost use Rattle.std.specs.Prelude.{◌≡◌, Some, true, false, IfOk, OnOk, IsTrue};
-ghost use Rattle.db_model.specs.Loading.{Files as LoadFiles};
-ghost use Rattle.db_model.specs.State.{State};
-ghost use Rattle.store_step.specs.Running.{IsState};
+ghost use Rattle.vert_cli.specs.Loading.{Files as LoadFiles};
+ghost use Rattle.vert_cli.specs.State.{State};
+ghost use Rattle.vert_cli.specs.Running.{IsState};
 ghost use Rattle.vert_cli.specs.Statements.{refusal_in};
 ghost use Rattle.shell_run.specs.Answers.{Executes, IsKept, Settles, Tells};
 

@@ -1,7 +1,8 @@
 //! The status that a shell ends with.
 
 ghost use Rattle.std.specs.Prelude.{◌≡◌};
-ghost use Rattle.vert_cli.specs.Ends.{fault_of, status_of};
+ghost use Rattle.vert_cli.specs.Ends.{status_of};
+ghost use Rattle.vert_cli.specs.Statements.{fault_of};
 
 use col_disk::StoreFault;
 use col_io::SinkFault;

@@ -16,3 +16,4 @@ pub use faults::{fault_text, in_memory, status_of};
 pub use replies::Reply;
 pub use serving::{run_input, run_script};
 pub use shell::{Setting, Shell};
+pub use vert_cli::{RunFault, Status};

@@ -2,3 +2,9 @@ pub mod Sessions
 pub mod Statements
 pub mod Runs
 pub mod Ends
+pub use Rattle.db_model.specs.Loading
+pub use Rattle.db_model.specs.Mover
+pub use Rattle.db_model.specs.State
+pub use Rattle.db_model.specs.Step
+pub use Rattle.store_step.specs.Forms
+pub use Rattle.store_step.specs.Running

@@ -6,14 +6,15 @@
 
 use col_disk::DirDisk;
 use col_io::{Files, FilesFault, Got, StdFiles, StdSink};
-use shell_run::{Setting, fault_text, in_memory, run_input, run_script, status_of};
+use shell_run::{
+    RunFault, Setting, Status, fault_text, in_memory, run_input, run_script, status_of,
+};
 use shell_text::{Form, Wanted, wanted_by};
 use std::alloc::{AllocGlobal, Global};
 use std::env;
 use std::io::{IsTerminal, Print, Read};
 use std::process::ExitCode;
 use std::rt::Runtime;
-use vert_cli::{RunFault, Status};
 
 /// The most bytes of a script.
 const MOST_BYTES: usize = 67_108_864;

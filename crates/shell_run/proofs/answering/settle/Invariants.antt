@@ -1,6 +1,6 @@
 use Rattle.std.proofs.Common.{◌≡◌, false}
-use Rattle.db_model.specs.State.{State}
-use Rattle.store_step.specs.Running.{IsState}
+use Rattle.vert_cli.specs.State.{State}
+use Rattle.vert_cli.specs.Running.{IsState}
 use Rattle.shell_run.specs.Answers.{Settles}
 use Rattle.shell_run.proofs.answering.settle.Given as goal
 
