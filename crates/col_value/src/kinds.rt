@@ -4,9 +4,10 @@ pub enum ColType {
     Integer,
     Varchar(u32),
     Boolean,
+    Date,
 }
 
-/// How the blocks of a column are written; `Auto` takes the shortest of the four.
+/// How the blocks of a column are written; `Auto` takes the shortest that there is.
 #[derive(Clone, Copy, Debug, PartialEq, Eq)]
 pub enum Encoding {
     Auto,
