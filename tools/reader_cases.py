@@ -4,6 +4,7 @@
 The places come from the grammar alone: from its productions, as a general parser (Earley's) reads them, and never from the program.
 tools/reader_cases.py > crates/reader_cases/stdin
 """
+import datetime
 import random
 import re
 
@@ -35,6 +36,7 @@ type = INT
 type = BIGINT
 type = BOOLEAN
 type = VARCHAR ( width )
+type = DATE
 pcols = pcol
 pcols = pcols , pcol
 pcol = name
@@ -54,6 +56,7 @@ literals = literals , literal
 literal = int
 literal = - int
 literal = text
+literal = DATE day
 literal = TRUE
 literal = FALSE
 literal = NULL
@@ -127,6 +130,7 @@ Xunary = Xprimary
 Xunary = - Xprimary
 Xprimary = int
 Xprimary = text
+Xprimary = DATE day
 Xprimary = TRUE
 Xprimary = FALSE
 Xprimary = NULL
@@ -176,6 +180,7 @@ START = 'statement'
 # Tokens of a class: what is written, and the classes of the grammar that it is.
 SAMPLES = {
     'name': ['t', 'Sale', '_x1', 'inte'], 'text': ["'a'", "''", "'it''s; -- no'"], 'int': ['0', '7', '00099', '170141183460469231731687303715884105727'],
+    'day': ["'2024-02-29'", "'0001-01-01'", "'1970-01-01'", "'9999-12-31'"],
     'width': ['0', '20', '4294967295'], 'eight': ['1', '8'], 'task': ["'moveout'", "'mergeout'"], 'spelled': ["'t'", "'Sale'", "'_x1'", "'moveout'"],
 }
 
@@ -183,13 +188,29 @@ SAMPLES = {
 TEXTS = '''moveout mergeout Moveout MERGEOUT moveout_ mergeou t T Sale _ _x1 a9 inte 9 9t t.u t''u t; t--x -- é té select REFRESH purge_table Lateral'''.split()
 TEXTS = ["'" + text + "'" for text in TEXTS] + ["''", "' moveout'", "'mergeout '", "' t'", "'t '", "'t u'", "'t-- u'"]
 
+# Texts behind DATE that are no days.
+NO_DAYS = """2024-02-30 2023-02-29 1900-02-29 0000-01-01 10000-01-01 2024-00-01 2024-13-01 2024-01-00 2024-04-31 2024-1-01 2024-01-1 24-01-01 2024-1-001
+2024/01/01 20240101 2024-01-01T -001-01-01 +024-01-01 2024-0a-01 today""".split()
+NO_DAYS = ["'" + text + "'" for text in NO_DAYS] + ["''", "' 2024-01-01'", "'2024-01-01 '", "'2024 01 01'"]
+
+
+def is_day(text):
+    """Whether a text is that of a day: YYYY-MM-DD."""
+    if not re.fullmatch('[0-9]{4}-[0-9]{2}-[0-9]{2}', text):
+        return False
+    try:
+        datetime.date(int(text[:4]), int(text[5:7]), int(text[8:]))
+    except ValueError:
+        return False
+    return True
+
 
 def classes(token):
     """The terminals of the grammar that a token is."""
     if token[0] == "'":
         inner = token[1:-1]
         is_name = re.fullmatch('[A-Za-z_][A-Za-z0-9_]*', inner) and inner.upper() not in KEYWORDS
-        return {'text'} | ({'task'} if inner in ('moveout', 'mergeout') else set()) | ({'spelled'} if is_name else set())
+        return {'text'} | ({'day'} if is_day(inner) else set()) | ({'task'} if inner in ('moveout', 'mergeout') else set()) | ({'spelled'} if is_name else set())
     if token.isdigit():
         n = int(token)
         return {'int'} | ({'width'} if n < 2 ** 32 else set()) | ({'eight'} if 1 <= n <= 8 else set())
@@ -200,7 +221,7 @@ def classes(token):
     return {token}
 
 
-KEYWORDS = set('''AND AS ASC AT AUTO BETWEEN BIGINT BLOCK_DICT BOOLEAN BY COMMIT COPY COUNT CREATE DELETE DELTAVAL DESC DO_TM_TASK DROP ENCODING
+KEYWORDS = set('''AND AS ASC AT AUTO BETWEEN BIGINT BLOCK_DICT BOOLEAN BY COMMIT COPY COUNT CREATE DATE DELETE DELTAVAL DESC DO_TM_TASK DROP ENCODING
 EPOCH EXPLAIN FALSE FROM GET_AHM_EPOCH GET_CURRENT_EPOCH GET_LAST_GOOD_EPOCH GROUP HAVING IN INNER INSERT INT INTEGER INTO IS JOIN LATEST LIMIT
 MAKE_AHM_NOW MAX MIN NOT NULL ON OR ORDER PLAIN PROJECTION PURGE_TABLE REFRESH RLE ROLLBACK SELECT SET SET_AHM_EPOCH START_REFRESH SUM TABLE
 TRUE UPDATE VALUES VARCHAR WHERE'''.split())
@@ -327,6 +348,26 @@ def main():
             add(['SELECT', function, '('] + held + [')'])
         add(['SELECT', function, 'FROM', 't'])
         add(['SELECT', '(', function, '(', ')', ')'])
+    # days: wherever a literal or a primary may stand, and with what is nearly one
+    fronts = {
+        'INSERT INTO t VALUES (': ')', 'INSERT INTO t VALUES ( 1 ,': ') , ( 2 )', 'SELECT': 'FROM t', 'SELECT a FROM t WHERE': '', 'SELECT a FROM t WHERE a >=': 'AND b = 1',
+        'SELECT a FROM t WHERE a IN (': ", DATE '2024-03-01' )", 'SELECT a FROM t WHERE a BETWEEN': "AND DATE '2024-12-31'",
+        "SELECT a FROM t WHERE a BETWEEN DATE '2024-01-01' AND": '', 'SELECT MAX (': ') FROM t', 'UPDATE t SET a =': 'WHERE b = 2', 'DELETE FROM t WHERE NOT ( a <': ')',
+    }
+    for front, back in fronts.items():
+        for day in (SAMPLES['day'] + NO_DAYS if front in ('INSERT INTO t VALUES (', 'SELECT a FROM t WHERE') else [SAMPLES['day'][0], NO_DAYS[0]]):
+            add(front.split() + ['DATE', day] + back.split())
+        for held in ([], ['2024'], ['a'], ['-', "'2024-02-29'"], ['(', "'2024-02-29'", ')'], ['NULL'], ['DATE', "'2024-02-29'"], ["'2024-02-29'", "'2024-02-29'"]):
+            add(front.split() + ['DATE'] + held + back.split())
+        add(front.split() + ['-', 'DATE', "'2024-02-29'"] + back.split())
+        add(front.split() + ['date', "'2024-02-29'"] + back.split())
+    for kind in (['DATE'], ['date', 'NOT', 'NULL'], ['DATE', "'2024-02-29'"], ['DATE', '(', '10', ')'], ['DATE', 'VARCHAR'], ['-', 'DATE']):
+        add(['CREATE', 'TABLE', 't', '(', 'a'] + kind + [',', 'b', 'Date', ')'])
+    for text in ('CREATE TABLE date ( a INT )', 'CREATE TABLE t ( date INT )', 'CREATE TABLE t ( date DATE )', 'SELECT date FROM t', 'SELECT a AS date FROM t', 'SELECT a FROM date',
+                 'SELECT t . date FROM t', 'DROP TABLE DATE', 'INSERT INTO date VALUES ( 1 )', 'SELECT a FROM t ORDER BY date', 'UPDATE t SET date = 1', 'SELECT dates FROM t', 'SELECT _date FROM t'):
+        add(text.split())
+    add(['SELECT', 'PURGE_TABLE', '(', "'date'", ')'])
+    cases["SELECT a FROM t WHERE a=DATE'2024-02-29'"] = 0
     # parentheses: 32 may stand in one another
     for n in (31, 32, 33, 40):
         text = ['SELECT'] + ['('] * n + ['a'] + [')'] * n + ['FROM', 't']

@@ -99,6 +99,20 @@ def stops(query, *texts):
         wanted.append('status %d' % any(line.startswith('ERROR ') for line in text))
 
 
+def failing(*texts):
+    """What the last run prints where one call of the disk fails: each text once, in the order of the calls, with its status."""
+    lines.append('failing')
+    for text, status in texts:
+        wanted.extend(text)
+        wanted.append('status %d' % status)
+
+
+def said(statement, *answers):
+    """What a statement of the session that is open prints over the disk as it is now."""
+    lines.extend(['say', statement, '.'])
+    wanted.extend(answers)
+
+
 note('# a table, its files, and the same without its end')
 r = Run()
 r.say('CREATE TABLE t (a INTEGER)', 'CREATE TABLE')
@@ -411,6 +425,63 @@ r.say("SELECT DO_TM_TASK('moveout')", 'ERROR 25 NumbersSpent')
 r.say('SELECT a FROM t', '1', '(1 rows)')
 r.end()
 files(5, 6)
+new()
+# the same with rows on disk up to epoch 1: a mark that rises would draw a number
+put(5, '56434154' + '010100' + '8080808080808080' + '10' + '01' + '0174' + '01' + '0161' + '0100' + '01' + '07' + '745f7375706572' + '010000' + '0100' + '01010000')
+put(6, '56')
+r = Run()
+r.say('SELECT SET_AHM_EPOCH(2)', 'ERROR 15 BadMark 2 0 1')
+r.say('SELECT SET_AHM_EPOCH(1)', 'ERROR 25 NumbersSpent')
+r.say('SELECT MAKE_AHM_NOW()', 'ERROR 25 NumbersSpent')
+r.say('SELECT SET_AHM_EPOCH(0)', 'AHM 0')
+r.end()
+files(5, 6)
+new()
+
+note('# the ancient history mark is in the folder when it is told')
+r = Run('--halt')
+r.say('CREATE TABLE t (a INTEGER)', 'CREATE TABLE')
+r.say('INSERT INTO t VALUES (2), (1)', 'INSERT 2')
+r.say('COMMIT', 'COMMIT EPOCH 1')
+r.say("SELECT DO_TM_TASK('moveout')", 'MOVEOUT')
+r.say('SELECT MAKE_AHM_NOW()', 'AHM 1')
+r.end()
+stops('SELECT GET_AHM_EPOCH()', ['AHM 0'], ['AHM 1'])
+files(8, 12, 16, 20, 29, 30)
+r = Run()
+r.say('SELECT GET_AHM_EPOCH()', 'AHM 1')
+r.say('AT EPOCH 0 SELECT a FROM t', 'ERROR 13 EpochTooOld 0 1')
+r.say('SELECT MAKE_AHM_NOW()', 'AHM 1')
+r.end()
+# a mark that doesn't rise writes nothing
+files(8, 12, 16, 20, 29, 30)
+new()
+
+note('# rows are read from the files, and are nowhere else')
+r = Run()
+r.say('CREATE TABLE t (a INTEGER)', 'CREATE TABLE')
+r.say('INSERT INTO t VALUES (2), (1)', 'INSERT 2')
+r.say('COMMIT', 'COMMIT EPOCH 1')
+r.say('SELECT a FROM t', '1', '2', '(2 rows)')
+r.end()
+r = Run()
+r.say('SELECT GET_CURRENT_EPOCH()', 'EPOCH 2')
+r.say('SELECT a FROM t', '1', '2', '(2 rows)')
+r.end()
+failing(([], 5), (['EPOCH 2'], 5))
+lines.append('open')
+put(8, '02020000000000000003' + '0102')
+put(12, '02000001' + '0000000000000003' + '01' + '0000000000000004')
+said('SELECT a FROM t', '3', '4', '(2 rows)')
+new()
+r = Run()
+r.say('CREATE TABLE t (a INTEGER)', 'CREATE TABLE')
+r.say('INSERT INTO t VALUES (2), (1)', 'INSERT 2')
+r.say('COMMIT', 'COMMIT EPOCH 1')
+r.say("SELECT DO_TM_TASK('moveout')", 'MOVEOUT')
+r.say('SELECT a FROM t', '1', '2', '(2 rows)')
+r.end()
+failing(([], 5), (['CREATE TABLE', 'INSERT 2', 'COMMIT EPOCH 1'], 5), (['CREATE TABLE', 'INSERT 2', 'COMMIT EPOCH 1', 'MOVEOUT'], 5))
 
 with open(os.path.join(HERE, 'stdin'), 'w') as out:
     out.write(''.join(line + '\n' for line in lines))

@@ -1,10 +1,12 @@
 """The files of a column and of a delete vector: blocks in their encodings, the position index of the blocks, deleted positions."""
 from collections import namedtuple
 
-from .spelling import GREATEST, Front, Malformed, are_same, byte_at, number_at, rank, value_at, vint_at, vints_at
+from .spelling import GREATEST, LAST_DAY, Front, Malformed, are_same, be4_at, byte_at, day_of, number_at, rank, value_at, vint_at, vints_at
 
 ROWS = 1024
 ENCODINGS = ('AUTO', 'RLE', 'DELTAVAL', 'BLOCK_DICT', 'PLAIN')
+# the encoding of each tag; DELTAVAL has one for numbers and one for dates
+TAGS = ENCODINGS + ('DELTAVAL',)
 
 
 def count_at(data, at):
@@ -50,6 +52,19 @@ def deltaval_at(data, at):
     return [base + delta - 1 if delta else None for delta in deltas], at
 
 
+def date_deltaval_at(data, at):
+    count, at = count_at(data, at)
+    base, at = be4_at(data, at)
+    deltas, at = vints_at(data, at, count)
+    if max(deltas) == 0:
+        raise Malformed('all values are NULL')
+    if min(filter(None, deltas)) != 1 or base < 1:
+        raise Malformed('the base is not the least day')
+    if base + max(deltas) - 1 > LAST_DAY:
+        raise Malformed('a day is behind 9999-12-31')
+    return [day_of(base + delta - 1) if delta else None for delta in deltas], at
+
+
 def block_dict_at(data, at):
     size, at = count_at(data, at)
     words, at = values_at(data, at, size)
@@ -70,16 +85,16 @@ def plain_at(data, at):
     return values_at(data, at, count)
 
 
-READERS = (None, rle_at, deltaval_at, block_dict_at, plain_at)
+READERS = (None, rle_at, deltaval_at, block_dict_at, plain_at, date_deltaval_at)
 
 
 def encoding_of(tag, declared):
     """The encoding that a tag says, in a column with this one: an AUTO column has blocks of each, another one its own alone."""
-    if not 1 <= tag < len(ENCODINGS):
+    if not 1 <= tag < len(TAGS):
         raise Malformed(f'{tag:02x} is no tag of a block')
-    if declared not in ('AUTO', ENCODINGS[tag]):
-        raise Malformed(f'a block is {ENCODINGS[tag]} in a column that is {declared}')
-    return ENCODINGS[tag]
+    if declared not in ('AUTO', TAGS[tag]):
+        raise Malformed(f'a block is {TAGS[tag]} in a column that is {declared}')
+    return TAGS[tag]
 
 
 def block_values(data, declared):

@@ -5,6 +5,7 @@ What isn't spelled as it has to be, or speaks of columns that aren't there, rais
 """
 import re
 from dataclasses import dataclass
+from datetime import date
 
 from .blocks import ENCODINGS
 from .spelling import Front, Malformed
@@ -29,19 +30,19 @@ def listed(count, most, what):
 @dataclass
 class Column:
     name: str
-    kind: str  # INTEGER, VARCHAR or BOOLEAN
+    kind: str  # INTEGER, VARCHAR, BOOLEAN or DATE
     length: int  # of a VARCHAR
     is_not_null: bool
 
     @classmethod
     def read(cls, front):
         name, kind, length = name_in(front), front.byte(), 0
-        if not 1 <= kind <= 3:
+        if not 1 <= kind <= 4:
             raise Malformed(f'{kind:02x} is no type of a column')
         if kind == 2:
             length = front.vint()
             listed(length, MOST_LENGTH, f'the length of column {name}')
-        return cls(name, ('INTEGER', 'VARCHAR', 'BOOLEAN')[kind - 1], length, front.flag())
+        return cls(name, ('INTEGER', 'VARCHAR', 'BOOLEAN', 'DATE')[kind - 1], length, front.flag())
 
     def flaw_of(self, values):
         """Why some values aren't all of this column, or None."""
@@ -50,7 +51,7 @@ class Column:
             if self.is_not_null:
                 return 'a NULL stands in a NOT NULL column'
             kinds.remove(type(None))
-        wanted = {'INTEGER': int, 'VARCHAR': bytes, 'BOOLEAN': bool}[self.kind]
+        wanted = {'INTEGER': int, 'VARCHAR': bytes, 'BOOLEAN': bool, 'DATE': date}[self.kind]
         if kinds - {wanted}:
             return f'a value is none of type {self.kind}'
         if wanted is bytes and any(len(value) > self.length for value in values if value is not None):
@@ -140,8 +141,8 @@ class Projection:
         if not self.sort or len(set(self.sort)) < len(self.sort) or max(self.sort) >= len(places):
             raise Malformed(f'the sort columns of {self.name} are none of its columns')
         for column in self.columns:
-            if column.encoding == 'DELTAVAL' and table.columns[column.place].kind != 'INTEGER':
-                raise Malformed(f'{self.name} has a DELTAVAL column that is no INTEGER')
+            if column.encoding == 'DELTAVAL' and table.columns[column.place].kind not in ('INTEGER', 'DATE'):
+                raise Malformed(f'{self.name} has a DELTAVAL column that is neither INTEGER nor DATE')
 
     def has_all_columns(self, table):
         return len(self.columns) == len(table.columns)

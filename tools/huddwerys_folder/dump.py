@@ -5,6 +5,7 @@ an empty text stands in an INSERT of the script.
 """
 import os
 import re
+from datetime import date
 
 from . import schema
 from .catalogue import Catalogue
@@ -138,6 +139,8 @@ def literal(value):
         return b"'" + value.replace(b"'", b"''") + b"'"
     if isinstance(value, bool):
         return b'TRUE' if value else b'FALSE'
+    if isinstance(value, date):
+        return b"DATE '%s'" % value.isoformat().encode()
     return b'%d' % value
 
 
@@ -149,6 +152,8 @@ def field(value):
         return b'"' + value.replace(b'"', b'""') + b'"' if QUOTED.search(value) else value
     if isinstance(value, bool):
         return b't' if value else b'f'
+    if isinstance(value, date):
+        return value.isoformat().encode()
     return b'%d' % value
 
 

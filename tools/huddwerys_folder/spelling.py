@@ -1,10 +1,12 @@
 """Numbers, texts and values as bytes. Each `x_at(data, at)` gives what stands there and the place behind it, or raises Malformed.
 
-A value is None for NULL, a bool, an int, or the bytes of a text.
+A value is None for NULL, a bool, an int, a date, or the bytes of a text.
 """
+from datetime import date
 
 LEAST, GREATEST = -(2**63) + 1, 2**63 - 1
 MOST_OCTETS = 65_000
+LAST_DAY = date.max.toordinal()  # the day of 9999-12-31, counted from 1 for 0001-01-01
 
 
 class Malformed(Exception):
@@ -79,6 +81,17 @@ def number_at(data, at):
     return number, at
 
 
+def day_of(number):
+    if not 1 <= number <= LAST_DAY:
+        raise Malformed(f'{number} is no day')
+    return date.fromordinal(number)
+
+
+def day_at(data, at):
+    number, at = be4_at(data, at)
+    return day_of(number), at
+
+
 def value_text_at(data, at):
     size, at = be4_at(data, at)
     if size > MOST_OCTETS:
@@ -101,16 +114,20 @@ def value_at(data, at):
         return value_text_at(data, at)
     if tag in (3, 4):
         return tag == 4, at
+    if tag == 5:
+        return day_at(data, at)
     raise Malformed(f'{tag:02x} is no tag of a value')
 
 
 def rank(value):
-    """Where a value stands in the order of values: NULL, false, true, numbers, texts by their bytes."""
+    """Where a value stands in the order of values: NULL, false, true, numbers, dates, texts by their bytes."""
     if value is None:
         return (0,)
     if isinstance(value, bool):
         return (1, value)
-    return (2, value) if isinstance(value, int) else (3, value)
+    if isinstance(value, int):
+        return (2, value)
+    return (3, value) if isinstance(value, date) else (4, value)
 
 
 def are_same(a, b):

@@ -5,6 +5,7 @@ pub mod Shaped
 pub mod Changed
 pub mod Committed
 pub mod Told
+pub mod Marked
 pub mod Moved
 pub mod Stayed
 pub mod Stepped

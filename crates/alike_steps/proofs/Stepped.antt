@@ -1,6 +1,6 @@
 -- A step over alike states.
 use Rattle.std.proofs.Common.{◌≡◌, ℕ, ◌+◌, Bool, true, false, List, [], length, refl, sym, ap, ap₂, ◌∙◌, subst}
-use Rattle.std.specs.Prelude.{Option, Some, None, codes, is_some}
+use Rattle.std.specs.Prelude.{◌&&◌, ◌||◌, nat_lt, Option, Some, None, codes, is_some}
 use Rattle.col_value.specs.declared.column.Column.{Column}
 use Rattle.col_value.specs.declared.value.Value.{Value}
 use Rattle.sql_words.specs.Symbols.{symbols_of}
@@ -16,13 +16,14 @@ use Rattle.sql_binding.specs.Inserts.{inserted_rows}
 use Rattle.db_model.specs.Alike.{AreAlikeStates}
 use Rattle.db_model.specs.Answers.{epoch_line}
 use Rattle.db_model.specs.Database.{Table}
-use Rattle.db_model.specs.Events.{changes_committed, changes_dropped, on_table, projection_created, projection_dropped, rows_deleted, rows_loaded, rows_pending, rows_updated, table_created, table_dropped}
-use Rattle.db_model.specs.Leaving.{CallLeaves, CopyLeaves, Leaves}
+use Rattle.db_model.specs.Epochs.{last_good, rises}
+use Rattle.db_model.specs.Events.{changes_committed, changes_dropped, mark_raised, on_table, projection_created, projection_dropped, rows_deleted, rows_loaded, rows_pending, rows_updated, table_created, table_dropped}
+use Rattle.db_model.specs.Leaving.{CallLeaves, CopyLeaves, Leaves, MarkLeaves}
 use Rattle.db_model.specs.Loading.{Files, Load, Loads}
 use Rattle.db_model.specs.Numbers.{are_spent}
 use Rattle.db_model.specs.Printing.{CallPrints, CopyPrints, Prints, copy_text, counted_line}
-use Rattle.db_model.specs.Refusals.{CallRefuses, CopyRefuses, FileRefuses, LoadRefuses, Refuses, SumRefuses, UnlockedRefuses, is_large_file, joining_limit, load_refusal, locked, query_refusal_in}
-use Rattle.db_model.specs.Refusing.{commit_refusal, epoch_refusal}
+use Rattle.db_model.specs.Refusals.{CallRefuses, CopyRefuses, FileRefuses, LoadRefuses, Refuses, SumRefuses, UnlockedRefuses, is_large_file, load_refusal, locked, mark_refusal, query_refusal_in, raise_refusal}
+use Rattle.db_model.specs.Refusing.{epoch_refusal}
 use Rattle.db_model.specs.Sound.{IsSound}
 use Rattle.db_model.specs.State.{State}
 use Rattle.db_model.specs.Step.{Decides, Effect, Reads, RefusesForm}
@@ -37,6 +38,7 @@ use Rattle.one_text.proofs.OneStep.{OneReading, decided_once, read_once}
 use Rattle.alike_steps.specs.Steps.{AlikeStatesStepAlike, IsStepless, MoveoutsStepAlike, UnrefusedStepsAlike}
 use Rattle.alike_steps.proofs.Changed.{SettingsSeeABag, delete_counts, delete_same, deleted_alike, insert_same, pending_alike, update_counts, update_same, updated_alike}
 use Rattle.alike_steps.proofs.Committed.{can_commit, can_load, commit_texts, committed_zip, copy_texts}
+use Rattle.alike_steps.proofs.Marked.{raised_alike}
 use Rattle.alike_steps.proofs.Moved.{all_alike}
 use Rattle.alike_steps.proofs.Stayed.{text_stays}
 use Rattle.alike_steps.proofs.Shaped.{create_same, created_alike, drawn_alike, drop_same, dropped_alike, left_alike, shape_same, shaped_alike, unshape_same, unshaped_alike}
@@ -117,24 +119,35 @@ module _ (a b : State) (alike : AreAlikeStates a b) (sound : IsSound a) where
 
   -- ---- functions
 
-  call_refused : (f : Function) (why also : Cause) → IsOther (Statement.Call f) → CallRefuses a f why → CallRefuses b f also → why ≡ also
-  call_refused Function.Lge why also quiet first second = first ∙ sym second
-  call_refused Function.Ahm why also quiet first second = first ∙ sym second
-  call_refused Function.Current why also quiet first second = first ∙ sym second
-  call_refused Function.MakeAhmNow why also quiet first second = absurd first
-  call_refused (Function.SetAhm n) why also quiet first second = absurd first
-  call_refused Function.Moveout why also quiet first second = absurd (quiet.no_moveout refl)
-  call_refused Function.Mergeout why also quiet first second = absurd first
-  call_refused (Function.Purge table) why also quiet first second = absurd first
-  call_refused (Function.Refresh table) why also quiet first second = absurd first
-  call_refused Function.StartRefresh why also quiet first second = absurd first
+  raise_same : (mark : ℕ) → are_spent a ≡ are_spent b → raise_refusal mark a ≡ raise_refusal mark b
+  raise_same mark spent = ap₂ (λ (ahm : ℕ) (s : Bool). refused_where (nat_lt ahm mark && s) Refusal.NumbersSpent) alike.database.ahm spent
+
+  mark_same : (mark : ℕ) → mark_refusal mark a.database ≡ mark_refusal mark b.database
+  mark_same mark = ap₂ (λ (ahm good : ℕ). refused_where (nat_lt mark ahm || nat_lt good mark) (Refusal.BadMark mark ahm good)) alike.database.ahm (good_same a b alike)
+
+  mark_left : (c : Bool) (mark : ℕ) (x y : State) → rises mark a.database ≡ c → MarkLeaves c mark a x → MarkLeaves c mark b y → AreAlikeStates x y
+  mark_left true mark x y is first second = drawn_alike a b (mark_raised mark a) (mark_raised mark b) x y first second (raised_alike a b alike mark is)
+  mark_left false mark x y is first second = left_alike a b x y first second alike
+
+  call_refused : (f : Function) (why also : Cause) → are_spent a ≡ are_spent b → IsOther (Statement.Call f) → CallRefuses a f why → CallRefuses b f also → why ≡ also
+  call_refused Function.Lge why also spent quiet first second = first ∙ sym second
+  call_refused Function.Ahm why also spent quiet first second = first ∙ sym second
+  call_refused Function.Current why also spent quiet first second = first ∙ sym second
+  call_refused Function.MakeAhmNow why also spent quiet first second =
+      first ∙ ap (λ (mark : ℕ). raise_refusal mark a) (good_same a b alike) ∙ raise_same (last_good b.database) spent ∙ sym second
+  call_refused (Function.SetAhm n) why also spent quiet first second = first ∙ ap₂ (λ (o p : Cause). first_of o p) (mark_same n) (raise_same n spent) ∙ sym second
+  call_refused Function.Moveout why also spent quiet first second = absurd (quiet.no_moveout refl)
+  call_refused Function.Mergeout why also spent quiet first second = absurd first
+  call_refused (Function.Purge table) why also spent quiet first second = absurd first
+  call_refused (Function.Refresh table) why also spent quiet first second = absurd first
+  call_refused Function.StartRefresh why also spent quiet first second = absurd first
 
   call_printed : (f : Function) (p q : List ℕ) → CallPrints a f p → CallPrints b f q → p ≡ q
   call_printed Function.Lge p q first second = first ∙ ap (λ (n : ℕ). counted_line (codes "LGE ") n) (good_same a b alike) ∙ sym second
   call_printed Function.Ahm p q first second = first ∙ ap (λ (n : ℕ). counted_line (codes "AHM ") n) alike.database.ahm ∙ sym second
   call_printed Function.Current p q first second = first ∙ ap (λ (n : ℕ). epoch_line (n + 1)) alike.database.last ∙ sym second
-  call_printed Function.MakeAhmNow p q first second = absurd first
-  call_printed (Function.SetAhm n) p q first second = absurd first
+  call_printed Function.MakeAhmNow p q first second = first ∙ ap (λ (n : ℕ). counted_line (codes "AHM ") n) (good_same a b alike) ∙ sym second
+  call_printed (Function.SetAhm n) p q first second = first ∙ sym second
   call_printed Function.Moveout p q first second = first ∙ sym second
   call_printed Function.Mergeout p q first second = absurd first
   call_printed (Function.Purge table) p q first second = absurd first
@@ -145,8 +158,13 @@ module _ (a b : State) (alike : AreAlikeStates a b) (sound : IsSound a) where
   call_left Function.Lge x y first second = left_alike a b x y first second alike
   call_left Function.Ahm x y first second = left_alike a b x y first second alike
   call_left Function.Current x y first second = left_alike a b x y first second alike
-  call_left Function.MakeAhmNow x y first second = absurd first
-  call_left (Function.SetAhm n) x y first second = absurd first
+  call_left Function.MakeAhmNow x y first second =
+      let good = last_good b.database in
+      mark_left (rises (last_good a.database) a.database) (last_good a.database) x y refl first
+      (subst (λ (mark : ℕ). MarkLeaves (nat_lt a.database.ahm mark) mark b y) (sym (good_same a b alike))
+      (subst (λ (ahm : ℕ). MarkLeaves (nat_lt ahm good) good b y) (sym alike.database.ahm) second))
+  call_left (Function.SetAhm n) x y first second =
+      mark_left (rises n a.database) n x y refl first (subst (λ (ahm : ℕ). MarkLeaves (nat_lt ahm n) n b y) (sym alike.database.ahm) second)
   call_left Function.Moveout x y first second = all_alike a b x y alike first second
   call_left Function.Mergeout x y first second = absurd first
   call_left (Function.Purge table) x y first second = absurd first
@@ -169,7 +187,7 @@ module _ (a b : State) (alike : AreAlikeStates a b) (sound : IsSound a) where
   refused one files Statement.Rollback why also spent quiet first second = first ∙ sym second
   refused one files (Statement.Select at q) why also spent quiet first second = one.cause a b files at q why also alike sound.database.mark first second
   refused one files (Statement.Explain q) why also spent quiet first second = first ∙ refusal_same a b q alike ∙ sym second
-  refused one files (Statement.Call f) why also spent quiet first second = call_refused f why also quiet first second
+  refused one files (Statement.Call f) why also spent quiet first second = call_refused f why also spent quiet first second
   refused one files (Statement.Session n) why also spent quiet first second = first ∙ sym second
   refused one files Statement.Step why also spent quiet first second = absurd (quiet.no_step refl)
 

@@ -1,30 +1,37 @@
 //! The block of a column.
 
-ghost use Rattle.std.specs.Prelude.{◌≡◌, Some, List, IfOk, IfSome, IfNone};
-ghost use Rattle.std.specs.List.{All};
+ghost use Rattle.std.specs.Prelude.{◌≡◌, ◌⊎◌, Some, List, IfOk, IfSome, IfNone};
 ghost use Rattle.col_value.specs.declared.value.Value.{Value as Worth};
 ghost use Rattle.block_codec.specs.Blocks.{IsOneBlock};
 ghost use Rattle.block_choice.specs.declared.codec.Codec.{Codec as Kind};
+ghost use Rattle.block_choice.specs.declared.codec.Codec.TheVariants.{DeltaVal as DeltaKind, DateDelta as DateKind};
 ghost use Rattle.block_choice.specs.Codecs.{spelled_by, tag};
-ghost use Rattle.block_choice.specs.Choice.{Takes, Accepts, SpellsAs, block_of};
+ghost use Rattle.block_choice.specs.Choice.{TakesAll, Accepts, SpellsAs, block_of};
 
 use crate::auto::encode_auto;
 use crate::codec::Codec;
 use block_codec::{Block, BlockCodec};
 use col_value::{Encoding, Value};
+use enc_delta::are_numeric;
 use std::alloc::{AllocError, Global};
 
-/// The bytes of the block of these values in a column of this encoding: the shortest of the four under AUTO.
+/// The bytes of the block of these values in a column of this encoding: the shortest of all under AUTO.
 #[tactic(auto, unfolding(crate::specs::Choice::block_of))]
 pub fn encode(alloc: Global, encoding: Encoding, values: &[Value]) -> Result<Vec<u8>, AllocError>
     requires block { IsOneBlock values.now }
-    requires kinds { All (Takes encoding) values.now }
+    requires kinds { TakesAll encoding values.now }
     ensures { IfOk result (λ b. b.items ≡ block_of encoding values.now) }
 {
     match encoding {
         Encoding::Auto => encode_auto(alloc, values),
         Encoding::Rle => Codec::Rle.encode(alloc, values),
-        Encoding::DeltaVal => Codec::DeltaVal.encode(alloc, values),
+        Encoding::DeltaVal => {
+            if are_numeric(values) {
+                Codec::DeltaVal.encode(alloc, values)
+            } else {
+                Codec::DateDelta.encode(alloc, values)
+            }
+        }
         Encoding::BlockDict => Codec::BlockDict.encode(alloc, values),
         Encoding::Plain => Codec::Plain.encode(alloc, values),
     }
@@ -39,6 +46,7 @@ fn with_tag(first: u8) -> Option<Codec>
         2 => Some(Codec::DeltaVal),
         3 => Some(Codec::BlockDict),
         4 => Some(Codec::Plain),
+        5 => Some(Codec::DateDelta),
         _ => None,
     }
 }
@@ -53,6 +61,18 @@ fn tagged(bytes: &[u8]) -> Option<Codec>
     }
 }
 
+/// The same, of numbers or of dates.
+fn delta_of(bytes: &[u8]) -> Option<Codec>
+    ensures accepted { IfSome result (λ c. (c ≡ DeltaKind) ⊎ (c ≡ DateKind)) }
+    ensures only { (c : Kind) (vs : List Worth) → (c ≡ DeltaKind) ⊎ (c ≡ DateKind) → bytes.now ≡ spelled_by c vs → result ≡ Some c }
+{
+    match tagged(bytes) {
+        Some(Codec::DeltaVal) => Some(Codec::DeltaVal),
+        Some(Codec::DateDelta) => Some(Codec::DateDelta),
+        _ => None,
+    }
+}
+
 /// The encoding by which a block of a column is read, if it may be one.
 fn codec_of(encoding: Encoding, bytes: &[u8]) -> Option<Codec>
     ensures accepted { IfSome result (λ c. Accepts encoding c) }
@@ -61,7 +81,7 @@ fn codec_of(encoding: Encoding, bytes: &[u8]) -> Option<Codec>
     match encoding {
         Encoding::Auto => tagged(bytes),
         Encoding::Rle => Some(Codec::Rle),
-        Encoding::DeltaVal => Some(Codec::DeltaVal),
+        Encoding::DeltaVal => delta_of(bytes),
         Encoding::BlockDict => Some(Codec::BlockDict),
         Encoding::Plain => Some(Codec::Plain),
     }

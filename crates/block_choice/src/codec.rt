@@ -1,11 +1,11 @@
-//! The four encodings as one.
+//! The encodings as one.
 
 ghost use Rattle.std.specs.Prelude.{◌≡◌};
 ghost use Rattle.block_choice.specs.Codecs.{IsBlockOf, spelled_by};
 
 use block_codec::{Block, BlockCodec};
 use col_value::Value;
-use enc_delta::DeltaVal;
+use enc_delta::{DateDelta, DeltaVal};
 use enc_dict::BlockDict;
 use enc_plain::Plain;
 use enc_rle::Rle;
@@ -18,6 +18,7 @@ pub enum Codec {
     DeltaVal,
     BlockDict,
     Plain,
+    DateDelta,
 }
 
 #[tactic(auto, unfolding(crate::specs::Codecs::spelled_by))]
@@ -32,6 +33,7 @@ impl BlockCodec for Codec {
             Codec::DeltaVal => DeltaVal.takes(values),
             Codec::BlockDict => BlockDict.takes(values),
             Codec::Plain => Plain.takes(values),
+            Codec::DateDelta => DateDelta.takes(values),
         }
     }
 
@@ -41,6 +43,7 @@ impl BlockCodec for Codec {
             Codec::DeltaVal => DeltaVal.encode(alloc, values),
             Codec::BlockDict => BlockDict.encode(alloc, values),
             Codec::Plain => Plain.encode(alloc, values),
+            Codec::DateDelta => DateDelta.encode(alloc, values),
         }
     }
 
@@ -50,6 +53,7 @@ impl BlockCodec for Codec {
             Codec::DeltaVal => DeltaVal.decode(alloc, bytes),
             Codec::BlockDict => BlockDict.decode(alloc, bytes),
             Codec::Plain => Plain.decode(alloc, bytes),
+            Codec::DateDelta => DateDelta.decode(alloc, bytes),
         }
     }
 
@@ -59,6 +63,7 @@ impl BlockCodec for Codec {
             Codec::DeltaVal => DeltaVal.laws(),
             Codec::BlockDict => BlockDict.laws(),
             Codec::Plain => Plain.laws(),
+            Codec::DateDelta => DateDelta.laws(),
         }
     }
 }

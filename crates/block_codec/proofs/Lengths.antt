@@ -65,6 +65,7 @@ spelling_some value.Null = omega arith
 spelling_some (value.Bool true) = omega arith
 spelling_some (value.Bool false) = omega arith
 spelling_some (value.Int n) = omega arith
+spelling_some (value.Date d) = omega arith
 spelling_some (value.Text t) = omega arith
 
 pub spelling_few : (v : Value) → IsValue v → length (spelling v) ≤ 65005
@@ -72,6 +73,7 @@ spelling_few value.Null is = omega arith
 spelling_few (value.Bool true) is = omega arith
 spelling_few (value.Bool false) is = omega arith
 spelling_few (value.Int n) is = omega arith
+spelling_few (value.Date d) is = omega arith
 spelling_few (value.Text t) is = omega (arith, is)
 
 -- ---- lists of parts

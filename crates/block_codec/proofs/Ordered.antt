@@ -1,13 +1,13 @@
--- The order of the numbers of a lane is that of the values for which they stand.
-use Rattle.std.proofs.Common.{◌≡◌, ◌^◌, ◌-◌, Bool, true, false, cond, ℤ, pos, negsuc, ◌≤ℤ◌, ◌<ℤ◌, FitsSigned, w64, refl, sym, ap, ap₂, ◌∙◌, arith}
-use Rattle.std.specs.Ordering.{int_cmp, int_eq, ordering_then}
+-- The order of the numbers and of the days of a lane is that of the values for which they stand.
+use Rattle.std.proofs.Common.{◌≡◌, ℕ, zero, suc, ◌^◌, ◌-◌, Bool, true, false, cond, ℤ, pos, negsuc, ◌<◌, ◌≤ℤ◌, ◌<ℤ◌, FitsSigned, w64, refl, sym, ap, ap₂, ◌∙◌, arith}
+use Rattle.std.specs.Ordering.{int_cmp, int_eq, nat_cmp, ordering_then}
 use Rattle.std.specs.declared.cmp.Ordering.{Ordering}
 use Rattle.std.specs.declared.cmp.Ordering.TheVariants.{Less, Equal, Greater}
-use Rattle.std.proofs.lemmas.Bool.Decides.{Decides-int_eq}
+use Rattle.std.proofs.lemmas.Bool.Decides.{Decides-int_eq, nat_tests}
 use Rattle.std.proofs.lemmas.Int.{ints}
 use Rattle.col_value.specs.Order.{value_cmp}
 use Rattle.col_value.specs.declared.value.Value.TheVariants as value
-use Rattle.block_codec.specs.Held.{number_value}
+use Rattle.block_codec.specs.Held.{day_value, number_value}
 
 abbrev least : ℤ
 least = negsuc (2 ^ 63 - 1)
@@ -53,3 +53,15 @@ lane_cmp a b fa fb = by (int_eq a least) (int_eq b least) refl refl
     by true false p q = ap₂ value_cmp (null_at a p) (number_at b q) ∙ less_is a b (below a b (is_least a p) (at_least b fb) (not_least b q))
     by false true p q = ap₂ value_cmp (number_at a p) (null_at b q) ∙ greater_is a b (below b a (is_least b q) (at_least a fa) (not_least a p))
     by false false p q = ap₂ value_cmp (number_at a p) (number_at b q) ∙ then_equal (int_cmp a b)
+
+nat_less : (a b : ℕ) → a < b → Less ≡ nat_cmp a b
+nat_less a b lt = grind (arith, nat_tests)
+
+nat_greater : (a b : ℕ) → b < a → Greater ≡ nat_cmp a b
+nat_greater a b lt = grind (arith, nat_tests)
+
+pub day_cmp : (a b : ℕ) → value_cmp (day_value a) (day_value b) ≡ nat_cmp a b
+day_cmp zero zero = refl
+day_cmp zero (suc b) = nat_less 0 (suc b) (omega arith)
+day_cmp (suc a) zero = nat_greater (suc a) 0 (omega arith)
+day_cmp (suc a) (suc b) = then_equal (nat_cmp (suc a) (suc b))

@@ -4,7 +4,7 @@ ghost use Rattle.std.specs.Prelude.{◌≡◌, ◌<◌, Bool, true, length, map,
 ghost use Rattle.std.specs.List.{All, list_all};
 ghost use Rattle.col_value.specs.declared.value.Value.{Value as Worth};
 ghost use Rattle.col_value.specs.declared.value.Value.TheVariants.{Null};
-ghost use Rattle.block_codec.specs.Held.{cell_value, number_value, picked};
+ghost use Rattle.block_codec.specs.Held.{cell_value, day_value, number_value, picked};
 
 use col_value::Value;
 use std::alloc::{AllocError, Global};
@@ -17,6 +17,8 @@ pub enum Lanes {
     Each(Vec<Value>),
     /// Numbers, with -2^63 for NULL.
     Numbers(Vec<i64>),
+    /// Days, with 0 for NULL.
+    Days(Vec<u32>),
     /// Words, and for each value the place of its word, so that a word that repeats is held once.
     Coded(Vec<Value>, Vec<u64>),
 }
@@ -39,7 +41,7 @@ impl Model for Block {
     ghost invariant = { λ b. ArePlaces b.lanes };
 }
 
-/// A value of a block to look at: lent where the block holds it, made where it holds a number.
+/// A value of a block to look at: lent where the block holds it, made where it holds a number or a day.
 #[derive(Drop)]
 pub enum Cell<'a> {
     Lent(&'a Value),
@@ -80,6 +82,24 @@ pub fn lane_number(value: &Value) -> Option<i64>
     }
 }
 
+/// The value that a day of a lane stands for.
+pub fn day_value(d: u32) -> Value
+    ensures { result ≡ day_value d }
+{
+    if d == 0 { Value::Null } else { Value::Date(d) }
+}
+
+/// The day of a lane that stands for a value, if one does.
+pub fn lane_day(value: &Value) -> Option<u32>
+    ensures { IfSome result (λ d. day_value d ≡ value.now) }
+{
+    match value {
+        Value::Null => Some(0),
+        Value::Date(d) if *d != 0 => Some(*d),
+        _ => None,
+    }
+}
+
 impl Block {
     /// Values of which each is held.
     pub fn of(values: Vec<Value>) -> Block
@@ -96,6 +116,15 @@ impl Block {
     {
         Block {
             lanes: Lanes::Numbers(numbers),
+        }
+    }
+
+    /// Days, where 0 stands for NULL.
+    pub fn of_days(days: Vec<u32>) -> Block
+        ensures { result ≡ map day_value days.items }
+    {
+        Block {
+            lanes: Lanes::Days(days),
         }
     }
 
@@ -116,6 +145,7 @@ impl Block {
         match &self.lanes {
             Lanes::Each(values) => values.len(),
             Lanes::Numbers(numbers) => numbers.len(),
+            Lanes::Days(days) => days.len(),
             Lanes::Coded(_, places) => places.len(),
         }
     }
@@ -126,6 +156,16 @@ impl Block {
     {
         match &self.lanes {
             Lanes::Numbers(numbers) => Some(numbers.as_slice()),
+            _ => None,
+        }
+    }
+
+    /// The days, where such are held: 0 stands for NULL, and their order is that of the values.
+    pub fn days(&self) -> Option<&[u32]>
+        ensures { IfSome result (λ ds. map day_value ds.now ≡ self.now) }
+    {
+        match &self.lanes {
+            Lanes::Days(days) => Some(days.as_slice()),
             _ => None,
         }
     }
@@ -152,6 +192,7 @@ impl Block {
         match &self.lanes {
             Lanes::Each(values) => Cell::Lent(&values[i]),
             Lanes::Numbers(numbers) => Cell::Made(number_value(numbers[i])),
+            Lanes::Days(days) => Cell::Made(day_value(days[i])),
             Lanes::Coded(words, places) => Cell::Lent(&words[places[i] as usize]),
         }
     }
@@ -164,6 +205,7 @@ impl Block {
         match &self.lanes {
             Lanes::Each(values) => values[i].copy(alloc),
             Lanes::Numbers(numbers) => Ok(number_value(numbers[i])),
+            Lanes::Days(days) => Ok(day_value(days[i])),
             Lanes::Coded(words, places) => words[places[i] as usize].copy(alloc),
         }
     }
@@ -176,6 +218,7 @@ impl Block {
         match lanes {
             Lanes::Each(values) => Ok(values),
             Lanes::Numbers(numbers) => number_values(alloc, numbers.as_slice()),
+            Lanes::Days(days) => day_values(alloc, days.as_slice()),
             Lanes::Coded(words, places) => copies(alloc, words.as_slice(), places.as_slice()),
         }
     }
@@ -188,6 +231,17 @@ fn number_values(alloc: Global, numbers: &[i64]) -> Result<Vec<Value>, AllocErro
     let mut out = Vec::with_capacity(alloc, numbers.len())?;
     for n in numbers {
         out.push(number_value(*n))?;
+    }
+    Ok(out)
+}
+
+/// The values that days of a lane stand for.
+fn day_values(alloc: Global, days: &[u32]) -> Result<Vec<Value>, AllocError>
+    ensures { IfOk result (λ v. v.items ≡ map day_value days.now) }
+{
+    let mut out = Vec::with_capacity(alloc, days.len())?;
+    for d in days {
+        out.push(day_value(*d))?;
     }
     Ok(out)
 }

@@ -3,7 +3,7 @@ use Rattle.std.proofs.Common.{◌≡◌, ℕ, zero, suc, ◌^◌, ◌<◌, ◌�
 use Rattle.std.proofs.lemmas.Bool.{ltb-true, lt-ltb}
 use Rattle.std.proofs.lemmas.Option.{option_and_then_some, cond_some}
 use Rattle.col_value.specs.declared.kinds.ColType.{ColType}
-use Rattle.col_value.specs.declared.kinds.ColType.TheVariants.{Integer, Varchar, Boolean}
+use Rattle.col_value.specs.declared.kinds.ColType.TheVariants.{Integer, Varchar, Boolean, Date}
 use Rattle.col_value.specs.declared.kinds.Encoding.{Encoding}
 use Rattle.col_value.specs.declared.kinds.Encoding.TheVariants.{Auto, Rle, DeltaVal, BlockDict, Plain}
 use Rattle.col_bytes.specs.Spellings.{vint}
@@ -75,13 +75,15 @@ kind_takes (suc (suc zero) ∷ rest) x fits e =
     let t = narrow_codec.takes rest m.0 (IsBytes-rest 2 rest fits) m.1 in
     subst (λ (y : ColType × List ℕ). Takes (2 ∷ rest) (kind y.0) y.1 × FitsKind y.0) m.2 (record { parts = ap (λ (r : List ℕ). 2 ∷ r) t.0.parts; rest_fits = t.0.rest_fits }, t.1)
 kind_takes (suc (suc (suc zero)) ∷ rest) x fits e = subst (λ (y : ColType × List ℕ). Takes (3 ∷ rest) (kind y.0) y.1 × FitsKind y.0) (some_is (Boolean, rest) x e) (one_byte 3 rest fits, tt)
-kind_takes (suc (suc (suc (suc b))) ∷ rest) x fits e = absurd cc
+kind_takes (suc (suc (suc (suc zero))) ∷ rest) x fits e = subst (λ (y : ColType × List ℕ). Takes (4 ∷ rest) (kind y.0) y.1 × FitsKind y.0) (some_is (Date, rest) x e) (one_byte 4 rest fits, tt)
+kind_takes (suc (suc (suc (suc (suc b)))) ∷ rest) x fits e = absurd cc
 
 kind_again : (k : ColType) (rest : List ℕ) → FitsKind k → kind_at (kind k ++ rest) ≡ Some (k, rest)
 unfolding kind_at
 kind_again Integer rest fit = refl
 kind_again (Varchar n) rest fit = rw (narrow_codec.again n rest fit) refl
 kind_again Boolean rest fit = refl
+kind_again Date rest fit = refl
 
 pub kind_codec : IsCodec kind FitsKind kind_at
 kind_codec = record { takes = kind_takes; again = kind_again }

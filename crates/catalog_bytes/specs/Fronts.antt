@@ -1,7 +1,7 @@
 -- Reading a part of a catalogue from the front of some bytes: the part, and the bytes behind it.
 use Rattle.std.specs.Prelude.{◌≡◌, ℕ, zero, suc, ◌^◌, Bool, true, false, List, [], ◌∷◌, Option, Some, None, option_map, option_and_then, nat_lt, if◌then◌else◌, ◌==◌}
 use Rattle.col_value.specs.declared.kinds.ColType.{ColType}
-use Rattle.col_value.specs.declared.kinds.ColType.TheVariants.{Integer, Varchar, Boolean}
+use Rattle.col_value.specs.declared.kinds.ColType.TheVariants.{Integer, Varchar, Boolean, Date}
 use Rattle.col_value.specs.declared.kinds.Encoding.{Encoding}
 use Rattle.col_value.specs.declared.kinds.Encoding.TheVariants.{Auto, Rle, DeltaVal, BlockDict, Plain}
 use Rattle.col_value.specs.declared.column.Column.{Column}
@@ -33,7 +33,8 @@ kind_at (zero ∷ rest) = None
 kind_at (suc zero ∷ rest) = Some (Integer, rest)
 kind_at (suc (suc zero) ∷ rest) = option_map (λ n. (Varchar n.0, n.1)) (narrow_at rest)
 kind_at (suc (suc (suc zero)) ∷ rest) = Some (Boolean, rest)
-kind_at (suc (suc (suc (suc b))) ∷ rest) = None
+kind_at (suc (suc (suc (suc zero))) ∷ rest) = Some (Date, rest)
+kind_at (suc (suc (suc (suc (suc b)))) ∷ rest) = None
 
 unfoldable pub encoding_at : List ℕ → Option (Encoding × List ℕ)
 encoding_at [] = None

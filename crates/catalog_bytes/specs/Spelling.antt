@@ -1,7 +1,7 @@
 -- How a catalogue is spelled as bytes, and what has a spelling.
 use Rattle.std.specs.Prelude.{ℕ, ◌<◌, ◌≤◌, ◌^◌, Bool, true, false, List, [], ◌∷◌, ◌++◌, length, Option, Some, None}
 use Rattle.col_value.specs.declared.kinds.ColType.{ColType}
-use Rattle.col_value.specs.declared.kinds.ColType.TheVariants.{Integer, Varchar, Boolean}
+use Rattle.col_value.specs.declared.kinds.ColType.TheVariants.{Integer, Varchar, Boolean, Date}
 use Rattle.col_value.specs.declared.kinds.Encoding.{Encoding}
 use Rattle.col_value.specs.declared.kinds.Encoding.TheVariants.{Auto, Rle, DeltaVal, BlockDict, Plain}
 use Rattle.col_value.specs.declared.column.Column.{Column}
@@ -16,11 +16,12 @@ abbrev pub flag : Bool → List ℕ
 flag false = 0 ∷ []
 flag true = 1 ∷ []
 
--- 01 INTEGER, 02 VARCHAR with its length, 03 BOOLEAN
+-- 01 INTEGER, 02 VARCHAR with its length, 03 BOOLEAN, 04 DATE
 abbrev pub kind : ColType → List ℕ
 kind Integer = 1 ∷ []
 kind (Varchar n) = 2 ∷ vint n
 kind Boolean = 3 ∷ []
+kind Date = 4 ∷ []
 
 -- 00 AUTO, or the tag of the encoding
 abbrev pub encoding : Encoding → List ℕ
@@ -65,6 +66,7 @@ abbrev pub FitsKind : ColType → Type 0
 FitsKind Integer = Unit {0}
 FitsKind (Varchar n) = n < 2 ^ 32
 FitsKind Boolean = Unit {0}
+FitsKind Date = Unit {0}
 
 abbrev pub FitsMarks : Option ℕ → Type 0
 FitsMarks None = Unit {0}

@@ -51,6 +51,7 @@ pub fn put_kind(out: &mut Vec<u8>, k: ColType) -> Result<(), AllocError>
             put_narrow(out, n)?;
         }
         ColType::Boolean => out.push(3)?,
+        ColType::Date => out.push(4)?,
     }
     Ok(())
 }
@@ -117,6 +118,7 @@ pub fn kind_of(bytes: &[u8]) -> Result<(ColType, &[u8]), Stop>
             Ok((ColType::Varchar(n), rest))
         }
         [3, rest @ ..] => Ok((ColType::Boolean, rest)),
+        [4, rest @ ..] => Ok((ColType::Date, rest)),
         _ => Err(Stop::Malformed),
     }
 }

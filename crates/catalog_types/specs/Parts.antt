@@ -3,7 +3,7 @@ use Rattle.std.specs.Prelude.{◌≡◌, ◌≢◌, ℕ, ◌+◌, ◌^◌, ◌<�
 use Rattle.std.specs.Bool.{OnTrue, OnFalse}
 use Rattle.std.specs.List.{All, Any, slice_get}
 use Rattle.col_value.specs.declared.kinds.ColType.{ColType}
-use Rattle.col_value.specs.declared.kinds.ColType.TheVariants.{Integer, Varchar, Boolean}
+use Rattle.col_value.specs.declared.kinds.ColType.TheVariants.{Integer, Varchar, Boolean, Date}
 use Rattle.col_value.specs.declared.kinds.Encoding.{Encoding}
 use Rattle.col_value.specs.declared.kinds.Encoding.TheVariants.{Auto, Rle, DeltaVal, BlockDict, Plain}
 use Rattle.col_value.specs.declared.column.Column.{Column}
@@ -21,17 +21,19 @@ abbrev pub IsKind : ColType → Type 0
 IsKind Integer = Unit {0}
 IsKind (Varchar n) = (1 ≤ n) × (n ≤ 65000)
 IsKind Boolean = Unit {0}
+IsKind Date = Unit {0}
 
 abbrev pub IsColumn : Column → Type 0
 IsColumn k = IsName k.name × IsKind k.kind
 
--- which columns an encoding is for: DELTAVAL for numbers, the others for all
+-- which columns an encoding is for: DELTAVAL for numbers and dates, the others for all
 abbrev pub takes_kind : Encoding → ColType → Bool
 takes_kind Auto kind = true
 takes_kind Rle kind = true
 takes_kind DeltaVal Integer = true
 takes_kind DeltaVal (Varchar n) = false
 takes_kind DeltaVal Boolean = false
+takes_kind DeltaVal Date = true
 takes_kind BlockDict kind = true
 takes_kind Plain kind = true
 

@@ -18,6 +18,7 @@ fn is_kind(kind: ColType) -> bool
         ColType::Integer => true,
         ColType::Varchar(n) => 1 <= n && n <= 65000,
         ColType::Boolean => true,
+        ColType::Date => true,
     }
 }
 
@@ -37,6 +38,7 @@ fn takes_kind(encoding: Encoding, kind: ColType) -> bool
             ColType::Integer => true,
             ColType::Varchar(_) => false,
             ColType::Boolean => false,
+            ColType::Date => true,
         },
         Encoding::BlockDict => true,
         Encoding::Plain => true,

@@ -8,6 +8,7 @@ use Rattle.std.proofs.lemmas.Bool.Decides.{nat_tests}
 use Rattle.std.proofs.lemmas.List.Elements.{All-cons, All-map}
 use Rattle.std.proofs.lemmas.List.Folds.{list_all-append, find-append}
 use Rattle.std.proofs.lemmas.Int.{ints}
+use Rattle.col_value.specs.Days.{IsDay}
 use Rattle.col_value.specs.Order.{IsValue, IsRow}
 use Rattle.col_value.specs.declared.kinds.ColType.{ColType}
 use Rattle.col_value.specs.declared.wide.Wide.{Wide}
@@ -18,7 +19,7 @@ use Rattle.col_value.specs.declared.column.Column.{Column}
 use Rattle.sql_bound.specs.declared.expr.Kind.{Kind}
 use Rattle.sql_bound.specs.Kinds.{serves, kind_of_column}
 use Rattle.sql_binding.specs.Firsts.{first_of, first_given, refused_where}
-use Rattle.sql_binding.specs.Inserts.{pairs, wrong_count, is_of_column, is_out_of_range, is_too_long, is_stored_number, width_of, narrowed, whole_refusal, first_such, is_refused_null}
+use Rattle.sql_binding.specs.Inserts.{pairs, wrong_count, is_of_column, is_out_of_range, is_too_long, is_stored_number, is_stored_day, width_of, narrowed, whole_refusal, first_such, is_refused_null}
 use Rattle.change_binder.specs.Flaws.{AreStored}
 
 -- literals beside their columns, none of another kind, out of range or too long
@@ -31,15 +32,20 @@ stored_number : (n : ℤ) → not (is_stored_number n) ≡ false → IsValue (na
 stored_number (pos n) h = grind (arith, nat_tests, ints)
 stored_number (negsuc n) h = grind (arith, nat_tests, ints)
 
+stored_day : (d : ℕ) → not (is_stored_day d) ≡ false → IsDay d
+stored_day d h = grind (arith, nat_tests)
+
 stored_text : (k : ColType) (t : List ℕ) → serves Kind.Text (kind_of_column k) ≡ true → nat_lt (width_of k) (length t) ≡ false → length t ≤ 65000
 stored_text ColType.Integer t e h = cc
 stored_text ColType.Boolean t e h = cc
+stored_text ColType.Date t e h = cc
 stored_text (ColType.Varchar n) t e h = omega (arith, ltb-false (min n 65000) (length t) h)
 
 stored_literal : (c : Column) (w : Wide) → is_of_column (c, w) ≡ true → is_out_of_range (c, w) ≡ false → is_too_long (c, w) ≡ false → IsValue (narrowed w)
 stored_literal c wide.Null k r l = tt
 stored_literal c (wide.Bool b) k r l = tt
 stored_literal c (wide.Int n) k r l = stored_number n r
+stored_literal c (wide.Date d) k r l = stored_day d r
 stored_literal c (wide.Text t) k r l = stored_text c.kind t k l
 
 -- what is found nowhere is neither at the front nor behind it

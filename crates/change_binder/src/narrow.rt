@@ -38,6 +38,7 @@ fn narrow(alloc: Global, literal: &Wide) -> Result<Value, AllocError>
         Wide::Null => Ok(Value::Null),
         Wide::Bool(b) => Ok(Value::Bool(*b)),
         Wide::Int(n) => Ok(Value::Int(*n as i64)),
+        Wide::Date(d) => Ok(Value::Date(*d)),
         Wide::Text(t) => Ok(Value::Text(t.copy(alloc)?)),
     }
 }

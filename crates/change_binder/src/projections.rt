@@ -105,7 +105,7 @@ fn check_lists(alloc: Global, projection: &NewProjection) -> Result<(), BindFaul
     Ok(())
 }
 
-/// Refuses DELTAVAL on a column that isn't of numbers.
+/// Refuses DELTAVAL on a column that is neither of numbers nor of dates.
 fn check_encodings(
     alloc: Global,
     projection: &NewProjection,

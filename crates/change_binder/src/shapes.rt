@@ -1,7 +1,7 @@
 ghost use Rattle.std.specs.Prelude.{◌≡◌, IfOk, option_map, map, find, is_none, false};
 ghost use Rattle.std.specs.List.{list_any};
 ghost use Rattle.std.specs.Option.{option_map_or};
-ghost use Rattle.sql_binding.specs.Projections.{name_at, column_at, part_names, sort_names, first_lacking, lacking_name, are_same_names, is_bad_projection, is_deltaval, is_number, is_bad_encoding, has_name, bound_new_part, sort_places, all_places, place_or_0};
+ghost use Rattle.sql_binding.specs.Projections.{name_at, column_at, part_names, sort_names, first_lacking, lacking_name, are_same_names, is_bad_projection, is_deltaval, has_differences, is_bad_encoding, has_name, bound_new_part, sort_places, all_places, place_or_0};
 
 use crate::repeated::has_twice;
 use col_value::{ColType, Column, Encoding, List, Name};
@@ -117,7 +117,7 @@ fn are_same_names(a: &[Name], b: &[Name]) -> bool
     a == b
 }
 
-/// The name of the first column with DELTAVAL that isn't of numbers.
+/// The name of the first column with DELTAVAL that is neither of numbers nor of dates.
 pub(crate) fn bad_encoding<'a>(columns: &[Column], parts: &'a [NewPart]) -> Option<&'a [u8]>
     ensures { option_map (λ n. n.now) result ≡ option_map (λ c. c.name) (find (is_bad_encoding columns.now) parts.entry.now) }
 {
@@ -132,28 +132,29 @@ pub(crate) fn bad_encoding<'a>(columns: &[Column], parts: &'a [NewPart]) -> Opti
 fn is_bad_encoding(columns: &[Column], part: &NewPart) -> bool
     ensures { result ≡ is_bad_encoding columns.now part.now }
 {
-    is_deltaval(part.encoding) && !is_of_numbers(columns, part.name.as_slice())
+    is_deltaval(part.encoding) && !column_has_differences(columns, part.name.as_slice())
 }
 
-/// Whether the column of this name is of numbers.
-fn is_of_numbers(columns: &[Column], name: &[u8]) -> bool
-    ensures { result ≡ option_map_or (λ d. is_number d.kind) (find (has_name name.now) columns.now) false }
+/// Whether the column of this name is of numbers or of dates.
+fn column_has_differences(columns: &[Column], name: &[u8]) -> bool
+    ensures { result ≡ option_map_or (λ d. has_differences d.kind) (find (has_name name.now) columns.now) false }
 {
     for column in columns {
         if column.name.as_slice() == name {
-            return is_number(column.kind);
+            return has_differences(column.kind);
         }
     }
     false
 }
 
-fn is_number(kind: ColType) -> bool
-    ensures { result ≡ is_number kind }
+fn has_differences(kind: ColType) -> bool
+    ensures { result ≡ has_differences kind }
 {
     match kind {
         ColType::Integer => true,
         ColType::Varchar(_) => false,
         ColType::Boolean => false,
+        ColType::Date => true,
     }
 }
 

@@ -111,11 +111,13 @@ a_text : (kind : ColType) (t : List ℕ) → TextFits kind t → IsOfKind (kind_
 a_text ColType.Integer t fits = absurd fits
 a_text (ColType.Varchar n) t fits = inr refl
 a_text ColType.Boolean t fits = absurd fits
+a_text ColType.Date t fits = absurd fits
 
 value_kind : (c : Column) (v : Value) → ValueFits c v → IsOfKind (kind_of_column c.kind) (widened v)
 value_kind c value.Null fits = inl refl
 value_kind c (value.Bool b) fits = inr (ap kind_of_column (sym fits))
 value_kind c (value.Int n) fits = inr (ap kind_of_column (sym fits))
+value_kind c (value.Date d) fits = inr (ap kind_of_column (sym fits))
 value_kind c (value.Text t) fits = a_text c.kind t fits
 
 -- has its columns' kinds

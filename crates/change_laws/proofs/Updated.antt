@@ -44,22 +44,32 @@ number_fits : (kind : ColType) → serves Kind.Number (kind_of_column kind) ≡ 
 number_fits ColType.Integer is = refl
 number_fits (ColType.Varchar n) is = cc
 number_fits ColType.Boolean is = cc
+number_fits ColType.Date is = cc
 
 truth_fits : (kind : ColType) → serves Kind.Truth (kind_of_column kind) ≡ true → kind ≡ ColType.Boolean
 truth_fits ColType.Integer is = cc
 truth_fits (ColType.Varchar n) is = cc
 truth_fits ColType.Boolean is = refl
+truth_fits ColType.Date is = cc
+
+date_fits : (kind : ColType) → serves Kind.Date (kind_of_column kind) ≡ true → kind ≡ ColType.Date
+date_fits ColType.Integer is = cc
+date_fits (ColType.Varchar n) is = cc
+date_fits ColType.Boolean is = cc
+date_fits ColType.Date is = refl
 
 text_fits : (kind : ColType) (t : List ℕ) → serves Kind.Text (kind_of_column kind) ≡ true → nat_lt (width_of kind) (length t) ≡ false → TextFits kind t
 text_fits ColType.Integer t is short = cc
 text_fits (ColType.Varchar n) t is short = let to : length t ≤ min n 65000 = grind (arith, nat_tests) in omega (arith, to)
 text_fits ColType.Boolean t is short = cc
+text_fits ColType.Date t is short = cc
 
 -- a value of a column's kind that isn't refused there fits it
 value_fits : (c : Column) (w : Wide) → serves (kind_of_value w) (kind_of_column c.kind) ≡ true → is_too_long (c, w) ≡ false → is_refused_null (c, w) ≡ false → ValueFits c (narrowed w)
 value_fits c wide.Null right short there = there
 value_fits c (wide.Bool b) right short there = truth_fits c.kind right
 value_fits c (wide.Int n) right short there = number_fits c.kind right
+value_fits c (wide.Date d) right short there = date_fits c.kind right
 value_fits c (wide.Text t) right short there = text_fits c.kind t right short
 
 -- ---- one row

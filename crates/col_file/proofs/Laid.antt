@@ -11,8 +11,9 @@ use Rattle.col_value.specs.declared.kinds.Encoding.{Encoding}
 use Rattle.col_value.specs.declared.value.Value.{Value}
 use Rattle.value_bytes.specs.Spelling.{IsSpelled}
 use Rattle.block_codec.specs.Blocks.{IsOneBlock}
-use Rattle.block_choice.specs.Choice.{Takes, block_of, SpellsAs}
+use Rattle.block_choice.specs.Choice.{TakesAll, block_of, SpellsAs}
 use Rattle.block_choice.proofs.Spelled.{written, block_some}
+use Rattle.block_choice.proofs.Taken.{front_taken, rest_taken}
 use Rattle.pos_index.specs.declared.index.Entry.{Entry}
 use Rattle.pos_index.specs.Index.{blocks, IsIndex, Fits}
 use Rattle.pos_index.specs.Built.{nth_block, entry_of, entries_of, are_rising, ArePlaces}
@@ -118,8 +119,8 @@ one_block k vs lt all =
     let long : length (nth_block k vs) ≡ min 1024 (length vs - 1024 * k) = length-take 1024 (drop (1024 * k) vs) ∙ ap (min 1024) (length-drop (1024 * k) vs) in
     record { some = omega (arith, long, lt); few = omega (arith, long); values = All-take IsSpelled 1024 (drop (1024 * k) vs) (All-drop IsSpelled (1024 * k) vs all) }
 
-pub each_taken : (encoding : Encoding) (k : ℕ) (vs : List Value) → All (Takes encoding) vs → All (Takes encoding) (nth_block k vs)
-each_taken encoding k vs all = All-take (Takes encoding) 1024 (drop (1024 * k) vs) (All-drop (Takes encoding) (1024 * k) vs all)
+pub block_taken : (encoding : Encoding) (k : ℕ) (vs : List Value) → TakesAll encoding vs → TakesAll encoding (nth_block k vs)
+block_taken encoding k vs taken = front_taken encoding 1024 (drop (1024 * k) vs) (rest_taken encoding (1024 * k) vs taken)
 
 block_laid : (k place : ℕ) (vs : List Value) → 1024 * k < length vs → All IsSpelled vs → IsBlock (length vs) (entry_of k place vs) (nth_block k vs)
 block_laid k place vs lt all = record {
@@ -128,7 +129,7 @@ block_laid k place vs lt all = record {
   between = between_all (nth_block k vs);
 }
 
-blocks_laid : (encoding : Encoding) (j k n : ℕ) (vs : List Value) → j ≡ k + n → 1024 * j < length vs + 1024 → length vs ≤ 1024 * j → All IsSpelled vs → All (Takes encoding) vs
+blocks_laid : (encoding : Encoding) (j k n : ℕ) (vs : List Value) → j ≡ k + n → 1024 * j < length vs + 1024 → length vs ≤ 1024 * j → All IsSpelled vs → TakesAll encoding vs
     → HasBlocks encoding (length vs) (first_blocks encoding j vs) (entries_from encoding k n vs) (drop (1024 * k) vs)
 blocks_laid encoding j k zero vs e last whole all kinds =
     let past : length vs ≤ 1024 * k = omega (arith, e, whole) in
@@ -144,12 +145,12 @@ blocks_laid encoding j k (suc n) vs e last whole all kinds =
       nth_block k vs,
       drop (1024 * suc k) vs,
       block_laid k (length (first_blocks encoding k vs)) vs lt all,
-      subst (SpellsAs encoding (nth_block k vs)) (sym there) (written encoding (nth_block k vs) (one_block k vs lt all) (each_taken encoding k vs kinds)),
+      subst (SpellsAs encoding (nth_block k vs)) (sym there) (written encoding (nth_block k vs) (one_block k vs lt all) (block_taken encoding k vs kinds)),
       blocks_laid encoding j (suc k) n vs up last whole all kinds,
       parts,
     )
 
-pub written_blocks : (encoding : Encoding) (vs : List Value) → 0 < length vs → All IsSpelled vs → All (Takes encoding) vs → HasBlocks encoding (length vs) (body_spelling encoding vs) (entries_of 0 (first_places encoding (blocks (length vs)) vs) vs) vs
+pub written_blocks : (encoding : Encoding) (vs : List Value) → 0 < length vs → All IsSpelled vs → TakesAll encoding vs → HasBlocks encoding (length vs) (body_spelling encoding vs) (entries_of 0 (first_places encoding (blocks (length vs)) vs) vs) vs
 written_blocks encoding vs some all kinds =
     let n : ℕ = blocks (length vs) in
     let whole : length vs ≤ 1024 * blocks (length vs) = omega arith in

@@ -2,6 +2,7 @@ pub mod Looking
 pub mod Written
 pub mod Found
 pub mod Numbers
+pub mod Days
 pub mod Blocks
 pub mod ByBlocks
 pub mod OneColumn

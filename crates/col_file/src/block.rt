@@ -114,7 +114,7 @@ fn block_values<D: Disk>(
 }
 
 /// The values of block k of a column. Of the file only the block's bytes are read, from its place to the next block's, of the
-/// last to the end of the file. A block of an AUTO column may be in any of the four encodings, of another in its own alone.
+/// last to the end of the file. A block of an AUTO column may be in any of the encodings, of another in its own alone.
 /// `Damaged(body)` comes only where the file is absent, or the bytes of the block are no block of as many values as the index says, each
 /// from the block's least to its greatest.
 pub fn read_values<D: Disk>(

@@ -4,19 +4,20 @@ ghost use Rattle.std.specs.Prelude.{◌≡◌, ◌&&◌, ◌==◌, ◌-◌, map,
 ghost use Rattle.std.specs.List.{list_all};
 ghost use Rattle.std.specs.Ordering.{is_le};
 ghost use Rattle.col_value.specs.Order.{value_cmp};
-ghost use Rattle.block_codec.specs.Held.{number_value};
+ghost use Rattle.block_codec.specs.Held.{day_value, number_value};
 ghost use Rattle.col_file.specs.Read.{is_between};
 
-use block_codec::{Block, lane_number};
+use block_codec::{Block, lane_day, lane_number};
 use col_value::Value;
 use pos_index::Entry;
 
-/// Whether it is less than the other or the same: numbers, the most of all values, without a look at their kinds' order.
+/// Whether it is less than the other or the same: numbers and days without a look at their kinds' order.
 fn is_at_most(a: &Value, b: &Value) -> bool
     ensures { result ≡ is_le (value_cmp a.now b.now) }
 {
     match (a, b) {
         (Value::Int(a), Value::Int(b)) => *a <= *b,
+        (Value::Date(a), Value::Date(b)) => *a <= *b,
         _ => a.order(b).is_le(),
     }
 }
@@ -61,6 +62,29 @@ fn are_numbers_within(entry: &Entry, least: i64, greatest: i64, numbers: &[i64])
     true
 }
 
+/// Whether the value of a day of a lane lies between those of two others, which are the entry's least and greatest.
+fn is_day_within(entry: &Entry, least: u32, greatest: u32, d: u32) -> bool
+    requires least { day_value least ≡ entry.now.least }
+    requires greatest { day_value greatest ≡ entry.now.greatest }
+    ensures { result ≡ is_between entry.now (day_value d) }
+{
+    least <= d && d <= greatest
+}
+
+/// The same of all values of a lane.
+fn are_days_within(entry: &Entry, least: u32, greatest: u32, days: &[u32]) -> bool
+    requires least { day_value least ≡ entry.now.least }
+    requires greatest { day_value greatest ≡ entry.now.greatest }
+    ensures { result ≡ list_all (λ d. is_between entry.now (day_value d)) days.now }
+{
+    for d in days {
+        if !is_day_within(entry, least, greatest, *d) {
+            return false;
+        }
+    }
+    true
+}
+
 fn are_each_between(entry: &Entry, values: &Block) -> bool
     ensures { result ≡ list_all (is_between entry.now) values.now }
 {
@@ -84,12 +108,26 @@ fn are_numbers_between(entry: &Entry, numbers: &[i64], values: &Block) -> bool
     }
 }
 
+/// The same of a lane of days, whose ends are days mostly.
+fn are_days_between(entry: &Entry, days: &[u32], values: &Block) -> bool
+    requires { map day_value days.now ≡ values.now }
+    ensures { result ≡ list_all (is_between entry.now) values.now }
+{
+    match (lane_day(&entry.least), lane_day(&entry.greatest)) {
+        (Some(least), Some(greatest)) => are_days_within(entry, least, greatest, days),
+        _ => are_each_between(entry, values),
+    }
+}
+
 /// Whether all values of a block are: of words there may be few, but a word may stand for none of the values.
 fn are_between(entry: &Entry, values: &Block) -> bool
     ensures { result ≡ list_all (is_between entry.now) values.now }
 {
     if let Some(numbers) = values.numbers() {
         return are_numbers_between(entry, numbers, values);
+    }
+    if let Some(days) = values.days() {
+        return are_days_between(entry, days, values);
     }
     if let Some((words, _)) = values.coded() {
         if are_words_between(entry, words) {

@@ -7,7 +7,7 @@ ghost use Rattle.common_laws.specs.Maps.{Contents};
 ghost use Rattle.col_disk.specs.Moved.{Moved, NoName, Named, Either};
 ghost use Rattle.col_value.specs.Order.{IsValue};
 ghost use Rattle.value_bytes.specs.Spelling.{IsSpelled};
-ghost use Rattle.block_choice.specs.Choice.{Takes, block_of};
+ghost use Rattle.block_choice.specs.Choice.{TakesAll, block_of};
 ghost use Rattle.pos_index.specs.Index.{index_spelling};
 ghost use Rattle.pos_index.specs.Built.{nth_block};
 ghost use Rattle.col_file.specs.Column.{body_spelling, column_index, IsColumn};
@@ -43,7 +43,7 @@ fn push_block(
 ) -> Result<(), AllocError>
     requires block { 1024 * k < length values.now }
     requires values { All IsSpelled values.now }
-    requires kinds { All (Takes encoding) values.now }
+    requires kinds { TakesAll encoding values.now }
     ensures body { OnOk result (body.new.items ≡ body.old.items ++ block_of encoding (nth_block k values.now)) }
     ensures places { OnOk result (places.new.items ≡ places.old.items ++ length body.old.items ∷ []) }
 {
@@ -61,7 +61,7 @@ fn column_bytes(
     requires some { 0 < length values.now }
     requires values { All IsValue values.now }
     requires spelled { All IsSpelled values.now }
-    requires kinds { All (Takes encoding) values.now }
+    requires kinds { TakesAll encoding values.now }
     ensures bytes { IfOk result (λ x. (x.0.items ≡ body_spelling encoding values.now) × (x.1.items ≡ index_spelling (column_index encoding values.now))) }
     ensures small { IfOk result (λ x. length x.0.items < 2 ^ 64) }
 {
@@ -76,7 +76,7 @@ fn column_bytes(
 
 /// Makes the two files of a column, which then hold these values: `body` its blocks of 1,024 values one after the other,
 /// the last with those that are left, each in the column's encoding, and `index` their index. A DELTAVAL column has
-/// numbers and NULL alone. After a fault each of the two files is as it was, absent, or holds anything, and no other file
+/// numbers and NULL, or dates and NULL. After a fault each of the two files is as it was, absent, or holds anything, and no other file
 /// is touched.
 pub fn write_column<D: Disk>(
     alloc: Global,
@@ -89,7 +89,7 @@ pub fn write_column<D: Disk>(
     requires apart { body ≢ index }
     requires some { 0 < length values.now }
     requires values { All IsValue values.now }
-    requires kinds { All (Takes encoding) values.now }
+    requires kinds { TakesAll encoding values.now }
     ensures written { OnOk result (IsColumn encoding body index values.now (D.holds disk.new)) }
     ensures held { OnOk result ((m : Contents) → D.holds disk.new ≡ Some m → HoldsColumn encoding body index (length values.now) m values.now) }
     ensures moved { Moved ⟦<D as Disk>⟧ (Either (Named body) (Named index)) NoName disk.old disk.new }

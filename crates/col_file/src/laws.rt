@@ -6,7 +6,7 @@ ghost use Rattle.common_laws.specs.Maps.{Contents};
 ghost use Rattle.col_value.specs.declared.kinds.Encoding.{Encoding};
 ghost use Rattle.col_value.specs.declared.value.Value.{Value};
 ghost use Rattle.value_bytes.specs.Spelling.{IsSpelled};
-ghost use Rattle.block_choice.specs.Choice.{Takes};
+ghost use Rattle.block_choice.specs.Choice.{TakesAll};
 ghost use Rattle.col_file.specs.Column.{body_spelling, IsColumn};
 ghost use Rattle.col_file.specs.Held.{HoldsColumn};
 
@@ -17,5 +17,5 @@ pub fn one_column()
 
 /// What `write_column` made is read again: its two files hold the written values.
 pub fn a_written_column_is_held()
-    ensures { (encoding : Encoding) (body index : ℕ) (m : Contents) (vs : List Value) → 0 < length vs → length vs < 2 ^ 64 → All IsSpelled vs → All (Takes encoding) vs → length (body_spelling encoding vs) < 2 ^ 64 → IsColumn encoding body index vs (Some m) → HoldsColumn encoding body index (length vs) m vs }
+    ensures { (encoding : Encoding) (body index : ℕ) (m : Contents) (vs : List Value) → 0 < length vs → length vs < 2 ^ 64 → All IsSpelled vs → TakesAll encoding vs → length (body_spelling encoding vs) < 2 ^ 64 → IsColumn encoding body index vs (Some m) → HoldsColumn encoding body index (length vs) m vs }
 {}

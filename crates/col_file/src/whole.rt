@@ -84,7 +84,7 @@ fn read_blocks<D: Disk>(
 
 /// All values of a column of so many rows, in their order; each block is read once. `Damaged(index)` comes only where
 /// the index file is absent, is no index, or is one of another number of rows; `Damaged(body)` only where the two
-/// files hold no such column. A block of an AUTO column may be in any of the four encodings, of another in its own alone.
+/// files hold no such column. A block of an AUTO column may be in any of the encodings, of another in its own alone.
 pub fn read_column<D: Disk>(
     alloc: Global,
     disk: &mut D,

@@ -1,13 +1,11 @@
 -- The ten characters of a date name it.
-use Rattle.std.proofs.Common.{◌≡◌, ◌+◌, ◌*◌, ◌/◌, ◌%◌, ◌≤◌, List, [], ◌∷◌, length, get_or, refl, sym, ap, ◌∙◌, arith}
+use Rattle.std.proofs.Common.{◌≡◌, ◌⊎◌, ◌+◌, ◌*◌, ◌/◌, ◌%◌, ◌≤◌, inl, inr, ℕ, zero, suc, pos, true, List, [], ◌∷◌, length, get_or, refl, sym, ap, ◌∙◌, arith}
 use Rattle.std.specs.Prelude.{Option, Some, None, IfSome, IfNone}
-use Rattle.col_value.specs.Days.{Ymd, digit, ten, date_of, IsDay, SaysDay, ReadsDay}
 use Rattle.std.specs.Str.{bytes_eq}
-use Rattle.std.proofs.Common.{◌⊎◌, inl, inr, ℕ, zero, suc, ◌<◌, Bool, true, false}
 use Rattle.std.proofs.lemmas.Bool.{cases_Bool, cases_lt}
 use Rattle.std.proofs.lemmas.Slice.Eq.{bytes_eq-Decides}
 use Rattle.jiff_core.proofs.CalendarLemmas.{days_in_month_bounds}
-use Rattle.std.proofs.Common.{pos}
+use Rattle.col_value.specs.Days.{Ymd, digit, ten, date_of, IsDay, SaysDay, ReadsDay}
 use Rattle.col_value.proofs.Calendar.{day_is_civil, one_day}
 
 pub by_digits : (high low : ℕ) → high ≤ 99 → low ≤ 99 → (e g : ℕ) → e ≤ 99 → g ≤ 99 → (48 + high / 10) ∷ (48 + high % 10) ∷ (48 + low / 10) ∷ (48 + low % 10) ∷ 45 ∷ (48 + e / 10) ∷ (48 + e % 10) ∷ 45 ∷ (48 + g / 10) ∷ (48 + g % 10) ∷ [] ≡ ten (high * 100 + low, e, g)
@@ -106,9 +104,9 @@ one_more text k (inr none) few =
     elim (is_or_not text (ten (date_of (suc k)))) [
       | inl same ↦ inl (suc k, omega arith, ((omega arith, few), same))
       | inr other ↦ inr (λ n le says. elim (cases_lt k n) [
-          | inr low ↦ none n low says
-          | inl high ↦ let last : n ≡ suc k = omega (arith, high, le) in other (says.1 ∙ ap (λ (m : ℕ). ten (date_of m)) last)
-        ])
+        | inr low ↦ none n low says
+        | inl high ↦ let last : n ≡ suc k = omega (arith, high, le) in other (says.1 ∙ ap (λ (m : ℕ). ten (date_of m)) last)
+      ])
     ]
 
 no_more : (text : List ℕ) (k : ℕ) → k ≤ 3652059 → ((n : ℕ) × (n ≤ k) × SaysDay text n) ⊎ ((n : ℕ) → n ≤ k → SaysDay text n → ⊥)

@@ -11,12 +11,12 @@ use Rattle.sql_tree.specs.declared.refusal.Refusal.{Refusal}
 use Rattle.db_model.specs.Database.{Table}
 use Rattle.db_model.specs.State.{State}
 use Rattle.db_model.specs.Sound.{IsSoundDatabase}
-use Rattle.db_model.specs.Epochs.{last_good}
+use Rattle.db_model.specs.Epochs.{last_good, rises}
 use Rattle.db_model.specs.Views.{table_found}
-use Rattle.db_model.specs.Events.{table_created, projection_created, table_dropped, projection_dropped, rows_pending, rows_deleted, rows_updated, rows_loaded}
+use Rattle.db_model.specs.Events.{mark_raised, table_created, projection_created, table_dropped, projection_dropped, rows_pending, rows_deleted, rows_updated, rows_loaded}
 use Rattle.db_model.specs.Loading.{Files}
 use Rattle.db_model.specs.Mover.{MovesAll}
-use Rattle.db_model.specs.Leaving.{Leaves, RefusedLeaves, CallLeaves, RefusedCallLeaves, CopyLeaves}
+use Rattle.db_model.specs.Leaving.{Leaves, MarkLeaves, RefusedLeaves, CallLeaves, RefusedCallLeaves, CopyLeaves}
 use Rattle.db_model.specs.Step.{Step, Effect}
 use Rattle.db_model.specs.Run.{Setting, RunTexts, Run, EndsUnless, all_dropped}
 use Rattle.db_laws.proofs.Goods.{IsGood, good_least, good_itself, good_created, good_projected, good_dropped, good_bared, good_committed, good_drawn, good_all, good_mover, good_runs}
@@ -38,12 +38,16 @@ copied_good n state None held new leaves good = absurd leaves
 copied_good n state (Some e) None new leaves good = absurd leaves
 copied_good n state (Some e) (Some bytes) new (rows, loads, same) good = same_good n (rows_loaded e.1.name rows state) new same (good_committed n (rows_pending e.1.name rows state) good)
 
+pub marked_good : (n : ℕ) (b : Bool) (mark : ℕ) (state new : State) → MarkLeaves b mark state new → IsGood n state.database → IsGood n new.database
+marked_good n true mark state new drawn good = good_drawn n state (mark_raised mark state) new drawn (record { closed = good.closed; tables = good.tables })
+marked_good n false mark state new same good = same_good n state new same good
+
 called_good : (n : ℕ) (state : State) (f : Function) (new : State) → CallLeaves state f new → IsGood n state.database → IsGood n new.database
 called_good n state Function.Lge new same good = same_good n state new same good
 called_good n state Function.Ahm new same good = same_good n state new same good
 called_good n state Function.Current new same good = same_good n state new same good
-called_good n state Function.MakeAhmNow new leaves good = absurd leaves
-called_good n state (Function.SetAhm m) new leaves good = absurd leaves
+called_good n state Function.MakeAhmNow new leaves good = marked_good n (rises (last_good state.database) state.database) (last_good state.database) state new leaves good
+called_good n state (Function.SetAhm m) new leaves good = marked_good n (rises m state.database) m state new leaves good
 called_good n state Function.Moveout new moves good = good_all n state false new moves good
 called_good n state Function.Mergeout new leaves good = absurd leaves
 called_good n state (Function.Purge table) new leaves good = absurd leaves

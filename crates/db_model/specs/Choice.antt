@@ -44,7 +44,7 @@ used_columns q =
 abbrev pub within_item : FromItem → List ℕ → List ℕ
 within_item f columns = map (λ c. c - f.first) (filter (λ c. nat_le f.first c && nat_lt c (f.first + f.columns)) columns)
 
--- What an expression is to the choice: a text, a truth value, a number, or a minus and a number is a constant; a column stands alone;
+-- What an expression is to the choice: a text, a date, a truth value, a number, or a minus and a number is a constant; a column stands alone;
 -- and a comparison of the two bounds the column.
 pub record Side : Type 0 where
   pub number : Bool
@@ -62,6 +62,7 @@ abbrev pub literal_side : Wide → Side
 literal_side wide.Null = other_side
 literal_side (wide.Bool b) = constant_side false true
 literal_side (wide.Int n) = constant_side true true
+literal_side (wide.Date d) = constant_side false true
 literal_side (wide.Text t) = constant_side false true
 
 -- all comparisons but `<>` bound

@@ -1,5 +1,5 @@
 -- The last good epoch, and a database as it was at an epoch.
-use Rattle.std.specs.Prelude.{ℕ, min, fold, if◌then◌else◌, List, [], ◌∷◌, map, filter}
+use Rattle.std.specs.Prelude.{ℕ, Bool, nat_lt, min, fold, if◌then◌else◌, List, [], ◌∷◌, map, filter}
 use Rattle.std.specs.List.{flat_map}
 use Rattle.row_history.specs.History.{cut_rows}
 use Rattle.db_model.specs.Database.{Shape, Table, Database}
@@ -16,6 +16,10 @@ least_or other (n ∷ ns) = fold min n ns
 -- where no projection is up to date.
 abbrev pub last_good : Database → ℕ
 last_good d = least_or d.last (map (λ s. s.lge) (filter (λ s. s.fresh) (all_shapes d.tables)))
+
+-- the ancient history mark rises to a later epoch
+abbrev pub rises : ℕ → Database → Bool
+rises mark d = nat_lt d.ahm mark
 
 -- a projection that is up to date has all its rows on disk up to the epoch
 abbrev pub moved_shape : ℕ → Shape → Shape

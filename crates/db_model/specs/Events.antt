@@ -88,6 +88,10 @@ without_shape name t = record t { shapes = filter (λ s. is_not_named name s.nam
 abbrev pub projection_dropped : List ℕ → State → State
 projection_dropped name state = record (with_tables (map (without_shape name) state.database.tables) state) { asked = filter (is_not_named name) state.asked; busy = 0 }
 
+-- MAKE_AHM_NOW and SET_AHM_EPOCH: the ancient history mark rises
+abbrev pub mark_raised : ℕ → State → State
+mark_raised mark state = record state { database = record (state.database) { ahm = mark } }
+
 -- rows join the session's pending rows: it holds the table in mode I, or in mode X where it did
 abbrev pub rows_pending : List ℕ → List (List Value) → State → State
 rows_pending table rows state = with_changes (with_rows table rows (own_changes state)) state

@@ -1,13 +1,14 @@
 -- What each statement leaves.
-use Rattle.std.specs.Prelude.{ℕ, ◌≡◌, ◌⊎◌, true, false, List, Option, Some, None}
+use Rattle.std.specs.Prelude.{ℕ, ◌≡◌, ◌⊎◌, Bool, true, false, List, Option, Some, None}
 use Rattle.sql_tree.specs.declared.statement.Function.{Function}
 use Rattle.sql_tree.specs.declared.statement.Statement.{Statement}
 use Rattle.sql_binding.specs.Inserts.{inserted_rows}
 use Rattle.db_model.specs.Database.{Table}
 use Rattle.db_model.specs.State.{State}
 use Rattle.db_model.specs.Views.{table_found}
+use Rattle.db_model.specs.Epochs.{last_good, rises}
 use Rattle.db_model.specs.Numbers.{IsDrawn}
-use Rattle.db_model.specs.Events.{table_created, projection_created, table_dropped, projection_dropped, rows_pending, on_table, rows_deleted, rows_updated, rows_loaded, changes_committed, changes_dropped}
+use Rattle.db_model.specs.Events.{table_created, projection_created, table_dropped, projection_dropped, mark_raised, rows_pending, on_table, rows_deleted, rows_updated, rows_loaded, changes_committed, changes_dropped}
 use Rattle.db_model.specs.Loading.{Files, Load, Loads}
 use Rattle.db_model.specs.Mover.{MovesAll, MoverSteps}
 
@@ -20,13 +21,18 @@ CopyLeaves state None held new = ⊥
 CopyLeaves state (Some e) None new = ⊥
 CopyLeaves state (Some e) (Some bytes) new = LoadLeaves state e bytes new
 
+-- a mark that rises draws; one at which the ancient history mark stands leaves all as it is
+abbrev pub MarkLeaves : Bool → ℕ → State → State → Type 0
+MarkLeaves true mark state new = IsDrawn state (mark_raised mark state) new
+MarkLeaves false mark state new = new ≡ state
+
 -- the functions that are defined so far
 abbrev pub CallLeaves : State → Function → State → Type 0
 CallLeaves state Function.Lge new = new ≡ state
 CallLeaves state Function.Ahm new = new ≡ state
 CallLeaves state Function.Current new = new ≡ state
-CallLeaves state Function.MakeAhmNow new = ⊥
-CallLeaves state (Function.SetAhm n) new = ⊥
+CallLeaves state Function.MakeAhmNow new = MarkLeaves (rises (last_good state.database) state.database) (last_good state.database) state new
+CallLeaves state (Function.SetAhm n) new = MarkLeaves (rises n state.database) n state new
 CallLeaves state Function.Moveout new = MovesAll state false new
 CallLeaves state Function.Mergeout new = ⊥
 CallLeaves state (Function.Purge table) new = ⊥

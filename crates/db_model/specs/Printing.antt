@@ -68,8 +68,8 @@ abbrev pub CallPrints : State → Function → List ℕ → Type 0
 CallPrints state Function.Lge text = text ≡ counted_line (codes "LGE ") (last_good state.database)
 CallPrints state Function.Ahm text = text ≡ counted_line (codes "AHM ") state.database.ahm
 CallPrints state Function.Current text = text ≡ epoch_line (state.database.last + 1)
-CallPrints state Function.MakeAhmNow text = ⊥
-CallPrints state (Function.SetAhm n) text = ⊥
+CallPrints state Function.MakeAhmNow text = text ≡ counted_line (codes "AHM ") (last_good state.database)
+CallPrints state (Function.SetAhm n) text = text ≡ counted_line (codes "AHM ") n
 CallPrints state Function.Moveout text = text ≡ codes "MOVEOUT\n"
 CallPrints state Function.Mergeout text = ⊥
 CallPrints state (Function.Purge table) text = ⊥

@@ -1,5 +1,5 @@
 -- Why each statement is refused, if it is. Each reason is looked for in the whole statement before the next one.
-use Rattle.std.specs.Prelude.{ℕ, ◌≡◌, ◌⊎◌, ◌+◌, ◌==◌, not, nat_lt, nat_le, Bool, true, false, List, length, map, filter, find, Option, Some, None, option_map, option_and_then, bytes_eq}
+use Rattle.std.specs.Prelude.{ℕ, ◌≡◌, ◌⊎◌, ◌+◌, ◌==◌, ◌&&◌, ◌||◌, not, nat_lt, nat_le, Bool, true, false, List, length, map, filter, find, Option, Some, None, option_map, option_and_then, bytes_eq}
 use Rattle.std.specs.List.{list_all, list_any, enumerate_from, flat_map}
 use Rattle.std.specs.Option.{option_map_or}
 use Rattle.col_value.specs.declared.value.Value.{Value}
@@ -24,11 +24,12 @@ use Rattle.sql_binding.specs.Queries.{query_refusal}
 use Rattle.sql_binding.specs.Changes.{delete_refusal, update_refusal}
 use Rattle.sql_binding.specs.Projections.{projection_name_refusal, projection_form_refusal, name_limit}
 use Rattle.sql_binding.specs.Inserts.{insert_refusal, stored_refusal, first_such, is_out_of_range, is_too_long, is_refused_null}
-use Rattle.db_model.specs.Database.{Table, is_super}
+use Rattle.db_model.specs.Database.{Database, Table, is_super}
 use Rattle.db_model.specs.State.{State, own_changes, pending_rows}
 use Rattle.db_model.specs.Locks.{conflict}
 use Rattle.db_model.specs.Views.{table_found, columns_found, source_columns, bound_in, inputs}
-use Rattle.db_model.specs.Numbers.{spent_refusal}
+use Rattle.db_model.specs.Epochs.{last_good, rises}
+use Rattle.db_model.specs.Numbers.{are_spent, spent_refusal}
 use Rattle.db_model.specs.Events.{update_keep, update_sets, updated_old, rows_pending}
 use Rattle.db_model.specs.Loading.{Files, Load, Loads}
 use Rattle.db_model.specs.Mover.{MovesAll}
@@ -161,13 +162,21 @@ SelectRefuses state at q why =
 abbrev pub MoveoutRefuses : State → Option Refusal → Type 0
 MoveoutRefuses state why = (stopped : Bool) × (new : State) × MovesAll state stopped new × (why ≡ refused_where stopped Refusal.NumbersSpent)
 
+-- the ancient history mark neither falls nor passes the last good epoch
+abbrev pub mark_refusal : ℕ → Database → Option Refusal
+mark_refusal mark d = refused_where (nat_lt mark d.ahm || nat_lt (last_good d) mark) (Refusal.BadMark mark d.ahm (last_good d))
+
+-- a mark that rises draws
+abbrev pub raise_refusal : ℕ → State → Option Refusal
+raise_refusal mark state = refused_where (rises mark state.database && are_spent state) Refusal.NumbersSpent
+
 -- the functions that are defined so far
 abbrev pub CallRefuses : State → Function → Option Refusal → Type 0
 CallRefuses state Function.Lge why = why ≡ None
 CallRefuses state Function.Ahm why = why ≡ None
 CallRefuses state Function.Current why = why ≡ None
-CallRefuses state Function.MakeAhmNow why = ⊥
-CallRefuses state (Function.SetAhm n) why = ⊥
+CallRefuses state Function.MakeAhmNow why = why ≡ raise_refusal (last_good state.database) state
+CallRefuses state (Function.SetAhm n) why = why ≡ first_of (mark_refusal n state.database) (raise_refusal n state)
 CallRefuses state Function.Moveout why = MoveoutRefuses state why
 CallRefuses state Function.Mergeout why = ⊥
 CallRefuses state (Function.Purge table) why = ⊥

@@ -34,6 +34,7 @@ abbrev pub is_wrong_width : ColType → Bool
 is_wrong_width ColType.Integer = false
 is_wrong_width (ColType.Varchar n) = if nat_lt n 1 then true else nat_lt 65000 n
 is_wrong_width ColType.Boolean = false
+is_wrong_width ColType.Date = false
 
 abbrev pub width_limit : ColType → Option Refusal
 width_limit kind = refused_where (is_wrong_width kind) (Refusal.Limit Which.Length 65000)

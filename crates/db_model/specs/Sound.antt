@@ -18,12 +18,14 @@ abbrev pub TextFits : ColType → List ℕ → Type 0
 TextFits ColType.Integer text = ⊥
 TextFits (ColType.Varchar n) text = length text ≤ n
 TextFits ColType.Boolean text = ⊥
+TextFits ColType.Date text = ⊥
 
 -- a value fits a column: it is of the column's kind, or NULL where the column allows it
 abbrev pub ValueFits : Column → Value → Type 0
 ValueFits c value.Null = c.not_null ≡ false
 ValueFits c (value.Bool b) = c.kind ≡ ColType.Boolean
 ValueFits c (value.Int n) = c.kind ≡ ColType.Integer
+ValueFits c (value.Date d) = c.kind ≡ ColType.Date
 ValueFits c (value.Text t) = TextFits c.kind t
 
 -- a row fits columns: its values are values of a table, one for each column, and each fits its column

@@ -61,7 +61,7 @@ fn read_longer(bytes: &[u8]) -> Result<(u64, &[u8]), Stop>
 
 /// The delta at the front. Most take one byte, two or three.
 #[tactic(auto, unfolding(col_bytes::specs::Fronts::groups_at))]
-fn read_delta(bytes: &[u8]) -> Result<(u64, &[u8]), Stop>
+pub fn read_delta(bytes: &[u8]) -> Result<(u64, &[u8]), Stop>
     ensures { Gives (λ x. (x.0, x.1.now)) result (vint_at bytes.now) }
 {
     if let [low, rest @ ..] = bytes {

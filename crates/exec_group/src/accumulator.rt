@@ -119,7 +119,7 @@ fn number_or_zero(value: &Worth<'_>) -> i128
 {
     match value {
         Worth::Int(n) => *n,
-        Worth::Null | Worth::Bool(_) | Worth::Text(_) => 0,
+        Worth::Null | Worth::Bool(_) | Worth::Date(_) | Worth::Text(_) => 0,
     }
 }
 
@@ -140,7 +140,8 @@ fn kind(value: &Worth<'_>) -> u8
         Worth::Null => 0,
         Worth::Bool(_) => 1,
         Worth::Int(_) => 2,
-        Worth::Text(_) => 3,
+        Worth::Date(_) => 3,
+        Worth::Text(_) => 4,
     }
 }
 
@@ -151,6 +152,7 @@ fn order(a: &Worth<'_>, b: &Worth<'_>) -> Ordering
     match (a, b) {
         (Worth::Bool(a), Worth::Bool(b)) => a.cmp(b),
         (Worth::Int(a), Worth::Int(b)) => a.cmp(b),
+        (Worth::Date(a), Worth::Date(b)) => a.cmp(b),
         (Worth::Text(a), Worth::Text(b)) => a.as_bytes().cmp(&b.as_bytes()),
         _ => kind(a).cmp(&kind(b)),
     }

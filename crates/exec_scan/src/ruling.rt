@@ -21,7 +21,7 @@ fn is_below(n: i64, least: &Option<Value>) -> bool
 {
     match least {
         Some(Value::Int(least)) => n < *least,
-        Some(Value::Text(_)) => true,
+        Some(Value::Date(_)) | Some(Value::Text(_)) => true,
         Some(Value::Null) | Some(Value::Bool(_)) | None => false,
     }
 }
@@ -33,7 +33,7 @@ fn is_above(n: i64, greatest: &Option<Value>) -> bool
     match greatest {
         Some(Value::Int(greatest)) => *greatest < n,
         Some(Value::Null) | Some(Value::Bool(_)) => true,
-        Some(Value::Text(_)) | None => false,
+        Some(Value::Date(_)) | Some(Value::Text(_)) | None => false,
     }
 }
 
@@ -43,7 +43,9 @@ fn lies_out(bound: &Bound, value: &Value) -> bool
 {
     match value {
         Value::Int(n) => is_below(*n, &bound.least) || is_above(*n, &bound.greatest),
-        Value::Null | Value::Bool(_) | Value::Text(_) => bound.misses(value, value),
+        Value::Null | Value::Bool(_) | Value::Date(_) | Value::Text(_) => {
+            bound.misses(value, value)
+        }
     }
 }
 

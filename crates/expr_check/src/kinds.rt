@@ -116,6 +116,7 @@ fn kind_of_value(value: &Wide) -> Kind
         Wide::Null => Kind::Null,
         Wide::Bool(_) => Kind::Truth,
         Wide::Int(_) => Kind::Number,
+        Wide::Date(_) => Kind::Date,
         Wide::Text(_) => Kind::Text,
     }
 }

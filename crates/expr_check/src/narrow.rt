@@ -137,6 +137,6 @@ fn bound_of_value(value: &Wide) -> u128
 {
     match value {
         Wide::Int(n) => n.unsigned_abs(),
-        Wide::Null | Wide::Bool(_) | Wide::Text(_) => 0,
+        Wide::Null | Wide::Bool(_) | Wide::Date(_) | Wide::Text(_) => 0,
     }
 }

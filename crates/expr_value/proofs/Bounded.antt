@@ -26,6 +26,7 @@ value_within value.Null p = omega arith
 value_within (value.Bool b) p = omega arith
 value_within (value.Int (pos n)) p = omega (arith, ints, p.1)
 value_within (value.Int (negsuc n)) p = omega (arith, ints, p.0)
+value_within (value.Date d) p = omega arith
 value_within (value.Text t) p = omega arith
 
 at_within : (vs : List Value) (i : ℕ) → All IsValue vs → bound_of_value (widened (get_or vs i value.Null)) ≤ column_bound

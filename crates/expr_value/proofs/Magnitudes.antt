@@ -48,6 +48,7 @@ pub size_in : (w : Wide) → size (number_in w) ≡ bound_of_value w
 size_in wide.Null = refl
 size_in (wide.Bool b) = refl
 size_in (wide.Int n) = refl
+size_in (wide.Date d) = refl
 size_in (wide.Text t) = refl
 
 pub bound_of_truth : (o : Option Bool) → bound_of_value (truth o) ≡ 0
@@ -62,6 +63,7 @@ pub bound_of_negated : (w : Wide) → bound_of_value (negated w) ≤ bound_of_va
 bound_of_negated wide.Null = omega arith
 bound_of_negated (wide.Bool b) = omega arith
 bound_of_negated (wide.Int n) = magnitude_neg n
+bound_of_negated (wide.Date d) = omega arith
 bound_of_negated (wide.Text t) = omega arith
 
 size_sum : (a b : Option ℤ) → size (of_both ◌+ℤ◌ a b) ≤ size a + size b

@@ -12,6 +12,7 @@ pub joins_nothing : NullJoinsNothing
 joins_nothing c wide.Null = (refl, refl)
 joins_nothing c (wide.Bool b) = (refl, refl)
 joins_nothing c (wide.Int n) = (refl, refl)
+joins_nothing c (wide.Date d) = (refl, refl)
 joins_nothing c (wide.Text t) = (refl, refl)
 
 false_behind : (a : Option Bool) → both_hold a (Some false) ≡ Some false

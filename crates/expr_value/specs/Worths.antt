@@ -8,4 +8,5 @@ abbrev pub wide_of : Worth → Wide
 wide_of worth.Null = wide.Null
 wide_of (worth.Bool b) = wide.Bool b
 wide_of (worth.Int n) = wide.Int n
+wide_of (worth.Date d) = wide.Date d
 wide_of (worth.Text t) = wide.Text t.now

@@ -15,6 +15,7 @@ pub enum Worth<'a> {
     Null,
     Bool(bool),
     Int(i128),
+    Date(u32),
     Text(&'a Text),
 }
 
@@ -27,6 +28,7 @@ impl<'a> Worth<'a> {
             Worth::Null => Ok(Wide::Null),
             Worth::Bool(b) => Ok(Wide::Bool(*b)),
             Worth::Int(n) => Ok(Wide::Int(*n)),
+            Worth::Date(d) => Ok(Wide::Date(*d)),
             Worth::Text(t) => Ok(Wide::Text(t.copy(alloc)?)),
         }
     }
@@ -37,7 +39,7 @@ impl<'a> Worth<'a> {
     {
         match self {
             Worth::Bool(b) => *b,
-            Worth::Null | Worth::Int(_) | Worth::Text(_) => false,
+            Worth::Null | Worth::Int(_) | Worth::Date(_) | Worth::Text(_) => false,
         }
     }
 
@@ -47,7 +49,7 @@ impl<'a> Worth<'a> {
     {
         match self {
             Worth::Null => true,
-            Worth::Bool(_) | Worth::Int(_) | Worth::Text(_) => false,
+            Worth::Bool(_) | Worth::Int(_) | Worth::Date(_) | Worth::Text(_) => false,
         }
     }
 
@@ -59,6 +61,7 @@ impl<'a> Worth<'a> {
             Value::Null => Worth::Null,
             Value::Bool(b) => Worth::Bool(*b),
             Value::Int(n) => Worth::Int(i128::from(*n)),
+            Value::Date(d) => Worth::Date(*d),
             Value::Text(t) => Worth::Text(t),
         }
     }
@@ -71,6 +74,7 @@ impl<'a> Worth<'a> {
             Wide::Null => Worth::Null,
             Wide::Bool(b) => Worth::Bool(*b),
             Wide::Int(n) => Worth::Int(*n),
+            Wide::Date(d) => Worth::Date(*d),
             Wide::Text(t) => Worth::Text(t),
         }
     }
@@ -101,7 +105,7 @@ impl<'a> Worth<'a> {
     {
         match self {
             Worth::Int(n) => Some(*n),
-            Worth::Null | Worth::Bool(_) | Worth::Text(_) => None,
+            Worth::Null | Worth::Bool(_) | Worth::Date(_) | Worth::Text(_) => None,
         }
     }
 
@@ -111,7 +115,7 @@ impl<'a> Worth<'a> {
     {
         match self {
             Worth::Bool(b) => Some(*b),
-            Worth::Null | Worth::Int(_) | Worth::Text(_) => None,
+            Worth::Null | Worth::Int(_) | Worth::Date(_) | Worth::Text(_) => None,
         }
     }
 
@@ -122,7 +126,7 @@ impl<'a> Worth<'a> {
     {
         match self {
             Worth::Int(n) => Worth::Int(-*n),
-            Worth::Null | Worth::Bool(_) | Worth::Text(_) => Worth::Null,
+            Worth::Null | Worth::Bool(_) | Worth::Date(_) | Worth::Text(_) => Worth::Null,
         }
     }
 
@@ -132,7 +136,7 @@ impl<'a> Worth<'a> {
     {
         match self {
             Worth::Bool(b) => Worth::Bool(!*b),
-            Worth::Null | Worth::Int(_) | Worth::Text(_) => Worth::Null,
+            Worth::Null | Worth::Int(_) | Worth::Date(_) | Worth::Text(_) => Worth::Null,
         }
     }
 
@@ -153,6 +157,7 @@ impl<'a> Worth<'a> {
         match (self, other) {
             (Worth::Bool(a), Worth::Bool(b)) => Some(a.cmp(b)),
             (Worth::Int(a), Worth::Int(b)) => Some(a.cmp(b)),
+            (Worth::Date(a), Worth::Date(b)) => Some(a.cmp(b)),
             (Worth::Text(a), Worth::Text(b)) => Some(a.as_bytes().cmp(&b.as_bytes())),
             _ => None,
         }

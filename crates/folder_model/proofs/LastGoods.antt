@@ -78,7 +78,7 @@ good_below c =
 
 -- ---- the least over all shapes
 
-abbrev lges : List Shape → List ℕ
+abbrev pub lges : List Shape → List ℕ
 lges ss = map (λ s. s.lge) (filter (λ s. s.fresh) ss)
 
 abbrev least_from : Option ℕ → List ℕ → Option ℕ
@@ -151,11 +151,14 @@ same_shapes m mark (t ∷ ts) (ps ∷ pss) (u ∷ us) (here, more) =
     flat_map-cons (λ (x : Table). x.shapes) u us ∙ ap₂ (λ (xs ys : List Shape). xs ++ ys) here.shapes (same_shapes m mark ts pss us more)
     ∙ sym (flat_map-cons (λ (x : kept.Table). map shape_of x.projections) t ts)
 
+-- of a catalogue's tables as of their shapes
+pub kept_good : (last : ℕ) (ts : List kept.Table) → least_or last (lges (kept_shapes ts)) ≡ unwrap_or (fold (λ e t. earlier e (table_reached t)) None ts) last
+kept_good last ts = sym (least_is last (lges (kept_shapes ts))) ∙ ap (λ (o : Option ℕ). unwrap_or o last) (sym (tables_reached None ts))
+
 pub good_same : (m : Contents) (c : Catalogue) (stores : List (List Projected)) (d : Database) → AreDatabase m c stores d → last_good d ≡ least_lge c
 good_same m c stores d are =
     ap₂ (λ (n : ℕ) (ss : List Shape). least_or n (lges ss)) are.last (same_shapes m c.ahm c.tables stores d.tables are.tables)
-    ∙ sym (least_is c.last (lges (kept_shapes c.tables)))
-    ∙ ap (λ (o : Option ℕ). unwrap_or o c.last) (sym (tables_reached None c.tables))
+    ∙ kept_good c.last c.tables
 
 -- ---- it isn't before the ancient history mark
 

@@ -5,6 +5,7 @@ use Rattle.std.specs.Str.Parse.{IsNumeral, without_leading_sign, signed_digits_v
 use Rattle.col_value.specs.declared.value.Value.{Value}
 use Rattle.col_value.specs.declared.value.Value.TheVariants as value
 use Rattle.col_value.specs.declared.kinds.ColType.{ColType}
+use Rattle.col_value.specs.Days.{SaysDay}
 use Rattle.col_value.specs.Order.{IsValue}
 use Rattle.load_reader.specs.declared.fields.LoadColumn.{LoadColumn}
 
@@ -29,6 +30,7 @@ SaysText most field = IsUtf8 field × (length field ≤ most)
 abbrev pub SaysIn : ColType → List ℕ → Value → Type 0
 SaysIn ColType.Integer field v = (n : ℤ) × SaysNumber field n × IsValue (value.Int n) × (v ≡ value.Int n)
 SaysIn ColType.Boolean field v = (b : Bool) × SaysTruth field b × (v ≡ value.Bool b)
+SaysIn ColType.Date field v = (n : ℕ) × SaysDay field n × (v ≡ value.Date n)
 SaysIn (ColType.Varchar most) field v = SaysText most field × IsValue (value.Text field) × (v ≡ value.Text field)
 
 -- what a field says in a column: an empty one is NULL, also where it was quoted

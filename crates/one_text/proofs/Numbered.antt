@@ -1,6 +1,6 @@
 -- One statement over two states that are the same but for the numbers of the storage.
 use Rattle.std.proofs.Common.{◌≡◌, ℕ, ◌≤◌, Bool, true, false, cond, List, [], refl, sym, ap, ◌∙◌, arith, subst}
-use Rattle.std.specs.Prelude.{Option, Some, None, nat_le, option_and_then}
+use Rattle.std.specs.Prelude.{◌&&◌, Option, Some, None, nat_le, option_and_then}
 use Rattle.std.specs.Option.{option_map_or}
 use Rattle.std.proofs.lemmas.Bool.Decides.{nat_tests}
 use Rattle.col_value.specs.declared.value.Value.{Value}
@@ -18,12 +18,13 @@ use Rattle.sql_bound.specs.Printed.{IsPrinted}
 use Rattle.sql_binding.specs.Firsts.{first_of, refused_where}
 use Rattle.sql_binding.specs.Projections.{projection_name_refusal}
 use Rattle.db_model.specs.Database.{Database, Table}
-use Rattle.db_model.specs.Events.{changes_committed, projection_created, projection_dropped, rows_deleted, rows_loaded, rows_pending, rows_updated, table_created, table_dropped}
-use Rattle.db_model.specs.Leaving.{CallLeaves, CopyLeaves, Leaves, RefusedCallLeaves, RefusedLeaves}
+use Rattle.db_model.specs.Epochs.{last_good, rises}
+use Rattle.db_model.specs.Events.{changes_committed, mark_raised, projection_created, projection_dropped, rows_deleted, rows_loaded, rows_pending, rows_updated, table_created, table_dropped}
+use Rattle.db_model.specs.Leaving.{CallLeaves, CopyLeaves, Leaves, MarkLeaves, RefusedCallLeaves, RefusedLeaves}
 use Rattle.db_model.specs.Loading.{Files, Load}
 use Rattle.db_model.specs.Numbers.{IsDrawn, are_spent}
 use Rattle.db_model.specs.Printing.{CallPrints, CopyPrints, Prints}
-use Rattle.db_model.specs.Refusals.{CallRefuses, CopyRefuses, LoadRefuses, Refuses, SumRefuses, UnlockedRefuses, is_large_file, last_super_refusal, load_refusal, locked, owner, projection_refusal_over, query_refusal_in, unknown_table_refusal}
+use Rattle.db_model.specs.Refusals.{CallRefuses, CopyRefuses, LoadRefuses, Refuses, SumRefuses, UnlockedRefuses, is_large_file, last_super_refusal, load_refusal, locked, mark_refusal, owner, projection_refusal_over, query_refusal_in, unknown_table_refusal}
 use Rattle.db_model.specs.Refusing.{create_refusal, epoch_refusal, if_taken}
 use Rattle.db_model.specs.State.{Changes, State, committed, has_changes, own_changes, with_changes}
 use Rattle.db_model.specs.Step.{Decides, Effect, Reads, RefusedTextLeaves, RefusesForm, Step}
@@ -92,17 +93,17 @@ module _ (a : State) (n k p : ℕ) where
   copy_other table None held why is = is
   copy_other table (Some e) held why is = unlocked_other (locked a table false) e held why is
 
-  call_other : (f : Function) (why : Option Refusal) → IsOther (Statement.Call f) → CallRefuses (renumbered a n k p) f why → CallRefuses a f why
-  call_other Function.Lge why quiet is = is
-  call_other Function.Ahm why quiet is = is
-  call_other Function.Current why quiet is = is
-  call_other Function.MakeAhmNow why quiet is = is
-  call_other (Function.SetAhm m) why quiet is = is
-  call_other Function.Moveout why quiet is = absurd (quiet.no_moveout refl)
-  call_other Function.Mergeout why quiet is = is
-  call_other (Function.Purge table) why quiet is = is
-  call_other (Function.Refresh table) why quiet is = is
-  call_other Function.StartRefresh why quiet is = is
+  call_other : (f : Function) (why : Option Refusal) → are_spent (renumbered a n k p) ≡ are_spent a → IsOther (Statement.Call f) → CallRefuses (renumbered a n k p) f why → CallRefuses a f why
+  call_other Function.Lge why spent quiet is = is
+  call_other Function.Ahm why spent quiet is = is
+  call_other Function.Current why spent quiet is = is
+  call_other Function.MakeAhmNow why spent quiet is = is ∙ ap (λ (b : Bool). refused_where (rises (last_good a.database) a.database && b) Refusal.NumbersSpent) spent
+  call_other (Function.SetAhm m) why spent quiet is = is ∙ ap (λ (b : Bool). first_of (mark_refusal m a.database) (refused_where (rises m a.database && b) Refusal.NumbersSpent)) spent
+  call_other Function.Moveout why spent quiet is = absurd (quiet.no_moveout refl)
+  call_other Function.Mergeout why spent quiet is = is
+  call_other (Function.Purge table) why spent quiet is = is
+  call_other (Function.Refresh table) why spent quiet is = is
+  call_other Function.StartRefresh why spent quiet is = is
 
   refused_other : (files : Files) (s : Statement) (why : Option Refusal) → are_spent (renumbered a n k p) ≡ are_spent a → IsOther s → Refuses (renumbered a n k p) files s why → Refuses a files s why
   refused_other files (Statement.CreateTable name columns) why spent quiet is =
@@ -126,7 +127,7 @@ module _ (a : State) (n k p : ℕ) where
   refused_other files (Statement.Select at q) why spent quiet is =
       subst (λ (rows : List (List (List Value))). SumRefuses (first_of (query_refusal_in a q) (epoch_refusal a.database.ahm a.database.last at)) (bound_in a q) rows why) (inputs_same at q) is
   refused_other files (Statement.Explain q) why spent quiet is = is
-  refused_other files (Statement.Call f) why spent quiet is = call_other f why quiet is
+  refused_other files (Statement.Call f) why spent quiet is = call_other f why spent quiet is
   refused_other files (Statement.Session m) why spent quiet is = is
   refused_other files Statement.Step why spent quiet is = is
 
@@ -216,12 +217,16 @@ copy_left a n k p (Some e) (Some bytes) x y (rs, rows, x_is) (qs, others, y_is) 
     same_states (rows_loaded e.1.name rs a) (rows_loaded e.1.name rs (renumbered a n k p)) x y x_is (y_is ∙ ap (λ (xs : List (List Value)). rows_loaded e.1.name xs (renumbered a n k p)) same)
     (committed_same (rows_pending e.1.name rs a) n k p)
 
+mark_left : (a : State) (n k p : ℕ) (b : Bool) (mark : ℕ) (x y : State) → MarkLeaves b mark a x → MarkLeaves b mark (renumbered a n k p) y → IsSameButNumbers x y
+mark_left a n k p true mark x y first second = drawn_same a (renumbered a n k p) (mark_raised mark a) (mark_raised mark (renumbered a n k p)) x y first second (record { database = refl; sessions = refl; current = refl; asked = refl })
+mark_left a n k p false mark x y first second = same_states a (renumbered a n k p) x y first second (itself a n k p)
+
 call_left : (a : State) (n k p : ℕ) (f : Function) (x y : State) → IsOther (Statement.Call f) → CallLeaves a f x → CallLeaves (renumbered a n k p) f y → IsSameButNumbers x y
 call_left a n k p Function.Lge x y quiet first second = same_states a (renumbered a n k p) x y first second (itself a n k p)
 call_left a n k p Function.Ahm x y quiet first second = same_states a (renumbered a n k p) x y first second (itself a n k p)
 call_left a n k p Function.Current x y quiet first second = same_states a (renumbered a n k p) x y first second (itself a n k p)
-call_left a n k p Function.MakeAhmNow x y quiet first second = absurd first
-call_left a n k p (Function.SetAhm m) x y quiet first second = absurd first
+call_left a n k p Function.MakeAhmNow x y quiet first second = mark_left a n k p (rises (last_good a.database) a.database) (last_good a.database) x y first second
+call_left a n k p (Function.SetAhm m) x y quiet first second = mark_left a n k p (rises m a.database) m x y first second
 call_left a n k p Function.Moveout x y quiet first second = absurd (quiet.no_moveout refl)
 call_left a n k p Function.Mergeout x y quiet first second = absurd first
 call_left a n k p (Function.Purge table) x y quiet first second = absurd first
@@ -308,12 +313,16 @@ copy_grows a None held x leaves = absurd leaves
 copy_grows a (Some e) None x leaves = absurd leaves
 copy_grows a (Some e) (Some bytes) x (rows, loads, is) = stays a x (rows_loaded e.1.name rows a) is (committed_next (rows_pending e.1.name rows a))
 
+mark_grows : (b : Bool) (mark : ℕ) (a x : State) → MarkLeaves b mark a x → a.next ≤ x.next
+mark_grows true mark a x is = is.drawn.from
+mark_grows false mark a x is = stays a x a is refl
+
 call_grows : (a : State) (f : Function) (x : State) → IsOther (Statement.Call f) → CallLeaves a f x → a.next ≤ x.next
 call_grows a Function.Lge x quiet is = stays a x a is refl
 call_grows a Function.Ahm x quiet is = stays a x a is refl
 call_grows a Function.Current x quiet is = stays a x a is refl
-call_grows a Function.MakeAhmNow x quiet is = absurd is
-call_grows a (Function.SetAhm m) x quiet is = absurd is
+call_grows a Function.MakeAhmNow x quiet is = mark_grows (rises (last_good a.database) a.database) (last_good a.database) a x is
+call_grows a (Function.SetAhm m) x quiet is = mark_grows (rises m a.database) m a x is
 call_grows a Function.Moveout x quiet is = absurd (quiet.no_moveout refl)
 call_grows a Function.Mergeout x quiet is = absurd is
 call_grows a (Function.Purge table) x quiet is = absurd is

@@ -11,6 +11,7 @@ use Rattle.col_value.specs.declared.column.Column.{Column}
 use Rattle.col_value.specs.declared.kinds.ColType.{ColType}
 use Rattle.col_value.specs.declared.value.Value.{Value}
 use Rattle.col_value.specs.declared.value.Value.TheVariants as value
+use Rattle.col_value.proofs.Characters.{one_text}
 use Rattle.load_reader.specs.declared.fields.LoadColumn.{LoadColumn}
 use Rattle.load_reader.specs.Fields.{IsAnyCase, IsRowOf, IsWrongAt, Says, SaysIn, SaysTruth}
 use Rattle.load_reader.specs.Load.{HasRows, IsFirstBad}
@@ -71,6 +72,7 @@ truth_once field false false says also = refl
 value_once : (kind : ColType) (field : List ℕ) (v w : Value) → SaysIn kind field v → SaysIn kind field w → v ≡ w
 value_once ColType.Integer field v w (n, number, ok, v_is) (m, other, fine, w_is) = v_is ∙ ap value.Int (number.1 ∙ sym other.1) ∙ sym w_is
 value_once ColType.Boolean field v w (b, says, v_is) (d, also, w_is) = v_is ∙ ap value.Bool (truth_once field b d says also) ∙ sym w_is
+value_once ColType.Date field v w (n, says, v_is) (m, also, w_is) = v_is ∙ ap value.Date (one_text n m says.0 also.0 (sym says.1 ∙ also.1)) ∙ sym w_is
 value_once (ColType.Varchar most) field v w (says, ok, v_is) (also, fine, w_is) = v_is ∙ sym w_is
 
 says_once : (c : LoadColumn) (field : List ℕ) (v w : Value) → Says c field v → Says c field w → v ≡ w

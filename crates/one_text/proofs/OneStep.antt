@@ -51,8 +51,8 @@ call_printed : (state : State) (f : Function) (p q : List ℕ) → CallPrints st
 call_printed state Function.Lge p q first second = first ∙ sym second
 call_printed state Function.Ahm p q first second = first ∙ sym second
 call_printed state Function.Current p q first second = first ∙ sym second
-call_printed state Function.MakeAhmNow p q first second = absurd first
-call_printed state (Function.SetAhm n) p q first second = absurd first
+call_printed state Function.MakeAhmNow p q first second = first ∙ sym second
+call_printed state (Function.SetAhm n) p q first second = first ∙ sym second
 call_printed state Function.Moveout p q first second = first ∙ sym second
 call_printed state Function.Mergeout p q first second = absurd first
 call_printed state (Function.Purge table) p q first second = absurd first
@@ -119,8 +119,8 @@ call_refused : (state : State) (f : Function) (why also : Cause) → CallRefuses
 call_refused state Function.Lge why also first second fate = first ∙ sym second
 call_refused state Function.Ahm why also first second fate = first ∙ sym second
 call_refused state Function.Current why also first second fate = first ∙ sym second
-call_refused state Function.MakeAhmNow why also first second fate = absurd first
-call_refused state (Function.SetAhm n) why also first second fate = absurd first
+call_refused state Function.MakeAhmNow why also first second fate = first ∙ sym second
+call_refused state (Function.SetAhm n) why also first second fate = first ∙ sym second
 call_refused state Function.Moveout why also (a, new, moved, why_is) (b, other, also_moved, also_is) fate = moveout_refused a b why also why_is also_is (fate refl)
 call_refused state Function.Mergeout why also first second fate = absurd first
 call_refused state (Function.Purge table) why also first second fate = absurd first

@@ -46,6 +46,7 @@ fn literal(value: &Wide) -> Side
         Wide::Null => Side::constant(false, false),
         Wide::Bool(_) => Side::constant(false, true),
         Wide::Int(_) => Side::constant(true, true),
+        Wide::Date(_) => Side::constant(false, true),
         Wide::Text(_) => Side::constant(false, true),
     }
 }

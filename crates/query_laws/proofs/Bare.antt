@@ -45,6 +45,7 @@ null_told : (w : Wide) → is_null w ≡ true → w ≡ wide.Null
 null_told wide.Null e = refl
 null_told (wide.Bool b) e = cc
 null_told (wide.Int n) e = cc
+null_told (wide.Date d) e = cc
 null_told (wide.Text t) e = cc
 
 not_kept : (keep : List Expr) (row : List Value) (e : Expr) → Contains keep e → is_true (value_of (of_row row) e) ≡ false → is_kept keep row ≡ false

@@ -27,7 +27,8 @@ fn kind_of(value: &Worth<'_>) -> u8
         Worth::Null => 0,
         Worth::Bool(_) => 1,
         Worth::Int(_) => 2,
-        Worth::Text(_) => 3,
+        Worth::Date(_) => 3,
+        Worth::Text(_) => 4,
     }
 }
 
@@ -38,6 +39,7 @@ fn order_of(a: &Worth<'_>, b: &Worth<'_>) -> Ordering
     match (a, b) {
         (Worth::Bool(a), Worth::Bool(b)) => a.cmp(b),
         (Worth::Int(a), Worth::Int(b)) => a.cmp(b),
+        (Worth::Date(a), Worth::Date(b)) => a.cmp(b),
         (Worth::Text(a), Worth::Text(b)) => a.as_bytes().cmp(&b.as_bytes()),
         _ => kind_of(a).cmp(&kind_of(b)),
     }

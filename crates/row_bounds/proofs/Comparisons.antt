@@ -25,18 +25,27 @@ kin_turned wide.Null b e = absurd (null b e)
     null wide.Null e = cc
     null (wide.Bool y) e = cc
     null (wide.Int y) e = cc
+    null (wide.Date y) e = cc
     null (wide.Text y) e = cc
 kin_turned (wide.Bool x) wide.Null e = absurd cc
 kin_turned (wide.Bool x) (wide.Bool y) e = refl
 kin_turned (wide.Bool x) (wide.Int y) e = absurd cc
+kin_turned (wide.Bool x) (wide.Date y) e = absurd cc
 kin_turned (wide.Bool x) (wide.Text y) e = absurd cc
 kin_turned (wide.Int x) wide.Null e = absurd cc
 kin_turned (wide.Int x) (wide.Bool y) e = absurd cc
 kin_turned (wide.Int x) (wide.Int y) e = refl
+kin_turned (wide.Int x) (wide.Date y) e = absurd cc
 kin_turned (wide.Int x) (wide.Text y) e = absurd cc
+kin_turned (wide.Date x) wide.Null e = absurd cc
+kin_turned (wide.Date x) (wide.Bool y) e = absurd cc
+kin_turned (wide.Date x) (wide.Int y) e = absurd cc
+kin_turned (wide.Date x) (wide.Date y) e = refl
+kin_turned (wide.Date x) (wide.Text y) e = absurd cc
 kin_turned (wide.Text x) wide.Null e = absurd cc
 kin_turned (wide.Text x) (wide.Bool y) e = absurd cc
 kin_turned (wide.Text x) (wide.Int y) e = absurd cc
+kin_turned (wide.Text x) (wide.Date y) e = absurd cc
 kin_turned (wide.Text x) (wide.Text y) e = refl
 
 told : (kin holds : Bool) → is_true (cond kin (wide.Bool holds) wide.Null) ≡ true → (kin ≡ true) × (holds ≡ true)

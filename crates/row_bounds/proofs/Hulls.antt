@@ -12,6 +12,7 @@ use Rattle.std.proofs.lemmas.List.{get_or-take, take_more}
 use Rattle.std.proofs.Math.Bool.{or-true}
 use Rattle.std.proofs.lemmas.List.Elements.{All-head, All-tail, All-push}
 use Rattle.std.proofs.lemmas.List.Folds.{list_all-append, list_any-append}
+use Rattle.std.proofs.lemmas.List.Sums.{AllPass-from_list_all}
 use Rattle.col_value.specs.Laws.{value_total}
 use Rattle.col_value.specs.Order.{value_cmp}
 use Rattle.col_value.specs.declared.value.Value.{Value}
@@ -86,6 +87,14 @@ pub in_hull : (b : Bound) (column : ℕ) (least greatest : Option Value) → ((v
 in_hull b column least greatest low high v e =
     let ends = both_are (From b.least v) (Upto b.greatest v) e in
     and_of (From least v) (Upto greatest v) (low v ends.0) (high v ends.1)
+
+-- the hull of a bound among some holds what lies within them all
+pub hull_within : (others : List Bound) (i : ℕ) (other hull : Bound) → i < length others → other ≡ get_or others i other → hull.column ≡ other.column → ((v : Value) → lies_in other v ≡ true → lies_in hull v ≡ true)
+    → (row : List Value) → within others row ≡ true → lies_in hull (slice_index_or row hull.column value.Null) ≡ true
+hull_within others i other hull lt is column wider row all =
+    let p = λ (b : Bound). lies_in b (slice_index_or row b.column value.Null) in
+    let here : p other ≡ true = ap p is ∙ AllPass-from_list_all p others all i other lt in
+    wider (slice_index_or row hull.column value.Null) (ap (λ (n : ℕ). lies_in other (slice_index_or row n value.Null)) column ∙ here)
 
 pub within_both : (bounds more : List Bound) (row : List Value) → within bounds row ≡ true → within more row ≡ true → within (bounds ++ more) row ≡ true
 within_both bounds more row first second = list_all-append _ bounds more ∙ and_of (within bounds row) (within more row) first second

@@ -29,6 +29,7 @@ told_true wide.Null e = absurd cc
 told_true (wide.Bool true) e = refl
 told_true (wide.Bool false) e = absurd cc
 told_true (wide.Int n) e = absurd cc
+told_true (wide.Date d) e = absurd cc
 told_true (wide.Text t) e = absurd cc
 
 all_told : (so_far : Option Bool) (ws : List Wide) → fold both_hold so_far (map truth_in ws) ≡ Some true → (so_far ≡ Some true) × (list_all is_true ws ≡ true)

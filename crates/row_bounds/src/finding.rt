@@ -211,6 +211,7 @@ fn narrowed(alloc: Global, literal: &Wide) -> Result<Option<Value>, AllocError>
         Wide::Null => Ok(None),
         Wide::Bool(b) => Ok(Some(Value::Bool(*b))),
         Wide::Int(n) => Ok(number(*n)),
+        Wide::Date(d) => Ok(Some(Value::Date(*d))),
         Wide::Text(t) => Ok(Some(Value::Text(t.copy(alloc)?))),
     }
 }

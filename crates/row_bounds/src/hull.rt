@@ -29,6 +29,7 @@ pub fn hulls(alloc: Global, bounds: Vec<Bound>, others: &[Bound]) -> Result<Vec<
 }
 
 /// The hull of a bound and the first other one of its column that ends on a side on which it ends, too.
+#[tactic(auto, using(crate::proofs::Hulls::hull_within))]
 fn hull_among(alloc: Global, bound: Bound, others: &[Bound]) -> Result<Option<Bound>, AllocError>
     ensures column { IfOk result (λ o. IfSome o (λ hull. hull.column ≡ bound.column)) }
     ensures first { IfOk result (λ o. IfSome o (λ hull. (v : Item) → lies_in bound v ≡ true → lies_in hull v ≡ true)) }

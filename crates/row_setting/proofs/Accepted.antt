@@ -12,12 +12,13 @@ use Rattle.col_value.specs.declared.kinds.ColType.{ColType}
 use Rattle.col_value.specs.declared.value.Value.{Value}
 use Rattle.col_value.specs.declared.wide.Wide.{Wide}
 use Rattle.col_value.specs.declared.wide.Wide.TheVariants as wide
+use Rattle.col_value.specs.Days.{IsDay}
 use Rattle.col_value.specs.Order.{IsRow, IsValue}
 use Rattle.sql_tree.specs.declared.refusal.Refusal.{Refusal}
 use Rattle.sql_bound.specs.declared.expr.Expr.{Expr}
 use Rattle.sql_bound.specs.Values.{of_row, value_of}
 use Rattle.sql_binding.specs.Firsts.{first_of}
-use Rattle.sql_binding.specs.Inserts.{first_such, is_out_of_range, is_too_long, is_refused_null, is_stored_number, width_of, narrowed}
+use Rattle.sql_binding.specs.Inserts.{first_such, is_out_of_range, is_too_long, is_refused_null, is_stored_day, is_stored_number, width_of, narrowed}
 use Rattle.db_model.specs.Events.{set_row, set_values}
 use Rattle.db_model.specs.Refusals.{all_pairs, pairs_refusal, set_pairs}
 use Rattle.row_setting.specs.Storing.{AreStorable}
@@ -116,15 +117,20 @@ stored_number : (n : ℤ) → not (is_stored_number n) ≡ false → IsValue (na
 stored_number (pos n) h = grind (arith, nat_tests, ints)
 stored_number (negsuc n) h = grind (arith, nat_tests, ints)
 
+stored_day : (d : ℕ) → not (is_stored_day d) ≡ false → IsDay d
+stored_day d h = grind (arith, nat_tests)
+
 stored_text : (k : ColType) (t : List ℕ) → nat_lt (width_of k) (length t) ≡ false → length t ≤ 65000
 stored_text ColType.Integer t h = let le : length t ≤ 0 = grind (arith, nat_tests) in omega (arith, le)
 stored_text ColType.Boolean t h = let le : length t ≤ 0 = grind (arith, nat_tests) in omega (arith, le)
+stored_text ColType.Date t h = let le : length t ≤ 0 = grind (arith, nat_tests) in omega (arith, le)
 stored_text (ColType.Varchar n) t h = let le : length t ≤ min n 65000 = grind (arith, nat_tests) in omega (arith, le)
 
 pub stored_value : (c : Column) (w : Wide) → is_out_of_range (c, w) ≡ false → is_too_long (c, w) ≡ false → IsValue (narrowed w)
 stored_value c wide.Null r l = tt
 stored_value c (wide.Bool b) r l = tt
 stored_value c (wide.Int n) r l = stored_number n r
+stored_value c (wide.Date d) r l = stored_day d r
 stored_value c (wide.Text t) r l = stored_text c.kind t l
 
 -- values that nothing refuses can be stored, in each row

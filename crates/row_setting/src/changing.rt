@@ -66,6 +66,7 @@ fn narrow(alloc: Global, value: &Worth<'_>) -> Result<Value, AllocError>
         Worth::Null => Ok(Value::Null),
         Worth::Bool(b) => Ok(Value::Bool(*b)),
         Worth::Int(n) => Ok(Value::Int(*n as i64)),
+        Worth::Date(d) => Ok(Value::Date(*d)),
         Worth::Text(t) => Ok(Value::Text(t.copy(alloc)?)),
     }
 }

@@ -3,9 +3,9 @@
 ghost use Rattle.std.specs.Prelude.{◌≡◌};
 ghost use Rattle.expr_value.specs.Worths.{wide_of};
 ghost use Rattle.row_setting.specs.Flaws.{has_flaw, naming_of};
-ghost use Rattle.sql_binding.specs.Inserts.{is_stored_number, width_of};
+ghost use Rattle.sql_binding.specs.Inserts.{is_stored_day, is_stored_number, width_of};
 
-use col_value::{ColType, Column};
+use col_value::{ColType, Column, LAST_DAY};
 use expr_value::Worth;
 use name_binder::Naming;
 
@@ -24,6 +24,7 @@ impl Flaw {
     {
         match (self, value) {
             (Flaw::Range, Worth::Int(n)) => !is_stored_number(*n),
+            (Flaw::Range, Worth::Date(d)) => !is_stored_day(*d),
             (Flaw::Length, Worth::Text(t)) => t.as_bytes().len() > width_of(column.kind),
             (Flaw::Null, Worth::Null) => column.not_null,
             _ => false,
@@ -49,6 +50,13 @@ fn is_stored_number(n: i128) -> bool
     -9_223_372_036_854_775_808 < n && n < 9_223_372_036_854_775_808
 }
 
+/// Whether a column can hold the day.
+fn is_stored_day(day: u32) -> bool
+    ensures { result ≡ is_stored_day day }
+{
+    1 <= day && day <= LAST_DAY
+}
+
 /// How many octets a column of this kind takes.
 fn width_of(kind: ColType) -> usize
     ensures { result ≡ width_of kind }
@@ -57,5 +65,6 @@ fn width_of(kind: ColType) -> usize
         ColType::Varchar(n) => n.min(65_000) as usize,
         ColType::Integer => 0,
         ColType::Boolean => 0,
+        ColType::Date => 0,
     }
 }

@@ -6,7 +6,7 @@ use crate::hex::file_in;
 use col_disk::{Disk, MemDisk};
 use col_io::{MemFiles, MemSink};
 use std::alloc::{AllocError, Global};
-use vert_cli::run;
+use vert_cli::{Session, run};
 
 /// What the lines of a text in work are for.
 #[derive(Drop)]
@@ -19,6 +19,8 @@ enum Text {
     Stops,
     /// A script that is run over the disk with a byte changed.
     Changes,
+    /// A statement of the session that is open.
+    Statement,
 }
 
 /// One run: its words and its script.
@@ -35,13 +37,14 @@ struct Load {
     bytes: Vec<u8>,
 }
 
-/// The disk, how it was before the last run, that run, the load files, and the text in work.
+/// The disk, how it was before the last run, that run, the load files, the session that is open, and the text in work.
 #[derive(Drop)]
 pub struct Cases {
     disk: MemDisk,
     before: MemDisk,
     last: Run,
     loads: Vec<Load>,
+    session: Option<Session>,
     text: Option<Text>,
     lines: Vec<u8>,
 }
@@ -133,6 +136,7 @@ impl Cases {
                 script: Vec::new(alloc),
             },
             loads: Vec::new(alloc),
+            session: None,
             text: None,
             lines: Vec::new(alloc),
         }
@@ -168,6 +172,15 @@ impl Cases {
             },
             "changes" => {
                 self.text = Some(Text::Changes);
+                Ok(String::new(alloc))
+            },
+            "failing" => self.failing(alloc),
+            "open" => {
+                self.session = Some(Session::open(alloc, &mut self.disk)?);
+                Ok(String::new(alloc))
+            },
+            "say" => {
+                self.text = Some(Text::Statement);
                 Ok(String::new(alloc))
             },
             "new" => {
@@ -206,6 +219,7 @@ impl Cases {
             },
             Some(Text::Stops) => self.stops(alloc, lines.as_slice()),
             Some(Text::Changes) => self.changes(alloc, lines.as_slice()),
+            Some(Text::Statement) => self.said(alloc, lines.as_slice()),
             None => Ok(String::new(alloc)),
         }
     }
@@ -255,7 +269,7 @@ impl Cases {
     }
 
     /// The last run once more.
-    fn again(&self, alloc: Global, disk: &mut MemDisk) -> Result<(), Fault> {
+    fn again(&self, alloc: Global, disk: &mut MemDisk) -> Result<String, Fault> {
         let words = copied_words(alloc, self.last.words.as_slice())?;
         ran(
             alloc,
@@ -263,7 +277,33 @@ impl Cases {
             self.last.script.as_slice(),
             self.loads.as_slice(),
             disk,
-        )?;
-        Ok(())
+        )
+    }
+
+    /// The texts that the last run prints where one call of the disk fails, each once.
+    fn failing(&mut self, alloc: Global) -> Result<String, Fault> {
+        let mut texts = Vec::new(alloc);
+        for call in 0..MOST_CALLS {
+            let mut failing = copied(alloc, &mut self.before)?.failing_at(&[call])?;
+            let text = self.again(alloc, &mut failing)?;
+            if failing.calls() <= call {
+                break;
+            }
+            note(&mut texts, text)?;
+        }
+        joined(alloc, texts.as_slice())
+    }
+
+    /// What a statement of the session prints over the disk as it is now.
+    fn said(&mut self, alloc: Global, text: &[u8]) -> Result<String, Fault> {
+        let mut files = MemFiles::new(alloc, Vec::new(alloc));
+        let mut out = MemSink::new(alloc, 65_536, Vec::new(alloc));
+        let Some(session) = &mut self.session else {
+            return Err(Fault::NoAnswer);
+        };
+        match session.execute(alloc, text, &mut files, &mut self.disk, &mut out) {
+            Ok(_) => as_text(alloc, out.bytes()),
+            Err(_) => Err(Fault::NoAnswer),
+        }
     }
 }

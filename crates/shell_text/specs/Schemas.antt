@@ -23,6 +23,7 @@ abbrev pub type_text : ColType → List ℕ
 type_text ColType.Integer = codes "INTEGER"
 type_text (ColType.Varchar most) = codes "VARCHAR(" ++ (decimal most ++ codes ")")
 type_text ColType.Boolean = codes "BOOLEAN"
+type_text ColType.Date = codes "DATE"
 
 abbrev pub null_text : Bool → List ℕ
 null_text true = codes " NOT NULL"

@@ -51,6 +51,7 @@ fn type_text(alloc: Global, kind: ColType) -> Result<Vec<u8>, AllocError>
             Vec::from_slice(alloc, text.as_bytes())
         }
         ColType::Boolean => Vec::from_slice(alloc, b"BOOLEAN"),
+        ColType::Date => Vec::from_slice(alloc, b"DATE"),
     }
 }
 

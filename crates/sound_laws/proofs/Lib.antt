@@ -3,3 +3,4 @@ pub mod Created
 pub mod Changes
 pub mod Committed
 pub mod Moved
+pub mod Marked

@@ -1,5 +1,5 @@
 -- The rows of an INSERT, and why it is refused.
-use Rattle.std.specs.Prelude.{ℕ, min, ℤ, pos, negsuc, ◌==◌, not, nat_lt, if◌then◌else◌, Bool, false, List, length, map, zip, find, Option, Some, None, option_map}
+use Rattle.std.specs.Prelude.{ℕ, min, ℤ, pos, negsuc, ◌==◌, ◌&&◌, not, nat_le, nat_lt, if◌then◌else◌, Bool, false, List, length, map, zip, find, Option, Some, None, option_map}
 use Rattle.std.specs.List.{list_all, flat_map}
 use Rattle.std.specs.Option.{option_map_or}
 use Rattle.col_value.specs.declared.value.Value.{Value}
@@ -41,10 +41,15 @@ abbrev pub is_stored_number : ℤ → Bool
 is_stored_number (pos n) = nat_lt n 9223372036854775808
 is_stored_number (negsuc n) = nat_lt n 9223372036854775807
 
+-- the days of a column: from 1 for 0001-01-01 to 3652059 for 9999-12-31
+abbrev pub is_stored_day : ℕ → Bool
+is_stored_day d = nat_le 1 d && nat_le d 3652059
+
 abbrev pub is_out_of_range : Column × Wide → Bool
 is_out_of_range (c, wide.Null) = false
 is_out_of_range (c, wide.Bool b) = false
 is_out_of_range (c, wide.Int n) = not (is_stored_number n)
+is_out_of_range (c, wide.Date d) = not (is_stored_day d)
 is_out_of_range (c, wide.Text t) = false
 
 -- how many octets a column of texts takes; no text of a table has more than 65,000
@@ -52,17 +57,20 @@ abbrev pub width_of : ColType → ℕ
 width_of ColType.Integer = 0
 width_of (ColType.Varchar n) = min n 65000
 width_of ColType.Boolean = 0
+width_of ColType.Date = 0
 
 abbrev pub is_too_long : Column × Wide → Bool
 is_too_long (c, wide.Null) = false
 is_too_long (c, wide.Bool b) = false
 is_too_long (c, wide.Int n) = false
+is_too_long (c, wide.Date d) = false
 is_too_long (c, wide.Text t) = nat_lt (width_of c.kind) (length t)
 
 abbrev pub is_refused_null : Column × Wide → Bool
 is_refused_null (c, wide.Null) = c.not_null
 is_refused_null (c, wide.Bool b) = false
 is_refused_null (c, wide.Int n) = false
+is_refused_null (c, wide.Date d) = false
 is_refused_null (c, wide.Text t) = false
 
 -- the column of the first literal that is so
@@ -82,6 +90,7 @@ abbrev pub narrowed : Wide → Value
 narrowed wide.Null = value.Null
 narrowed (wide.Bool b) = value.Bool b
 narrowed (wide.Int n) = value.Int n
+narrowed (wide.Date d) = value.Date d
 narrowed (wide.Text t) = value.Text t
 
 abbrev pub inserted_rows : Insert → List (List Value)

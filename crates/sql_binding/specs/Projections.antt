@@ -56,10 +56,12 @@ is_bad_projection p =
     (not (are_same_names (part_names p) p.selected) || has_twice (part_names p))
     || (list_any (λ n. is_none (name_at (part_names p) n)) (sort_names p) || has_twice (sort_names p))
 
-abbrev pub is_number : ColType → Bool
-is_number ColType.Integer = true
-is_number (ColType.Varchar n) = false
-is_number ColType.Boolean = false
+-- numbers and dates have differences
+abbrev pub has_differences : ColType → Bool
+has_differences ColType.Integer = true
+has_differences (ColType.Varchar n) = false
+has_differences ColType.Boolean = false
+has_differences ColType.Date = true
 
 abbrev pub is_deltaval : Encoding → Bool
 is_deltaval Encoding.Auto = false
@@ -71,9 +73,9 @@ is_deltaval Encoding.Plain = false
 abbrev pub has_name : List ℕ → Column → Bool
 has_name name c = bytes_eq c.name name
 
--- DELTAVAL stands on a column that isn't of numbers
+-- DELTAVAL stands on a column that is neither of numbers nor of dates
 abbrev pub is_bad_encoding : List Column → NewPart → Bool
-is_bad_encoding columns c = is_deltaval c.encoding && not (option_map_or (λ d. is_number d.kind) (find (has_name c.name) columns) false)
+is_bad_encoding columns c = is_deltaval c.encoding && not (option_map_or (λ d. has_differences d.kind) (find (has_name c.name) columns) false)
 
 abbrev pub bad_encoding : List Column → NewProjection → Option (List ℕ)
 bad_encoding columns p = option_map (λ c. c.name) (find (is_bad_encoding columns) p.parts)

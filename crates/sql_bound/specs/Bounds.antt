@@ -26,6 +26,7 @@ abbrev pub bound_of_value : Wide → ℕ
 bound_of_value wide.Null = 0
 bound_of_value (wide.Bool b) = 0
 bound_of_value (wide.Int n) = magnitude n
+bound_of_value (wide.Date d) = 0
 bound_of_value (wide.Text t) = 0
 
 -- the sum and the product of all

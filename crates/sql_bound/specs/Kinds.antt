@@ -22,11 +22,13 @@ abbrev pub kind_of_column : ColType → Kind
 kind_of_column ColType.Integer = Kind.Number
 kind_of_column (ColType.Varchar n) = Kind.Text
 kind_of_column ColType.Boolean = Kind.Truth
+kind_of_column ColType.Date = Kind.Date
 
 abbrev pub kind_of_value : Wide → Kind
 kind_of_value wide.Null = Kind.Null
 kind_of_value (wide.Bool b) = Kind.Truth
 kind_of_value (wide.Int n) = Kind.Number
+kind_of_value (wide.Date d) = Kind.Date
 kind_of_value (wide.Text t) = Kind.Text
 
 -- a kind fits in the place of another; NULL fits every kind
@@ -35,14 +37,22 @@ serves Kind.Null want = true
 serves Kind.Truth Kind.Null = true
 serves Kind.Truth Kind.Truth = true
 serves Kind.Truth Kind.Number = false
+serves Kind.Truth Kind.Date = false
 serves Kind.Truth Kind.Text = false
 serves Kind.Number Kind.Null = true
 serves Kind.Number Kind.Truth = false
 serves Kind.Number Kind.Number = true
+serves Kind.Number Kind.Date = false
 serves Kind.Number Kind.Text = false
+serves Kind.Date Kind.Null = true
+serves Kind.Date Kind.Truth = false
+serves Kind.Date Kind.Number = false
+serves Kind.Date Kind.Date = true
+serves Kind.Date Kind.Text = false
 serves Kind.Text Kind.Null = true
 serves Kind.Text Kind.Truth = false
 serves Kind.Text Kind.Number = false
+serves Kind.Text Kind.Date = false
 serves Kind.Text Kind.Text = true
 
 -- typed, and of a kind that fits there

@@ -57,6 +57,7 @@ abbrev pub number_or_zero : Wide → ℤ
 number_or_zero wide.Null = pos 0
 number_or_zero (wide.Bool b) = pos 0
 number_or_zero (wide.Int n) = n
+number_or_zero (wide.Date d) = pos 0
 number_or_zero (wide.Text t) = pos 0
 
 -- plain sums, and least and greatest values; over no value they are NULL

@@ -28,12 +28,14 @@ abbrev pub number_in : Wide → Option ℤ
 number_in wide.Null = None
 number_in (wide.Bool b) = None
 number_in (wide.Int n) = Some n
+number_in (wide.Date d) = None
 number_in (wide.Text t) = None
 
 abbrev pub truth_in : Wide → Option Bool
 truth_in wide.Null = None
 truth_in (wide.Bool b) = Some b
 truth_in (wide.Int n) = None
+truth_in (wide.Date d) = None
 truth_in (wide.Text t) = None
 
 -- a number, NULL where there is none
@@ -136,4 +138,5 @@ abbrev pub is_true : Wide → Bool
 is_true wide.Null = false
 is_true (wide.Bool b) = b
 is_true (wide.Int n) = false
+is_true (wide.Date d) = false
 is_true (wide.Text t) = false

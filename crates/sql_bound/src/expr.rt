@@ -7,6 +7,7 @@ pub enum Kind {
     Null,
     Truth,
     Number,
+    Date,
     Text,
 }
 

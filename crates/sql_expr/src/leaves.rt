@@ -3,7 +3,7 @@ ghost use Rattle.sql_words.specs.declared.token.Key.TheVariants.{Not, Null};
 ghost use Rattle.sql_words.specs.declared.token.Sign.TheVariants.{Close};
 ghost use Rattle.sql_tree.specs.Makers.{denied, is_null};
 ghost use Rattle.sql_phrases.specs.Readings.{nothing};
-ghost use Rattle.sql_phrases.specs.Readers.{word, glyph, named_constant, a_constant, literal, qualified, reference, atom, null_test};
+ghost use Rattle.sql_phrases.specs.Readers.{word, glyph, named_constant, date_constant, a_constant, literal, qualified, reference, atom, null_test};
 
 use col_value::{Name, Wide};
 use sql_phrases::{Stop, Tokens};
@@ -28,7 +28,17 @@ fn named_constant(tokens: &mut Tokens<'_>) -> Result<Wide, Stop>
     Ok(Wide::Null)
 }
 
-/// `int | text | TRUE | FALSE | NULL`
+/// `DATE text`, whose text says a day
+#[tactic(auto, unfolding(sql_phrases::specs::Readings::mark, sql_phrases::specs::Readings::both, sql_phrases::specs::Readings::nothing, sql_phrases::specs::Readers::date_constant))]
+fn date_constant(alloc: Global, tokens: &mut Tokens<'_>) -> Result<Wide, Stop>
+    ensures { Gives result tokens.new (date_constant tokens.old) }
+{
+    tokens.key(Key::Date)?;
+    let day = tokens.date(alloc)?;
+    Ok(Wide::Date(day))
+}
+
+/// `int | text | DATE text | TRUE | FALSE | NULL`
 #[tactic(auto, unfolding(sql_phrases::specs::Readings::choose, sql_phrases::specs::Readings::both, sql_phrases::specs::Readings::nothing, sql_phrases::specs::Readers::a_constant))]
 fn constant(alloc: Global, tokens: &mut Tokens<'_>) -> Result<Wide, Stop>
     ensures { Gives result tokens.new (a_constant tokens.old) }
@@ -41,10 +51,13 @@ fn constant(alloc: Global, tokens: &mut Tokens<'_>) -> Result<Wide, Stop>
         let text = tokens.text(alloc)?;
         return Ok(Wide::Text(text));
     }
+    if tokens.begins_key(Key::Date) {
+        return date_constant(alloc, tokens);
+    }
     named_constant(tokens)
 }
 
-/// `[-] int | text | TRUE | FALSE | NULL`
+/// `[-] int | text | DATE text | TRUE | FALSE | NULL`
 #[tactic(auto, unfolding(sql_phrases::specs::Readings::choose, sql_phrases::specs::Readings::mark, sql_phrases::specs::Readings::both, sql_phrases::specs::Readings::nothing, sql_phrases::specs::Readers::literal))]
 pub fn literal(alloc: Global, tokens: &mut Tokens<'_>) -> Result<Wide, Stop>
     ensures { Gives result tokens.new (literal tokens.old) }

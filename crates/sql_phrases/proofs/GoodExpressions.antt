@@ -9,22 +9,26 @@ use Rattle.sql_tree.specs.declared.tree.AggKind.{AggKind}
 use Rattle.sql_tree.specs.declared.tree.ColRef.{ColRef}
 use Rattle.sql_tree.specs.declared.tree.Tree
 use Rattle.sql_tree.specs.Makers.{constant, column, negated, denied, is_null, compared, between, one_of, chained, addend, summed, count_all, aggregated}
-use Rattle.sql_tree.specs.Expressions.{NamedConstant, Constant, Literal, Qualified, Reference, Atom, Unary, Product, Signed, Sum, Compared, NullTest, Between, Among, Ranged, Tail, Predicate, Negation, Conjunction, Over, Argument, Counted, Aggregate, Primary, Leaf, Grouped, Base, Expr, GroupedExpr}
+use Rattle.sql_tree.specs.Expressions.{NamedConstant, DateConstant, Constant, Literal, Qualified, Reference, Atom, Unary, Product, Signed, Sum, Compared, NullTest, Between, Among, Ranged, Tail, Predicate, Negation, Conjunction, Over, Argument, Counted, Aggregate, Primary, Leaf, Grouped, Base, Expr, GroupedExpr}
 use Rattle.sql_phrases.specs.Readings.{Read}
 use Rattle.sql_phrases.specs.Classes.{Class, is_key, in_set, name_classes, number_classes, text_classes, cmp_classes, signed_classes, aggregate_classes}
-use Rattle.sql_phrases.specs.Readers.{named_constant, a_constant, literal, qualified, reference, atom, unary, product, signed, sum, comparison, null_test, betweens, among, ranged, tail, predicate, negation, conjunction, over, argument, counted, aggregate, primary, leaf, grouped, base, expr, grouped_expr}
+use Rattle.sql_phrases.specs.Readers.{named_constant, date_constant, a_constant, literal, qualified, reference, atom, unary, product, signed, sum, comparison, null_test, betweens, among, ranged, tail, predicate, negation, conjunction, over, argument, counted, aggregate, primary, leaf, grouped, base, expr, grouped_expr}
 use Rattle.sql_phrases.proofs.Goods.{Good, key_tells, good_nothing, good_key, good_sign, good_then, good_made, good_many, good_refuse, good_wider}
 use Rattle.sql_phrases.proofs.Shapes.{good_at_key, good_at_sign, good_at_set, good_inside, good_by_word, good_by_glyph}
-use Rattle.sql_phrases.proofs.Picks.{good_name, good_text, good_number, good_cmp}
+use Rattle.sql_phrases.proofs.Picks.{good_name, good_text, good_date, good_number, good_cmp}
 use Rattle.sql_phrases.proofs.Sets.{of_keys, constant_first, literal_first, atom_first, leaf_first, base_first, sum_first, over_first, dot, product_more, sum_more, ranged_first, tail_first, predicate_more, conjunction_more, over_more}
 
 pub good_named_constant : Good NamedConstant named_constant (of_keys (Key.True ∷ (Key.False ∷ (Key.Null ∷ [])))) false []
 unfolding named_constant
 good_named_constant = good_at_key Key.True refl (good_key Key.True (good_nothing (Wide.Bool true))) (good_at_key Key.False refl (good_key Key.False (good_nothing (Wide.Bool false))) (good_key Key.Null (good_nothing Wide.Null)))
 
+pub good_date_constant : Good DateConstant date_constant (of_keys (Key.Date ∷ [])) false []
+unfolding date_constant
+good_date_constant = good_key Key.Date (good_made (λ n. Wide.Date n) good_date)
+
 pub good_constant : Good Constant a_constant constant_first false []
 unfolding a_constant
-good_constant = good_at_set number_classes refl refl (good_made (λ n. Wide.Int (pos n)) good_number) (good_at_set text_classes refl refl (good_made (λ t. Wide.Text t) good_text) good_named_constant)
+good_constant = good_at_set number_classes refl refl (good_made (λ n. Wide.Int (pos n)) good_number) (good_at_set text_classes refl refl (good_made (λ t. Wide.Text t) good_text) (good_at_key Key.Date refl good_date_constant good_named_constant))
 
 pub good_literal : Good Literal literal literal_first false []
 unfolding literal

@@ -27,7 +27,7 @@ use Rattle.sql_phrases.proofs.Sets.{of_keys, over_more, where_more, query_more, 
 
 pub good_kind : Good Kind kind kind_first false []
 unfolding kind
-good_kind = good_at_key Key.Integer refl (good_key Key.Integer (good_nothing ColType.Integer)) (good_at_key Key.Int refl (good_key Key.Int (good_nothing ColType.Integer)) (good_at_key Key.Bigint refl (good_key Key.Bigint (good_nothing ColType.Integer)) (good_at_key Key.Boolean refl (good_key Key.Boolean (good_nothing ColType.Boolean)) (good_key Key.Varchar (good_made (λ n. ColType.Varchar n) (good_inside refl good_width))))))
+good_kind = good_at_key Key.Integer refl (good_key Key.Integer (good_nothing ColType.Integer)) (good_at_key Key.Int refl (good_key Key.Int (good_nothing ColType.Integer)) (good_at_key Key.Bigint refl (good_key Key.Bigint (good_nothing ColType.Integer)) (good_at_key Key.Boolean refl (good_key Key.Boolean (good_nothing ColType.Boolean)) (good_at_key Key.Varchar refl (good_key Key.Varchar (good_made (λ n. ColType.Varchar n) (good_inside refl good_width))) (good_key Key.Date (good_nothing ColType.Date))))))
 
 pub good_not_null : Good NotNull not_null (of_keys (Key.Not ∷ [])) true (of_keys (Key.Not ∷ []))
 unfolding not_null

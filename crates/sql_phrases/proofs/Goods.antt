@@ -17,7 +17,7 @@ use Rattle.sql_tree.specs.Symbols.{Word, Glyph, Command}
 use Rattle.sql_phrases.specs.Readings.{Read, Shortens, one, nothing, both, head_is, choose, refuse, many}
 use Rattle.sql_phrases.specs.Classes.{Class, class_of, is_key, is_sign, is_back, same_class, has, in_set, disjoint, subset}
 use Rattle.sql_phrases.specs.Readers.{word, glyph, command}
-use Rattle.sql_phrases.proofs.Judges.{Takes, Judged, Judge, judge_nothing, judge_one, judge_both, judge_choose, judge_refuse, judge_mark}
+use Rattle.sql_phrases.proofs.Judges.{Takes, Judged, Judge, widen, judge_nothing, judge_one, judge_both, judge_choose, judge_refuse, judge_mark}
 use Rattle.sql_phrases.proofs.Repeats.{judge_many}
 use Rattle.sql_phrases.proofs.Agains.{Ends, Again, again_one, again_nothing, again_both, again_choose, again_refuse, again_mark, again_many}
 
@@ -343,6 +343,19 @@ good_refuse {fa = fa} {ma = ma} {ea = ea} p cs tells d g = record {
       (λ rest n. ends_left ma cs rest n);
   begins = g.begins;
 }
+
+-- the same where the same symbols spell it
+pub good_alike : {V : Type 0} {A L : List Symbol → V → Type 0} {a : List Symbol → Read Symbol V} {fa ma : List Class} {ea : Bool} → ((front : List Symbol) (v : V) → A front v → L front v) → ((front : List Symbol) (v : V) → L front v → A front v) → Good A a fa ea ma → Good L a fa ea ma
+good_alike {A = A} {L = L} {a = a} up down g =
+    let some = g.judge.some in
+    record {
+      judge = record {
+        some = record { more = some.more; value = some.value; spelled = up some.more some.value some.spelled };
+        each = λ ts. widen A L a a ts up (λ f t r s e. refl) (a ts) (g.judge.each ts);
+      };
+      again = record { reads = λ front v rest k n. g.again.reads front v rest (down front v k) n };
+      begins = λ front v k. g.begins front v (down front v k);
+    }
 
 begins_wider : (fa f : List Class) (ea e : Bool) → subset fa f ≡ true → ea ≡ e → (front : List Symbol) → Begins fa ea front → Begins f e front
 begins_wider fa f ea e s h [] b = sym h ∙ b

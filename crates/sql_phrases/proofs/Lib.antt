@@ -1,3 +1,4 @@
+pub mod Dates
 pub mod Judges
 pub mod Repeats
 pub mod Agains

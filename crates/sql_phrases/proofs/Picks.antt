@@ -1,15 +1,18 @@
 -- The symbols that carry values are good.
-use Rattle.std.proofs.Common.{◌≡◌, ℕ, false, true, List, [], Some, codes, refl}
+use Rattle.std.proofs.Common.{◌≡◌, ℕ, false, true, List, [], Some, codes, refl, arith}
+use Rattle.col_value.specs.Days.{date_of, ten}
 use Rattle.sql_words.specs.declared.token.Sign.{Sign}
 use Rattle.sql_words.specs.Symbols.{Symbol}
 use Rattle.sql_words.specs.Words.{key_in, key_of, piece_of}
 use Rattle.sql_tree.specs.declared.statement.Function.{Function}
 use Rattle.sql_tree.specs.declared.tree.Cmp.{Cmp}
-use Rattle.sql_tree.specs.Phrases.{One}
-use Rattle.sql_tree.specs.Symbols.{name_of, text_of, number_of, width_of, session_of, task_named, task_of, table_named, table_of, compares, cmp_of}
+use Rattle.sql_tree.specs.Phrases.{One, Says}
+use Rattle.sql_tree.specs.Symbols.{IsDate, name_of, text_of, number_of, width_of, session_of, task_named, task_of, table_named, table_of, compares, cmp_of}
 use Rattle.sql_phrases.specs.Readings.{one}
+use Rattle.sql_phrases.specs.Dates.{day_in}
 use Rattle.sql_phrases.specs.Classes.{in_set, name_classes, text_classes, number_classes, cmp_classes}
-use Rattle.sql_phrases.proofs.Goods.{Good, good_one}
+use Rattle.sql_phrases.proofs.Dates.{date_said, date_read}
+use Rattle.sql_phrases.proofs.Goods.{Good, good_one, good_alike}
 
 name_only : (u : Symbol) (w : List ℕ) → name_of u ≡ Some w → in_set name_classes u ≡ true
 name_only (Symbol.Keyword k) w h = cc
@@ -34,6 +37,21 @@ text_only Symbol.Unknown w h = cc
 
 pub good_text : Good (One text_of) (one text_of) text_classes false []
 good_text = good_one text_of text_classes (Symbol.Text []) [] refl text_only
+
+day_only : (u : Symbol) (w : ℕ) → day_in u ≡ Some w → in_set text_classes u ≡ true
+day_only (Symbol.Keyword k) w h = cc
+day_only (Symbol.Name n) w h = cc
+day_only (Symbol.Number n) w h = cc
+day_only (Symbol.Text t) w h = refl
+day_only (Symbol.Mark s) w h = cc
+day_only (Symbol.Command b) w h = cc
+day_only Symbol.Unknown w h = cc
+
+first_day : day_in (Symbol.Text (ten (date_of 1))) ≡ Some 1
+first_day = date_read (Symbol.Text (ten (date_of 1))) 1 ((omega arith, omega arith), refl)
+
+pub good_date : Good (Says IsDate) (one day_in) text_classes false []
+good_date = good_alike (λ front n (t, e, h). (t, e, date_said t n h)) (λ front n (t, e, h). (t, e, date_read t n h)) (good_one day_in text_classes (Symbol.Text (ten (date_of 1))) 1 first_day day_only)
 
 number_only : (u : Symbol) (w : ℕ) → number_of u ≡ Some w → in_set number_classes u ≡ true
 number_only (Symbol.Keyword k) w h = cc

@@ -14,7 +14,7 @@ of_signs ss = map Class.OfSign ss
 -- expressions
 
 abbrev pub constant_first : List Class
-constant_first = Class.OfNumber ∷ (Class.OfText ∷ of_keys (Key.True ∷ (Key.False ∷ (Key.Null ∷ []))))
+constant_first = Class.OfNumber ∷ (Class.OfText ∷ of_keys (Key.Date ∷ (Key.True ∷ (Key.False ∷ (Key.Null ∷ [])))))
 
 abbrev pub literal_first : List Class
 literal_first = Class.OfSign Sign.Minus ∷ constant_first
@@ -99,7 +99,7 @@ query_more = of_keys (Key.Where ∷ (Key.Group ∷ (Key.Having ∷ (Key.Order �
 -- statements
 
 abbrev pub kind_first : List Class
-kind_first = of_keys (Key.Integer ∷ (Key.Int ∷ (Key.Bigint ∷ (Key.Boolean ∷ (Key.Varchar ∷ [])))))
+kind_first = of_keys (Key.Integer ∷ (Key.Int ∷ (Key.Bigint ∷ (Key.Boolean ∷ (Key.Varchar ∷ (Key.Date ∷ []))))))
 
 abbrev pub encoding_first : List Class
 encoding_first = of_keys (Key.Auto ∷ (Key.Rle ∷ (Key.Deltaval ∷ (Key.BlockDict ∷ (Key.Plain ∷ [])))))

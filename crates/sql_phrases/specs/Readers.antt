@@ -29,6 +29,7 @@ use Rattle.sql_tree.specs.Symbols.{name_of, text_of, number_of, width_of, sessio
 use Rattle.sql_tree.specs.Makers.{constant, column, negated, denied, is_null, compared, between, one_of, chained, addend, summed, count_all, aggregated}
 use Rattle.sql_tree.specs.Queries.{joined_on}
 use Rattle.sql_phrases.specs.Readings.{Read, one, nothing, both, choose, refuse, mark, many}
+use Rattle.sql_phrases.specs.Dates.{day_in}
 use Rattle.sql_phrases.specs.Classes.{is_key, is_sign, is_back, in_set, name_classes, number_classes, text_classes, cmp_classes, signed_classes, aggregate_classes, source_classes, call_classes}
 
 abbrev pub Reads : Type 0 → Type 0
@@ -67,8 +68,11 @@ listed a = both a (λ x. both (many (is_sign Sign.Comma) (glyph Sign.Comma a)) (
 unfoldable pub named_constant : Reads Wide
 named_constant = choose (is_key Key.True) (word Key.True (nothing (Wide.Bool true))) (choose (is_key Key.False) (word Key.False (nothing (Wide.Bool false))) (word Key.Null (nothing Wide.Null)))
 
+unfoldable pub date_constant : Reads Wide
+date_constant = word Key.Date (both (one day_in) (λ n. nothing (Wide.Date n)))
+
 unfoldable pub a_constant : Reads Wide
-a_constant = choose (in_set number_classes) (both (one number_of) (λ n. nothing (Wide.Int (pos n)))) (choose (in_set text_classes) (both (one text_of) (λ t. nothing (Wide.Text t))) named_constant)
+a_constant = choose (in_set number_classes) (both (one number_of) (λ n. nothing (Wide.Int (pos n)))) (choose (in_set text_classes) (both (one text_of) (λ t. nothing (Wide.Text t))) (choose (is_key Key.Date) date_constant named_constant))
 
 unfoldable pub literal : Reads Wide
 literal = choose (is_sign Sign.Minus) (glyph Sign.Minus (both (one number_of) (λ n. nothing (Wide.Int (neg_ℤ (pos n)))))) a_constant
@@ -209,7 +213,7 @@ queries = both select_list (λ is. word Key.From (both sources (λ ss. both wher
 -- statements
 
 unfoldable pub kind : Reads ColType
-kind = choose (is_key Key.Integer) (word Key.Integer (nothing ColType.Integer)) (choose (is_key Key.Int) (word Key.Int (nothing ColType.Integer)) (choose (is_key Key.Bigint) (word Key.Bigint (nothing ColType.Integer)) (choose (is_key Key.Boolean) (word Key.Boolean (nothing ColType.Boolean)) (word Key.Varchar (both (inside (one width_of)) (λ n. nothing (ColType.Varchar n)))))))
+kind = choose (is_key Key.Integer) (word Key.Integer (nothing ColType.Integer)) (choose (is_key Key.Int) (word Key.Int (nothing ColType.Integer)) (choose (is_key Key.Bigint) (word Key.Bigint (nothing ColType.Integer)) (choose (is_key Key.Boolean) (word Key.Boolean (nothing ColType.Boolean)) (choose (is_key Key.Varchar) (word Key.Varchar (both (inside (one width_of)) (λ n. nothing (ColType.Varchar n)))) (word Key.Date (nothing ColType.Date))))))
 
 unfoldable pub not_null : Reads Bool
 not_null = choose (is_key Key.Not) (word Key.Not (word Key.Null (nothing true))) (nothing false)

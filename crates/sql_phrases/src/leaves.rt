@@ -4,10 +4,11 @@
 ghost use Rattle.std.specs.Prelude.{◌≡◌, ◌<◌, ◌^◌, IfOk};
 ghost use Rattle.sql_tree.specs.Symbols.{name_of, text_of, number_of, width_of, session_of, task_of, table_of, cmp_of, compares};
 ghost use Rattle.sql_phrases.specs.Readings.{one, the};
+ghost use Rattle.sql_phrases.specs.Dates.{day_in};
 ghost use Rattle.sql_phrases.specs.Classes.{is_key, is_sign, is_back};
 ghost use Rattle.sql_phrases.specs.Gives.{Gives};
 
-use crate::texts::{table_named, task_named};
+use crate::texts::{day_named, table_named, task_named};
 use crate::{Stop, Tokens};
 use col_value::{Name, Text};
 use sql_tree::{Cmp, Function};
@@ -129,6 +130,29 @@ impl<'a> Tokens<'a> {
                             Ok(Text::new(text))
                         }
                         Err(_) => Err(Stop::Here),
+                    }
+                }
+                _ => Err(Stop::Here),
+            },
+            [] => Err(Stop::Here),
+        }
+    }
+
+    /// Takes a text that says a day.
+    #[tactic(auto, unfolding(crate::specs::Readings::one))]
+    pub fn date(&mut self, alloc: Global) -> Result<u32, Stop>
+        ensures { Gives result self.new (one day_in self.old) }
+    {
+        match self.left {
+            [token, rest @ ..] => match token.kind {
+                TokenKind::Text => {
+                    let bytes = text_bytes(alloc, self.text, token)?;
+                    match day_named(bytes.as_slice())? {
+                        Some(day) => {
+                            self.left = rest;
+                            Ok(day)
+                        }
+                        None => Err(Stop::Here),
                     }
                 }
                 _ => Err(Stop::Here),

@@ -1,14 +1,23 @@
-//! What the text of a function's call names.
+//! What a text names: that of a function's call, or the one behind DATE.
 #![tactic(auto)]
 
 ghost use Rattle.std.specs.Prelude.{◌≡◌, length, All, IfOk};
 ghost use Rattle.sql_words.specs.Words.{IsWithin, tokens_of};
+ghost use Rattle.sql_phrases.specs.Dates.{day_named};
 ghost use Rattle.sql_tree.specs.Symbols.{task_named, table_named, whole_name};
 
-use col_value::Name;
+use col_value::{Name, read_date};
 use sql_tree::Function;
 use sql_words::{Token, TokenKind, name_bytes, words};
 use std::alloc::{AllocError, Global};
+
+/// The day whose text it is.
+#[tactic(auto, using(crate::proofs::Dates::is_named))]
+pub fn day_named(text: &[u8]) -> Result<Option<u32>, AllocError>
+    ensures { IfOk result (λ n. n ≡ day_named text.now) }
+{
+    read_date(text)
+}
 
 /// The task that a text names, in lower case.
 #[tactic(auto, unfolding(sql_tree::specs::Symbols::task_named))]

@@ -10,7 +10,7 @@ use sql_tree::{Delete, Insert, Setting, Statement, Update};
 use sql_words::{Key, Sign};
 use std::alloc::Global;
 
-/// `[-] int | text | TRUE | FALSE | NULL`
+/// `[-] int | text | DATE text | TRUE | FALSE | NULL`
 struct Literal;
 
 impl Spelled for Literal {

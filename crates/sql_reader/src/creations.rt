@@ -25,7 +25,7 @@ fn varchar(tokens: &mut Tokens<'_>) -> Result<ColType, Stop>
     Ok(ColType::Varchar(width))
 }
 
-/// `INTEGER | INT | BIGINT | BOOLEAN | VARCHAR ( int )`
+/// `INTEGER | INT | BIGINT | BOOLEAN | VARCHAR ( int ) | DATE`
 #[tactic(auto, unfolding(sql_phrases::specs::Readings::choose, sql_phrases::specs::Readings::mark, sql_phrases::specs::Readings::both, sql_phrases::specs::Readings::nothing, sql_phrases::specs::Readers::kind))]
 fn kind(tokens: &mut Tokens<'_>) -> Result<ColType, Stop>
     ensures { Gives result tokens.new (kind tokens.old) }
@@ -46,7 +46,11 @@ fn kind(tokens: &mut Tokens<'_>) -> Result<ColType, Stop>
         tokens.key(Key::Boolean)?;
         return Ok(ColType::Boolean);
     }
-    varchar(tokens)
+    if tokens.begins_key(Key::Varchar) {
+        return varchar(tokens);
+    }
+    tokens.key(Key::Date)?;
+    Ok(ColType::Date)
 }
 
 /// `[NOT NULL]`

@@ -10,19 +10,23 @@ use Rattle.sql_tree.specs.declared.tree.Tree.{Tree}
 use Rattle.sql_tree.specs.declared.tree.Tree
 use Rattle.sql_tree.specs.declared.part.Addend.{Addend}
 use Rattle.sql_tree.specs.declared.part.Part.{Part}
-use Rattle.sql_tree.specs.Phrases.{One, Nothing, Then, Either, Many, Chain}
-use Rattle.sql_tree.specs.Symbols.{Spelling, Word, Glyph, Inside, name_of, text_of, number_of, cmp_of}
+use Rattle.sql_tree.specs.Phrases.{One, Says, Nothing, Then, Either, Many, Chain}
+use Rattle.sql_tree.specs.Symbols.{Spelling, Word, Glyph, Inside, IsDate, name_of, text_of, number_of, cmp_of}
 use Rattle.sql_tree.specs.Makers.{constant, column, negated, denied, is_null, compared, between, one_of, chained, addend, summed, count_all, aggregated}
 
 -- TRUE | FALSE | NULL
 abbrev pub NamedConstant : Spelling Wide
 NamedConstant = Either (Word Key.True (Nothing (Wide.Bool true))) (Either (Word Key.False (Nothing (Wide.Bool false))) (Word Key.Null (Nothing Wide.Null)))
 
--- int | text | TRUE | FALSE | NULL
-abbrev pub Constant : Spelling Wide
-Constant = Either (Then (One number_of) (λ n. Nothing (Wide.Int (pos n)))) (Either (Then (One text_of) (λ t. Nothing (Wide.Text t))) NamedConstant)
+-- DATE text, whose text says a day
+abbrev pub DateConstant : Spelling Wide
+DateConstant = Word Key.Date (Then (Says IsDate) (λ n. Nothing (Wide.Date n)))
 
--- literal = [-] int | text | TRUE | FALSE | NULL
+-- int | text | DATE text | TRUE | FALSE | NULL
+abbrev pub Constant : Spelling Wide
+Constant = Either (Then (One number_of) (λ n. Nothing (Wide.Int (pos n)))) (Either (Then (One text_of) (λ t. Nothing (Wide.Text t))) (Either DateConstant NamedConstant))
+
+-- literal = [-] int | text | DATE text | TRUE | FALSE | NULL
 abbrev pub Literal : Spelling Wide
 Literal = Either (Glyph Sign.Minus (Then (One number_of) (λ n. Nothing (Wide.Int (neg_ℤ (pos n)))))) Constant
 
@@ -34,7 +38,7 @@ Qualified n = Either (Glyph Sign.Dot (Then (One name_of) (λ m. Nothing (record 
 abbrev pub Reference : Spelling ColRef
 Reference = Then (One name_of) Qualified
 
--- int | text | TRUE | FALSE | NULL | colref
+-- int | text | DATE text | TRUE | FALSE | NULL | colref
 abbrev pub Atom : Spelling Part
 Atom = Either (Then Reference (λ c. Nothing (column c))) (Then Constant (λ w. Nothing (constant w)))
 
@@ -107,12 +111,12 @@ Counted E = Inside (Either (Glyph Sign.Star (Nothing count_all)) (Then E (λ x. 
 abbrev pub Aggregate : Spelling Part → Spelling Part
 Aggregate E = Either (Word Key.Count (Counted E)) (Either (Word Key.Sum (Argument AggKind.Sum E)) (Either (Word Key.Min (Argument AggKind.Min E)) (Word Key.Max (Argument AggKind.Max E))))
 
--- primary = int | text | TRUE | FALSE | NULL | colref | ( expr ), where so many more parentheses may nest
+-- primary = int | text | DATE text | TRUE | FALSE | NULL | colref | ( expr ), where so many more parentheses may nest
 unfoldable pub Primary : ℕ → Spelling Part
 Primary zero = Atom
 Primary (suc depth) = Either (Inside (Over (Primary depth))) Atom
 
--- aggregate | int | text | TRUE | FALSE | NULL | colref
+-- aggregate | int | text | DATE text | TRUE | FALSE | NULL | colref
 abbrev pub Leaf : ℕ → Spelling Part
 Leaf depth = Either (Aggregate (Over (Primary depth))) Atom
 

@@ -8,6 +8,10 @@ Phrase T V = List T → V → Type 0
 abbrev pub One : {T V : Type 0} → (T → Option V) → Phrase T V
 One {T} pick front value = (t : T) × (front ≡ t ∷ []) × (pick t ≡ Some value)
 
+-- one symbol that says the value
+abbrev pub Says : {T V : Type 0} → (T → V → Type 0) → Phrase T V
+Says {T} R front value = (t : T) × (front ≡ t ∷ []) × R t value
+
 -- the given symbol, then what A spells
 abbrev pub Mark : {T V : Type 0} → T → Phrase T V → Phrase T V
 Mark {T} t A front value = (rest : List T) × (front ≡ t ∷ rest) × A rest value

@@ -17,9 +17,9 @@ use Rattle.sql_tree.specs.Symbols.{Spelling, Word, Glyph, Command, Inside, Liste
 use Rattle.sql_tree.specs.Expressions.{Literal, Expr}
 use Rattle.sql_tree.specs.Queries.{Where, Queries}
 
--- type = INTEGER | INT | BIGINT | BOOLEAN | VARCHAR ( int )
+-- type = INTEGER | INT | BIGINT | BOOLEAN | VARCHAR ( int ) | DATE
 abbrev pub Kind : Spelling ColType
-Kind = Either (Word Key.Integer (Nothing ColType.Integer)) (Either (Word Key.Int (Nothing ColType.Integer)) (Either (Word Key.Bigint (Nothing ColType.Integer)) (Either (Word Key.Boolean (Nothing ColType.Boolean)) (Word Key.Varchar (Then (Inside (One width_of)) (λ n. Nothing (ColType.Varchar n)))))))
+Kind = Either (Word Key.Integer (Nothing ColType.Integer)) (Either (Word Key.Int (Nothing ColType.Integer)) (Either (Word Key.Bigint (Nothing ColType.Integer)) (Either (Word Key.Boolean (Nothing ColType.Boolean)) (Either (Word Key.Varchar (Then (Inside (One width_of)) (λ n. Nothing (ColType.Varchar n)))) (Word Key.Date (Nothing ColType.Date))))))
 
 -- [NOT NULL]
 abbrev pub NotNull : Spelling Bool

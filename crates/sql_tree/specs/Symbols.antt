@@ -1,5 +1,6 @@
 -- What one symbol spells, and the words of the grammar over symbols.
 use Rattle.std.specs.Prelude.{ℕ, ◌^◌, ◌-◌, ◌==◌, ◌&&◌, nat_lt, nat_le, if◌then◌else◌, Bool, List, [], ◌∷◌, length, Option, Some, None, bytes_eq, codes}
+use Rattle.col_value.specs.Days.{SaysDay}
 use Rattle.sql_words.specs.declared.token.Key.{Key}
 use Rattle.sql_words.specs.declared.token.Sign.{Sign}
 use Rattle.sql_words.specs.declared.token.Back.{Back}
@@ -51,6 +52,16 @@ text_of (Symbol.Text t) = Some t
 text_of (Symbol.Mark s) = None
 text_of (Symbol.Command b) = None
 text_of Symbol.Unknown = None
+
+-- a text that says the day
+abbrev pub IsDate : Symbol → ℕ → Type 0
+IsDate (Symbol.Keyword k) n = ⊥
+IsDate (Symbol.Name m) n = ⊥
+IsDate (Symbol.Number m) n = ⊥
+IsDate (Symbol.Text t) n = SaysDay t n
+IsDate (Symbol.Mark s) n = ⊥
+IsDate (Symbol.Command b) n = ⊥
+IsDate Symbol.Unknown n = ⊥
 
 abbrev pub number_of : Symbol → Option ℕ
 number_of (Symbol.Keyword k) = None

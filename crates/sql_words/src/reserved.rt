@@ -10,7 +10,7 @@ ghost use Rattle.sql_words.specs.Words.{key_in, key_of, reserved_words};
 use crate::token::Key;
 
 /// The reserved words in lower case, in the order of the alphabet.
-pub const RESERVED: [(&str, Key); 64] = [
+pub const RESERVED: [(&str, Key); 65] = [
     ("and", Key::And),
     ("as", Key::As),
     ("asc", Key::Asc),
@@ -25,6 +25,7 @@ pub const RESERVED: [(&str, Key); 64] = [
     ("copy", Key::Copy),
     ("count", Key::Count),
     ("create", Key::Create),
+    ("date", Key::Date),
     ("delete", Key::Delete),
     ("deltaval", Key::Deltaval),
     ("desc", Key::Desc),
@@ -79,8 +80,8 @@ pub const RESERVED: [(&str, Key); 64] = [
 
 /// The place in `RESERVED` at which each letter's words begin, so that a word is compared with few of them.
 const STARTS: [usize; 28] = [
-    0, 5, 10, 14, 19, 22, 24, 28, 29, 36, 37, 37, 39, 42, 44, 47, 50, 50, 53, 58, 60, 61, 63, 64,
-    64, 64, 64, 64,
+    0, 5, 10, 14, 20, 23, 25, 29, 30, 37, 38, 38, 40, 43, 45, 48, 51, 51, 54, 59, 61, 62, 64, 65,
+    65, 65, 65, 65,
 ];
 
 /// The place in the alphabet of a word's first letter. What is before `a` counts as it, and what is behind `z` is 26.
@@ -99,7 +100,7 @@ fn places_of(letter: usize) -> (usize, usize)
     requires { letter ≤ 26 }
     ensures places { result ≡ (get_or STARTS letter 0, get_or STARTS (letter + 1) 0) }
     ensures order { result.0 ≤ result.1 }
-    ensures within { result.1 ≤ 64 }
+    ensures within { result.1 ≤ 65 }
 {
     (STARTS[letter], STARTS[letter + 1])
 }
@@ -119,7 +120,7 @@ fn key_in(table: &[(&'static str, Key)], word: &[u8]) -> Option<Key>
 
 /// The keyword of the first reserved word that the word is, looked for among those of its first letter.
 fn key_among(table: &[(&'static str, Key)], word: &[u8]) -> Option<Key>
-    requires size { length table.now ≡ 64 }
+    requires size { length table.now ≡ 65 }
     requires words { map (λ e. (e.0.now, e.1)) table.now ≡ reserved_words }
     ensures { result ≡ key_of word.now }
 {

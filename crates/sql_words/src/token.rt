@@ -15,6 +15,7 @@ pub enum Key {
     Copy,
     Count,
     Create,
+    Date,
     Delete,
     Deltaval,
     Desc,

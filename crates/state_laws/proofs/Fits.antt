@@ -32,11 +32,19 @@ number_fits : (kind : ColType) → serves Kind.Number (kind_of_column kind) ≡ 
 number_fits ColType.Integer is = refl
 number_fits (ColType.Varchar n) is = cc
 number_fits ColType.Boolean is = cc
+number_fits ColType.Date is = cc
 
 truth_fits : (kind : ColType) → serves Kind.Truth (kind_of_column kind) ≡ true → kind ≡ ColType.Boolean
 truth_fits ColType.Integer is = cc
 truth_fits (ColType.Varchar n) is = cc
 truth_fits ColType.Boolean is = refl
+truth_fits ColType.Date is = cc
+
+date_fits : (kind : ColType) → serves Kind.Date (kind_of_column kind) ≡ true → kind ≡ ColType.Date
+date_fits ColType.Integer is = cc
+date_fits (ColType.Varchar n) is = cc
+date_fits ColType.Boolean is = cc
+date_fits ColType.Date is = refl
 
 within : (n long : ℕ) → nat_lt (min n 65000) long ≡ false → long ≤ n
 within n long is = let to : long ≤ min n 65000 = grind (arith, nat_tests) in omega (arith, to)
@@ -45,11 +53,13 @@ text_fits : (kind : ColType) (t : List ℕ) → serves (kind_of_value (wide.Text
 text_fits ColType.Integer t is short = cc
 text_fits (ColType.Varchar n) t is short = within n (length t) short
 text_fits ColType.Boolean t is short = cc
+text_fits ColType.Date t is short = cc
 
 value_fits : (c : Column) (w : Wide) → Stored (c, w) → ValueFits c (narrowed w)
 value_fits c wide.Null s = s.null
 value_fits c (wide.Bool b) s = truth_fits c.kind s.kind
 value_fits c (wide.Int n) s = number_fits c.kind s.kind
+value_fits c (wide.Date d) s = date_fits c.kind s.kind
 value_fits c (wide.Text t) s = text_fits c.kind t s.kind s.width
 
 -- ---- one row

@@ -6,5 +6,6 @@ pub mod Events
 pub mod Shaped
 pub mod Unshaped
 pub mod Commits
+pub mod Marked
 pub mod Fits
 mod Loaded

@@ -23,6 +23,7 @@ StandsIn columns row = AllZip ValueFits columns row × IsRow row
 said_in : (c : Column) (kind : ColType) (field : List ℕ) (v : Value) → c.kind ≡ kind → SaysIn kind field v → Stands c v
 said_in c ColType.Integer field v is (n, says, holds, same) = subst (Stands c) (sym same) (is, holds)
 said_in c ColType.Boolean field v is (b, says, same) = subst (Stands c) (sym same) (is, tt)
+said_in c ColType.Date field v is (n, says, same) = subst (Stands c) (sym same) (is, says.0)
 said_in c (ColType.Varchar most) field v is (says, holds, same) =
     subst (Stands c) (sym same) (subst (λ (k : ColType). TextFits k field) (sym is) says.1, holds)
 

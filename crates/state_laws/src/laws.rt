@@ -11,7 +11,8 @@ ghost use Rattle.sql_binding.specs.Inserts.{inserted_rows};
 ghost use Rattle.db_model.specs.Database.{Table, table_named};
 ghost use Rattle.db_model.specs.State.{State};
 ghost use Rattle.db_model.specs.Loading.{Load, Loads};
-ghost use Rattle.db_model.specs.Events.{changes_committed, changes_dropped, is_not_named, projection_created, projection_dropped, rows_pending, table_created, table_dropped};
+ghost use Rattle.db_model.specs.Epochs.{last_good};
+ghost use Rattle.db_model.specs.Events.{changes_committed, changes_dropped, is_not_named, mark_raised, projection_created, projection_dropped, rows_pending, table_created, table_dropped};
 ghost use Rattle.db_model.specs.Numbers.{IsDrawn};
 ghost use Rattle.db_model.specs.Refusals.{locked, projection_created_refusal, projection_dropped_refusal, table_created_refusal, table_dropped_refusal};
 ghost use Rattle.db_model.specs.Sound.{IsSound, IsSoundDatabase, RowFits};
@@ -68,6 +69,11 @@ pub fn commits_of_a_session_are_sound()
 /// A state stays sound in a ROLLBACK.
 pub fn changes_may_be_dropped()
     ensures { (state : State) → state.asked ≡ [] → IsSound state → IsSound (changes_dropped state) }
+{}
+
+/// A state stays sound where its ancient history mark becomes an epoch that is no later than the last good one.
+pub fn marks_up_to_the_last_good_epoch_are_sound()
+    ensures { (state : State) (mark : ℕ) → state.asked ≡ [] → mark ≤ last_good state.database → IsSound state → IsSound (mark_raised mark state) }
 {}
 
 /// A state stays sound where another session is the current one.

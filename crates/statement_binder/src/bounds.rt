@@ -86,6 +86,7 @@ fn bound_of_value(value: &Wide) -> u128
         Wide::Null => 0,
         Wide::Bool(_) => 0,
         Wide::Int(n) => n.unsigned_abs(),
+        Wide::Date(_) => 0,
         Wide::Text(_) => 0,
     }
 }

@@ -29,6 +29,7 @@ fn kind_of_column(kind: ColType) -> Kind
         ColType::Integer => Kind::Number,
         ColType::Varchar(_) => Kind::Text,
         ColType::Boolean => Kind::Truth,
+        ColType::Date => Kind::Date,
     }
 }
 
@@ -112,6 +113,7 @@ fn is_number(kind: Option<Kind>) -> bool
         Some(Kind::Null) => true,
         Some(Kind::Truth) => false,
         Some(Kind::Number) => true,
+        Some(Kind::Date) => false,
         Some(Kind::Text) => false,
     }
 }

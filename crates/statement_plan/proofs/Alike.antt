@@ -1,8 +1,9 @@
 -- What is looked at before the rows is the same in a state and in the one without its rows.
 use Rattle.std.proofs.Common.{◌≡◌, ℕ, ◌+◌, List, [], ◌∷◌, ◌++◌, Bool, true, false, cond, length, map, filter, refl, sym, ◌-◌, ◌∙◌, ap, ap₂}
-use Rattle.std.specs.Prelude.{Option, Some, None, option_map, option_and_then, find, bytes_eq, nat_le, ◌&&◌, ◌||◌, ◌==◌, not}
+use Rattle.std.specs.Prelude.{Option, Some, None, option_map, option_and_then, find, bytes_eq, nat_le, nat_lt, ◌&&◌, ◌||◌, ◌==◌, not}
 use Rattle.std.specs.List.{AllZip, enumerate_from, flat_map, list_all, list_any, slice_index_or}
 use Rattle.std.specs.Option.{option_map_or}
+use Rattle.std.proofs.lemmas.List.Concat.{flat_map-cons}
 use Rattle.std.proofs.lemmas.List.Elements.{length_all_zip}
 use Rattle.col_value.specs.declared.column.Column.{Column}
 use Rattle.sql_tree.specs.declared.query.At.{At}
@@ -11,6 +12,7 @@ use Rattle.sql_tree.specs.declared.query.Source.{Source}
 use Rattle.sql_tree.specs.declared.refusal.Refusal.{Refusal}
 use Rattle.sql_tree.specs.declared.refusal.Which.{Which}
 use Rattle.sql_tree.specs.declared.statement.Delete.{Delete}
+use Rattle.sql_tree.specs.declared.statement.Function.{Function}
 use Rattle.sql_tree.specs.declared.statement.Insert.{Insert}
 use Rattle.sql_tree.specs.declared.statement.NewProjection.{NewProjection}
 use Rattle.sql_tree.specs.declared.statement.Statement.{Statement}
@@ -23,16 +25,17 @@ use Rattle.sql_binding.specs.Inserts.{insert_refusal, stored_refusal}
 use Rattle.sql_binding.specs.Queries.{bound_query, query_refusal}
 use Rattle.db_model.specs.Database.{Table, Shape, has_columns, is_taken, super_name}
 use Rattle.db_model.specs.State.{State, Changes, has_changes, own_changes, pending_rows}
+use Rattle.db_model.specs.Epochs.{all_shapes, last_good, least_or}
 use Rattle.db_model.specs.Loading.{Load}
 use Rattle.db_model.specs.Locks.{excludes}
 use Rattle.db_model.specs.Numbers.{spent_refusal}
 use Rattle.db_model.specs.Refusing.{columns_limit, commit_refusal, create_limit, create_refusal, epoch_refusal, if_taken, name_limit, repeated_behind, rows_limit, taken_name}
-use Rattle.db_model.specs.Refusals.{joining_limit, last_super_refusal, load_refusal, locked, owner, projection_created_refusal, projection_dropped_refusal, projection_refusal_over, query_refusal_in, rows_deleted_refusal, rows_inserted_refusal, table_created_refusal, table_dropped_refusal, unknown_table_refusal}
+use Rattle.db_model.specs.Refusals.{joining_limit, last_super_refusal, load_refusal, locked, mark_refusal, owner, projection_created_refusal, projection_dropped_refusal, projection_refusal_over, query_refusal_in, raise_refusal, rows_deleted_refusal, rows_inserted_refusal, table_created_refusal, table_dropped_refusal, unknown_table_refusal}
 use Rattle.db_model.specs.Views.{bound_in, columns_found, table_found}
 use Rattle.alike_laws.proofs.Refused.{commit_alike, joining_alike, load_alike, locked_alike}
 use Rattle.statement_plan.specs.Bare.{IsBare, IsBareTable}
 use Rattle.statement_plan.specs.Places.{columns_at}
-use Rattle.statement_plan.specs.Planned.{early_refusal, select_refusal}
+use Rattle.statement_plan.specs.Planned.{early_call_refusal, early_refusal, select_refusal}
 
 abbrev pub pair : ℕ × Table → ℕ × List Column
 pair e = (e.0, e.1.columns)
@@ -262,6 +265,35 @@ updated_same bare state u is =
     ap (λ (o : Option (List Column)). update_refusal o u) (columns_same u.table bare.database.tables state.database.tables is.tables)
 
 -- why a statement is refused
+shapes_same : (bs ts : List Table) → AllZip IsBareTable bs ts → all_shapes bs ≡ all_shapes ts
+shapes_same [] [] z = refl
+shapes_same [] (t ∷ ts) z = absurd z
+shapes_same (b ∷ bs) [] z = absurd z
+shapes_same (b ∷ bs) (t ∷ ts) z =
+    flat_map-cons (λ (u : Table). u.shapes) b bs ∙ ap₂ (λ (ss os : List Shape). ss ++ os) z.0.shapes (shapes_same bs ts z.1) ∙ sym (flat_map-cons (λ (u : Table). u.shapes) t ts)
+
+good_same : (bare state : State) → IsBare bare state → last_good bare.database ≡ last_good state.database
+good_same bare state is =
+    ap₂ (λ (last : ℕ) (ss : List Shape). least_or last (map (λ (s : Shape). s.lge) (filter (λ (s : Shape). s.fresh) ss))) is.last (shapes_same bare.database.tables state.database.tables is.tables)
+
+raise_same : (bare state : State) (mark : ℕ) → IsBare bare state → raise_refusal mark bare ≡ raise_refusal mark state
+raise_same bare state mark is = ap₂ (λ (ahm next : ℕ). refused_where (nat_lt ahm mark && nat_le 1152921504606846976 next) Refusal.NumbersSpent) is.mark is.next
+
+mark_same : (bare state : State) (mark : ℕ) → IsBare bare state → mark_refusal mark bare.database ≡ mark_refusal mark state.database
+mark_same bare state mark is = ap₂ (λ (ahm good : ℕ). refused_where (nat_lt mark ahm || nat_lt good mark) (Refusal.BadMark mark ahm good)) is.mark (good_same bare state is)
+
+call_same : (bare state : State) (f : Function) → IsBare bare state → early_call_refusal bare f ≡ early_call_refusal state f
+call_same bare state Function.Lge is = refl
+call_same bare state Function.Ahm is = refl
+call_same bare state Function.Current is = refl
+call_same bare state Function.MakeAhmNow is = ap (λ (mark : ℕ). raise_refusal mark bare) (good_same bare state is) ∙ raise_same bare state (last_good state.database) is
+call_same bare state (Function.SetAhm n) is = ap₂ (λ (o p : Option Refusal). first_of o p) (mark_same bare state n is) (raise_same bare state n is)
+call_same bare state Function.Moveout is = refl
+call_same bare state Function.Mergeout is = refl
+call_same bare state (Function.Purge table) is = refl
+call_same bare state (Function.Refresh table) is = refl
+call_same bare state Function.StartRefresh is = refl
+
 pub early_same : (bare state : State) (s : Statement) → IsBare bare state → early_refusal bare s ≡ early_refusal state s
 early_same bare state (Statement.CreateTable name columns) is = created_same bare state name columns is
 early_same bare state (Statement.CreateProjection p) is = shaped_same bare state p is
@@ -276,6 +308,6 @@ early_same bare state Statement.Commit is = committed_same bare state is
 early_same bare state Statement.Rollback is = refl
 early_same bare state (Statement.Select at q) is = selected_same bare state at q is
 early_same bare state (Statement.Explain q) is = queried_same bare state q is
-early_same bare state (Statement.Call f) is = refl
+early_same bare state (Statement.Call f) is = call_same bare state f is
 early_same bare state (Statement.Session n) is = refl
 early_same bare state Statement.Step is = refl

@@ -13,7 +13,7 @@ use Rattle.db_model.specs.Loading.{Files}
 use Rattle.db_model.specs.State.{State}
 use Rattle.db_model.specs.Refusals.{CopyRefuses, Refuses, SumRefuses, UnlockedRefuses, locked, update_refusal_over}
 use Rattle.db_model.specs.Views.{bound_in, inputs, table_found}
-use Rattle.statement_plan.specs.Planned.{early_refusal, is_settled, is_settled_call, select_refusal}
+use Rattle.statement_plan.specs.Planned.{early_call_refusal, early_refusal, is_settled, is_settled_call, select_refusal}
 
 unlocked_refused : (before : Option Refusal) (state : State) (e : ℕ × Table) (held : Option (List ℕ)) (r : Refusal) → before ≡ Some r → UnlockedRefuses before state e held (Some r)
 unlocked_refused None state e held r is = absurd (cc)
@@ -27,6 +27,18 @@ copy_refused state table (Some e) held r is = unlocked_refused (locked state tab
 sum_refused : (o : Option Refusal) (b : BoundQuery) (rows : List (List (List Value))) (r : Refusal) → o ≡ Some r → SumRefuses o b rows (Some r)
 sum_refused None b rows r is = absurd (cc)
 sum_refused (Some x) b rows r is = sym is
+
+call_refused : (state : State) (files : Files) (f : Function) (r : Refusal) → early_call_refusal state f ≡ Some r → Refuses state files (Statement.Call f) (Some r)
+call_refused state files Function.Lge r is = absurd (cc)
+call_refused state files Function.Ahm r is = absurd (cc)
+call_refused state files Function.Current r is = absurd (cc)
+call_refused state files Function.MakeAhmNow r is = sym is
+call_refused state files (Function.SetAhm n) r is = sym is
+call_refused state files Function.Moveout r is = absurd (cc)
+call_refused state files Function.Mergeout r is = absurd (cc)
+call_refused state files (Function.Purge table) r is = absurd (cc)
+call_refused state files (Function.Refresh table) r is = absurd (cc)
+call_refused state files Function.StartRefresh r is = absurd (cc)
 
 pub refused_early : (state : State) (files : Files) (s : Statement) (r : Refusal) → early_refusal state s ≡ Some r → Refuses state files s (Some r)
 refused_early state files (Statement.CreateTable name columns) r is = sym is
@@ -42,16 +54,16 @@ refused_early state files Statement.Commit r is = sym is
 refused_early state files Statement.Rollback r is = absurd (cc)
 refused_early state files (Statement.Select at q) r is = sum_refused (select_refusal state at q) (bound_in state q) (inputs at state q) r is
 refused_early state files (Statement.Explain q) r is = sym is
-refused_early state files (Statement.Call f) r is = absurd (cc)
+refused_early state files (Statement.Call f) r is = call_refused state files f r is
 refused_early state files (Statement.Session n) r is = absurd (cc)
 refused_early state files Statement.Step r is = absurd (cc)
 
-settled_call : (state : State) (files : Files) (f : Function) → is_settled_call f ≡ true → Refuses state files (Statement.Call f) None
+settled_call : (state : State) (files : Files) (f : Function) → is_settled_call f ≡ true → Refuses state files (Statement.Call f) (early_call_refusal state f)
 settled_call state files Function.Lge is = refl
 settled_call state files Function.Ahm is = refl
 settled_call state files Function.Current is = refl
-settled_call state files Function.MakeAhmNow is = absurd (cc)
-settled_call state files (Function.SetAhm n) is = absurd (cc)
+settled_call state files Function.MakeAhmNow is = refl
+settled_call state files (Function.SetAhm n) is = refl
 settled_call state files Function.Moveout is = absurd (cc)
 settled_call state files Function.Mergeout is = absurd (cc)
 settled_call state files (Function.Purge table) is = absurd (cc)

@@ -8,4 +8,5 @@ mod Alike
 mod Early
 mod Carried
 mod Standing
+mod Good
 pub mod Filled

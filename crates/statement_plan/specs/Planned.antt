@@ -12,9 +12,10 @@ use Rattle.sql_binding.specs.Firsts.{first_of}
 use Rattle.sql_binding.specs.Changes.{update_refusal}
 use Rattle.sql_binding.specs.Inserts.{inserted_rows}
 use Rattle.db_model.specs.State.{State}
+use Rattle.db_model.specs.Epochs.{last_good}
 use Rattle.db_model.specs.Views.{bound_in, columns_found}
 use Rattle.db_model.specs.Refusing.{commit_refusal, epoch_refusal}
-use Rattle.db_model.specs.Refusals.{copy_table_refusal, projection_created_refusal, projection_dropped_refusal, query_refusal_in, rows_deleted_refusal, rows_inserted_refusal, table_created_refusal, table_dropped_refusal}
+use Rattle.db_model.specs.Refusals.{copy_table_refusal, mark_refusal, projection_created_refusal, projection_dropped_refusal, query_refusal_in, raise_refusal, rows_deleted_refusal, rows_inserted_refusal, table_created_refusal, table_dropped_refusal}
 use Rattle.query_laws.specs.Bounded.{IsBoundedQuery}
 use Rattle.statement_plan.specs.Places.{IsDeleteOf, IsProjectionOf, IsUpdateOf, projection_places, table_place}
 use Rattle.statement_plan.specs.declared.plans.Plan.{Plan}
@@ -24,8 +25,8 @@ abbrev pub is_planned_call : Function → Bool
 is_planned_call Function.Lge = true
 is_planned_call Function.Ahm = true
 is_planned_call Function.Current = true
-is_planned_call Function.MakeAhmNow = false
-is_planned_call (Function.SetAhm n) = false
+is_planned_call Function.MakeAhmNow = true
+is_planned_call (Function.SetAhm n) = true
 is_planned_call Function.Moveout = true
 is_planned_call Function.Mergeout = false
 is_planned_call (Function.Purge table) = false
@@ -54,6 +55,12 @@ is_planned Statement.Step = true
 abbrev pub select_refusal : State → At → Query → Option Refusal
 select_refusal state at q = first_of (query_refusal_in state q) (epoch_refusal state.database.ahm state.database.last at)
 
+-- why a function is refused by what it says
+abbrev pub early_call_refusal : State → Function → Option Refusal
+early_call_refusal state Function.MakeAhmNow = raise_refusal (last_good state.database) state
+early_call_refusal state (Function.SetAhm n) = first_of (mark_refusal n state.database) (raise_refusal n state)
+early_call_refusal state f = None
+
 -- Why a statement is refused, whatever the rows are. Behind this are looked at the rows that an UPDATE matches, the file of a COPY, a sum
 -- that is too great, and the numbers that a moveout draws.
 abbrev pub early_refusal : State → Statement → Option Refusal
@@ -68,6 +75,7 @@ early_refusal state (Statement.Copy table file) = copy_table_refusal state table
 early_refusal state Statement.Commit = commit_refusal state
 early_refusal state (Statement.Select at q) = select_refusal state at q
 early_refusal state (Statement.Explain q) = query_refusal_in state q
+early_refusal state (Statement.Call f) = early_call_refusal state f
 early_refusal state s = None
 
 -- the forms that are refused for nothing else: neither rows nor load files are looked at
@@ -75,6 +83,8 @@ abbrev pub is_settled_call : Function → Bool
 is_settled_call Function.Lge = true
 is_settled_call Function.Ahm = true
 is_settled_call Function.Current = true
+is_settled_call Function.MakeAhmNow = true
+is_settled_call (Function.SetAhm n) = true
 is_settled_call f = false
 
 abbrev pub is_settled : Statement → Bool

@@ -5,17 +5,19 @@ ghost use Rattle.std.specs.List.{list_any};
 ghost use Rattle.db_model.specs.Database.{is_taken};
 ghost use Rattle.db_model.specs.Events.{rows_pending};
 ghost use Rattle.db_model.specs.State.{has_changes, is_empty, pending_rows};
+ghost use Rattle.db_model.specs.Epochs.{last_good};
 ghost use Rattle.db_model.specs.Numbers.{spent_refusal};
 ghost use Rattle.db_model.specs.Refusing.{commit_refusal, epoch_refusal};
-ghost use Rattle.db_model.specs.Refusals.{joining_limit, locked};
+ghost use Rattle.db_model.specs.Refusals.{joining_limit, locked, mark_refusal, raise_refusal};
 ghost use Rattle.db_model.specs.Views.{table_found};
 ghost use Rattle.folder_model.specs.Projections.{shape_of};
-ghost use Rattle.sql_binding.specs.Firsts.{refused_where};
+ghost use Rattle.sql_binding.specs.Firsts.{first_of, refused_where};
 ghost use Rattle.sql_tree.specs.declared.refusal.Refusal.{Refusal};
 ghost use Rattle.statement_plan.specs.Bare.{bare_state, bare_table};
 ghost use Rattle.statement_plan.specs.Places.{owner_found};
 
 use crate::placed::{Placed, is_projection, owner_of, same, table_named};
+use crate::reached::last_good;
 use catalog_types::Table;
 use col_value::Row;
 use name_binder::Found;
@@ -212,6 +214,42 @@ impl<'a> Frame<'a> {
     {
         let _ = name;
         closing(has_some(self.txns.session(self.current), rows), self.last)
+    }
+
+    /// The last good epoch.
+    fn last_good(&self) -> u64
+        ensures { result ≡ last_good self.now.database }
+    {
+        last_good(self.tables, self.last)
+    }
+
+    /// Where the ancient history mark would rise to an epoch, and no numbers are left, the refusal.
+    fn raising(&self, mark: u128) -> Option<Refusal>
+        ensures { result ≡ raise_refusal mark self.now }
+    {
+        if u128::from(self.mark) < mark && self.next >= SPENT {
+            Some(Refusal::NumbersSpent)
+        } else {
+            None
+        }
+    }
+
+    /// Why the ancient history mark can't be set to the last good epoch.
+    pub(crate) fn marking_now(&self) -> Option<Refusal>
+        ensures { result ≡ raise_refusal (last_good self.now.database) self.now }
+    {
+        self.raising(u128::from(self.last_good()))
+    }
+
+    /// Why the ancient history mark can't be set to an epoch: it would fall, or pass the last good epoch, or no numbers are left.
+    pub(crate) fn marking(&self, mark: u128) -> Option<Refusal>
+        ensures { result ≡ first_of (mark_refusal mark self.now.database) (raise_refusal mark self.now) }
+    {
+        let good = self.last_good();
+        if mark < u128::from(self.mark) || mark > u128::from(good) {
+            return Some(Refusal::BadMark(mark, self.mark, good));
+        }
+        self.raising(mark)
     }
 
     /// Why an epoch can't be read: it lies before the ancient history mark, or in the future.

@@ -20,6 +20,7 @@ mod planning;
 mod plans;
 mod projecting;
 mod querying;
+mod reached;
 mod refusing;
 
 pub use changing::change_refusal;
@@ -28,3 +29,4 @@ pub use laws::{catalogues_give_frames, early_refusals_stand, rows_decide_nothing
 pub use loading::{load_refusal, loadable_table};
 pub use planning::make_plan;
 pub use plans::Plan;
+pub use reached::last_good;

@@ -2,7 +2,7 @@
 
 ghost use Rattle.std.specs.Prelude.{◌≡◌, true, IfErr, IfOk};
 ghost use Rattle.name_binder.specs.Refusing.{RefusesBy};
-ghost use Rattle.statement_plan.specs.Planned.{early_refusal, is_planned, IsPlanned};
+ghost use Rattle.statement_plan.specs.Planned.{early_call_refusal, early_refusal, is_planned, IsPlanned};
 
 use crate::changing::{plan_delete, plan_update};
 use crate::creating::plan_table;
@@ -14,8 +14,19 @@ use crate::plans::Plan;
 use crate::projecting::plan_projection;
 use crate::querying::{plan_query, plan_select};
 use name_binder::BindFault;
-use sql_tree::Statement;
+use sql_tree::{Function, Refusal, Statement};
 use std::alloc::Global;
+
+/// Why a function is refused by what it says.
+fn refused_call(frame: &Frame<'_>, function: &Function) -> Option<Refusal>
+    ensures { result ≡ early_call_refusal frame.now function.now }
+{
+    match function {
+        Function::MakeAhmNow => frame.marking_now(),
+        Function::SetAhm(mark) => frame.marking(*mark),
+        _ => None,
+    }
+}
 
 /// What a statement that is planned does, or why it is refused whatever the rows are.
 pub fn make_plan(alloc: Global, frame: &Frame<'_>, statement: &Statement) -> Result<Plan, BindFault>
@@ -54,7 +65,10 @@ pub fn make_plan(alloc: Global, frame: &Frame<'_>, statement: &Statement) -> Res
             Ok(bound) => Ok(Plan::Explain(bound)),
             Err(fault) => Err(fault),
         },
-        Statement::Call(_) => Ok(Plan::Call),
+        Statement::Call(function) => match refused_call(frame, function) {
+            Some(refusal) => Err(BindFault::Refused(refusal)),
+            None => Ok(Plan::Call),
+        },
         Statement::Session(number) => Ok(Plan::Session(*number)),
         Statement::Step => Ok(Plan::Step),
     }

@@ -1,5 +1,5 @@
 -- A step leaves a sound state sound.
-use Rattle.std.proofs.Common.{◌≡◌, ℕ, ◌⊎◌, inl, inr, Bool, true, false, List, filter, refl, sym, subst}
+use Rattle.std.proofs.Common.{◌≡◌, ◌≤◌, ℕ, ◌⊎◌, inl, inr, Bool, true, false, List, filter, refl, sym, subst, arith}
 use Rattle.std.specs.Prelude.{not, Option, Some, None}
 use Rattle.std.specs.Option.{option_map_or}
 use Rattle.sql_words.specs.Symbols.{symbols_of}
@@ -9,16 +9,18 @@ use Rattle.sql_tree.specs.declared.statement.Function.{Function}
 use Rattle.sql_tree.specs.declared.statement.Statement.{Statement}
 use Rattle.sql_tree.specs.declared.statement.Update.{Update}
 use Rattle.db_model.specs.Database.{Table}
-use Rattle.db_model.specs.Events.{is_not_named, is_of_table, projection_created, projection_dropped, rows_deleted, rows_updated, table_created, table_dropped}
-use Rattle.db_model.specs.Leaving.{CallLeaves, Leaves, RefusedCallLeaves, RefusedLeaves}
+use Rattle.db_model.specs.Epochs.{last_good, rises}
+use Rattle.db_model.specs.Events.{is_not_named, is_of_table, mark_raised, projection_created, projection_dropped, rows_deleted, rows_updated, table_created, table_dropped}
+use Rattle.db_model.specs.Leaving.{CallLeaves, MarkLeaves, Leaves, RefusedCallLeaves, RefusedLeaves}
 use Rattle.db_model.specs.Loading.{Files}
 use Rattle.db_model.specs.Mover.{MovesAll}
-use Rattle.db_model.specs.Refusals.{Refuses}
+use Rattle.db_model.specs.Refusals.{CallRefuses, Refuses}
 use Rattle.db_model.specs.State.{State}
 use Rattle.db_model.specs.Step.{Decides, Effect, Reads, RefusesForm, Step}
 use Rattle.db_model.specs.Views.{table_found}
 use Rattle.state_laws.proofs.Events.{no_names, created_state, current_sound, dropped_changes, dropped_state}
 use Rattle.state_laws.proofs.Commits.{committed_state}
+use Rattle.state_laws.proofs.Marked.{allowed_mark, raised_state}
 use Rattle.state_laws.proofs.Shaped.{shaped_state}
 use Rattle.state_laws.proofs.Unshaped.{unshaped_state}
 use Rattle.change_laws.proofs.Deleted.{deleted_state}
@@ -43,17 +45,21 @@ none_of_update state u (Some e) none = none
 
 -- ---- statements that aren't refused
 
-called : (state : State) (f : Function) (new : State) → CallLeaves state f new → IsSettled state → IsSettled new
-called state Function.Lge new same is = settled_same state new same is
-called state Function.Ahm new same is = settled_same state new same is
-called state Function.Current new same is = settled_same state new same is
-called state Function.MakeAhmNow new never is = absurd never
-called state (Function.SetAhm n) new never is = absurd never
-called state Function.Moveout new moves is = all_moved false state new moves is
-called state Function.Mergeout new never is = absurd never
-called state (Function.Purge table) new never is = absurd never
-called state (Function.Refresh table) new never is = absurd never
-called state Function.StartRefresh new never is = absurd never
+marked : (b : Bool) (mark : ℕ) (state new : State) → mark ≤ last_good state.database → MarkLeaves b mark state new → IsSettled state → IsSettled new
+marked true mark state new le drawn (sound, none) = settled_drawn state (mark_raised mark state) new drawn (raised_state state mark none le sound, none)
+marked false mark state new le same is = settled_same state new same is
+
+called : (state : State) (f : Function) (new : State) → CallRefuses state f None → CallLeaves state f new → IsSettled state → IsSettled new
+called state Function.Lge new free same is = settled_same state new same is
+called state Function.Ahm new free same is = settled_same state new same is
+called state Function.Current new free same is = settled_same state new same is
+called state Function.MakeAhmNow new free leaves is = marked (rises (last_good state.database) state.database) (last_good state.database) state new (omega arith) leaves is
+called state (Function.SetAhm n) new free leaves is = marked (rises n state.database) n state new (allowed_mark n state (sym free)) leaves is
+called state Function.Moveout new free moves is = all_moved false state new moves is
+called state Function.Mergeout new free never is = absurd never
+called state (Function.Purge table) new free never is = absurd never
+called state (Function.Refresh table) new free never is = absurd never
+called state Function.StartRefresh new free never is = absurd never
 
 answered : LoadsFit → (state : State) (files : Files) (s : Statement) (new : State) → NamesASession s → Refuses state files s None → Leaves state files s new → IsSettled state → IsSettled new
 answered fit state files (Statement.CreateTable name columns) new named free drawn (sound, none) =
@@ -75,7 +81,7 @@ answered fit state files Statement.Commit new named free same (sound, none) = su
 answered fit state files Statement.Rollback new named free same (sound, none) = subst IsSettled (sym same) (dropped_changes state none sound, none)
 answered fit state files (Statement.Select at q) new named free same is = settled_same state new same is
 answered fit state files (Statement.Explain q) new named free same is = settled_same state new same is
-answered fit state files (Statement.Call f) new named free leaves is = called state f new leaves is
+answered fit state files (Statement.Call f) new named free leaves is = called state f new free leaves is
 answered fit state files (Statement.Session n) new (first, last) free same (sound, none) = subst IsSettled (sym same) (current_sound state n first last sound, none)
 answered fit state files Statement.Step new named free steps is = mover_stepped state new steps is
 

@@ -14,13 +14,13 @@ use Rattle.sql_binding.specs.Firsts.{first_of}
 use Rattle.sql_binding.specs.Inserts.{inserted_rows}
 use Rattle.db_model.specs.Answers.{epoch_line, insert_line, listing_text}
 use Rattle.db_model.specs.Database.{Table}
-use Rattle.db_model.specs.Epochs.{last_good}
-use Rattle.db_model.specs.Events.{changes_committed, changes_dropped, deleted_count, on_table, projection_created, projection_dropped, rows_deleted, rows_loaded, rows_pending, rows_updated, table_created, table_dropped, updated_old}
-use Rattle.db_model.specs.Leaving.{CopyLeaves, Leaves, RefusedLeaves}
+use Rattle.db_model.specs.Epochs.{last_good, rises}
+use Rattle.db_model.specs.Events.{changes_committed, changes_dropped, deleted_count, mark_raised, on_table, projection_created, projection_dropped, rows_deleted, rows_loaded, rows_pending, rows_updated, table_created, table_dropped, updated_old}
+use Rattle.db_model.specs.Leaving.{CopyLeaves, Leaves, MarkLeaves, RefusedLeaves}
 use Rattle.db_model.specs.Loading.{Files, Load, Loads}
 use Rattle.db_model.specs.Mover.{MovesAll}
 use Rattle.db_model.specs.Printing.{commit_text, copy_text, counted_line, explain_text, on_found, CopyPrints, Prints}
-use Rattle.db_model.specs.Refusals.{is_large_file, load_refusal, locked, projection_created_refusal, projection_dropped_refusal, query_refusal_in, rows_deleted_refusal, rows_inserted_refusal, rows_updated_refusal, table_created_refusal, table_dropped_refusal, CopyRefuses, LoadRefuses, Refuses, SumRefuses, UnlockedRefuses}
+use Rattle.db_model.specs.Refusals.{is_large_file, load_refusal, locked, mark_refusal, raise_refusal, projection_created_refusal, projection_dropped_refusal, query_refusal_in, rows_deleted_refusal, rows_inserted_refusal, rows_updated_refusal, table_created_refusal, table_dropped_refusal, CopyRefuses, LoadRefuses, Refuses, SumRefuses, UnlockedRefuses}
 use Rattle.db_model.specs.Refusing.{commit_refusal, epoch_refusal}
 use Rattle.db_model.specs.State.{State}
 use Rattle.db_model.specs.Step.{Effect}
@@ -147,12 +147,21 @@ moved old files true new moves = record {
 }
 moved old files false new moves = record { refusal = None; printed = codes "MOVEOUT\n"; new = new; refuses = (false, new, moves, refl); effect = (refl, moves) }
 
+mark_left : (b : Bool) (mark : ℕ) (old : State) → (new : State) × MarkLeaves b mark old new
+mark_left true mark old = (undrawn old (mark_raised mark old), nothing_drawn old (mark_raised mark old))
+mark_left false mark old = (old, refl)
+
 called : (old : State) (files : Files) (f : Function) → has_line_of_call f ≡ true → HasNames old.database → Answer old files (Statement.Call f)
 called old files Function.Lge line names = told old files (Statement.Call Function.Lge) None refl refl (counted_line (codes "LGE ") (last_good old.database)) refl old refl
 called old files Function.Ahm line names = told old files (Statement.Call Function.Ahm) None refl refl (counted_line (codes "AHM ") old.database.ahm) refl old refl
 called old files Function.Current line names = told old files (Statement.Call Function.Current) None refl refl (epoch_line (old.database.last + 1)) refl old refl
-called old files Function.MakeAhmNow line names = absurd (cc)
-called old files (Function.SetAhm n) line names = absurd (cc)
+called old files Function.MakeAhmNow line names =
+    let mark = last_good old.database in
+    let (new, leaves) = mark_left (rises mark old.database) mark old in
+    told old files (Statement.Call Function.MakeAhmNow) (raise_refusal mark old) refl refl (counted_line (codes "AHM ") mark) refl new leaves
+called old files (Function.SetAhm n) line names =
+    let (new, leaves) = mark_left (rises n old.database) n old in
+    told old files (Statement.Call (Function.SetAhm n)) (first_of (mark_refusal n old.database) (raise_refusal n old)) refl refl (counted_line (codes "AHM ") n) refl new leaves
 called old files Function.Moveout line names = let (stopped, new, moves) = all_moved old names in moved old files stopped new moves
 called old files Function.Mergeout line names = absurd (cc)
 called old files (Function.Purge table) line names = absurd (cc)

@@ -19,7 +19,9 @@ use Rattle.col_value.specs.declared.column.Column.{Column}
 use Rattle.col_value.specs.declared.kinds.ColType.{ColType}
 use Rattle.col_value.specs.declared.value.Value.{Value}
 use Rattle.col_value.specs.declared.value.Value.TheVariants as value
+use Rattle.col_value.specs.Days.{SaysDay}
 use Rattle.col_value.specs.Order.{IsValue}
+use Rattle.col_value.proofs.Characters.{says_or_not}
 use Rattle.load_reader.specs.declared.fields.LoadColumn.{LoadColumn}
 use Rattle.load_reader.specs.Fields.{IsAnyCase, IsRowOf, IsWrongAt, Says, SaysIn, SaysText, SaysTruth}
 use Rattle.load_reader.specs.Load.{HasRows, IsFirstBad}
@@ -148,6 +150,13 @@ said_text most field (says, fits) = (value.Text field, (says, fits, refl))
 text_said : (most : ℕ) (field : List ℕ) → Said (ColType.Varchar most) field → SaysText most field × IsValue (value.Text field)
 text_said most field (v, (says, fits, v_is)) = (says, fits)
 
+date_said : (field : List ℕ) → ((n : ℕ) × SaysDay field n) ⊎ ((n : ℕ) → SaysDay field n → ⊥) → Decided (Said ColType.Date field)
+date_said field (inl (n, says)) = inl (value.Date n, (n, says, refl))
+date_said field (inr none) = inr never
+  where
+    never : Said ColType.Date field → ⊥
+    never (v, (n, says, same)) = none n says
+
 in_decided : (kind : ColType) (field : List ℕ) → Decided (Said kind field)
 in_decided ColType.Integer field =
     decided_as (IsNumeral 10 (without_leading_sign field) × IsValue (value.Int (signed_digits_value 10 field))) (Said ColType.Integer field) (said_number field) (number_said field)
@@ -155,6 +164,7 @@ in_decided ColType.Integer field =
 in_decided ColType.Boolean field =
     decided_as (SaysTruth field true ⊎ SaysTruth field false) (Said ColType.Boolean field) (said_truth field) (truth_said field)
     (either_decided (SaysTruth field true) (SaysTruth field false) (one_of_three field (codes "t") (codes "true") (codes "1")) (one_of_three field (codes "f") (codes "false") (codes "0")))
+in_decided ColType.Date field = date_said field (says_or_not field)
 in_decided (ColType.Varchar most) field =
     decided_as (SaysText most field × IsValue (value.Text field)) (Said (ColType.Varchar most) field) (said_text most field) (text_said most field)
     (both_decided (SaysText most field) (IsValue (value.Text field)) (both_decided (IsUtf8 field) (length field ≤ most) (utf8_by field (is_utf8 field) refl) (most_decided (length field) most))

@@ -17,8 +17,8 @@ no_call : (old : State) (f : Function) (why : Option Refusal) → has_line_of_ca
 no_call old Function.Lge why none refuses = cc
 no_call old Function.Ahm why none refuses = cc
 no_call old Function.Current why none refuses = cc
-no_call old Function.MakeAhmNow why none refuses = refuses
-no_call old (Function.SetAhm n) why none refuses = refuses
+no_call old Function.MakeAhmNow why none refuses = cc
+no_call old (Function.SetAhm n) why none refuses = cc
 no_call old Function.Moveout why none refuses = cc
 no_call old Function.Mergeout why none refuses = refuses
 no_call old (Function.Purge table) why none refuses = refuses

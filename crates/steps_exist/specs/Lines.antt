@@ -8,8 +8,8 @@ abbrev pub has_line_of_call : Function → Bool
 has_line_of_call Function.Lge = true
 has_line_of_call Function.Ahm = true
 has_line_of_call Function.Current = true
-has_line_of_call Function.MakeAhmNow = false
-has_line_of_call (Function.SetAhm n) = false
+has_line_of_call Function.MakeAhmNow = true
+has_line_of_call (Function.SetAhm n) = true
 has_line_of_call Function.Moveout = true
 has_line_of_call Function.Mergeout = false
 has_line_of_call (Function.Purge table) = false

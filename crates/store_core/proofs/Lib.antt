@@ -5,6 +5,7 @@ pub mod Changed
 pub mod Opening
 pub mod Asking
 pub mod Events
+pub mod Marked
 pub mod First
 pub mod Framed
 pub mod Placed

@@ -54,6 +54,7 @@ use txn_core::Txns;
 mod changing;
 mod loading;
 mod looking;
+mod marking;
 mod moving;
 mod shaping;
 

@@ -4,6 +4,7 @@ mod Stepped
 mod Doing
 mod Held
 mod Moved
+mod Marked
 mod Served
 mod Rows
 mod Copied

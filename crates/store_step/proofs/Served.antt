@@ -23,8 +23,8 @@ planned_call : (f : Function) → is_served_call f ≡ true → is_planned_call 
 planned_call Function.Lge is = refl
 planned_call Function.Ahm is = refl
 planned_call Function.Current is = refl
-planned_call Function.MakeAhmNow is = is
-planned_call (Function.SetAhm n) is = is
+planned_call Function.MakeAhmNow is = refl
+planned_call (Function.SetAhm n) is = refl
 planned_call Function.Moveout is = refl
 planned_call Function.Mergeout is = is
 planned_call (Function.Purge table) is = is

@@ -7,8 +7,8 @@ abbrev pub is_served_call : Function → Bool
 is_served_call Function.Lge = true
 is_served_call Function.Ahm = true
 is_served_call Function.Current = true
-is_served_call Function.MakeAhmNow = false
-is_served_call (Function.SetAhm n) = false
+is_served_call Function.MakeAhmNow = true
+is_served_call (Function.SetAhm n) = true
 is_served_call Function.Moveout = true
 is_served_call Function.Mergeout = false
 is_served_call (Function.Purge table) = false

@@ -5,6 +5,7 @@ pub mod Steps
 pub mod Texts
 pub mod Arms
 pub mod Matches
+pub mod Marks
 pub use Rattle.store_core.specs.Running
 pub use Rattle.store_core.specs.Events
 pub use Rattle.store_core.specs.Cuts

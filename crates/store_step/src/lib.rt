@@ -13,6 +13,7 @@ mod changing;
 mod events;
 mod holding;
 mod loading;
+mod marking;
 mod moving;
 mod reading;
 mod shaping;

@@ -32,13 +32,14 @@ fn is_served_call(function: &Function) -> bool
     ensures { result ≡ is_served_call function.now }
 {
     match function {
-        Function::Lge | Function::Ahm | Function::Current | Function::Moveout => true,
-        Function::MakeAhmNow
+        Function::Lge
+        | Function::Ahm
+        | Function::Current
+        | Function::MakeAhmNow
         | Function::SetAhm(_)
-        | Function::Mergeout
-        | Function::Purge(_)
-        | Function::Refresh(_)
-        | Function::StartRefresh => false,
+        | Function::Moveout => true,
+        Function::Mergeout | Function::Purge(_) | Function::Refresh(_) | Function::StartRefresh =>
+            false,
     }
 }
 

@@ -1,6 +1,6 @@
 //! A statement text, read, planned, done and printed.
 
-ghost use Rattle.std.specs.Prelude.{ℕ, ◌≡◌, ◌≤◌, false, true, List as Items, Some, IfErr, IfOk, IsErrOf};
+ghost use Rattle.std.specs.Prelude.{ℕ, ◌≡◌, ◌≤◌, false, true, List as Items, None, Some, IfErr, IfOk, IsErrOf};
 ghost use Rattle.common_laws.specs.Causes.{HasCause, Rose};
 ghost use Rattle.db_model.specs.Loading.{Files as LoadFiles};
 ghost use Rattle.db_model.specs.State.{State};
@@ -8,7 +8,7 @@ ghost use Rattle.name_binder.specs.Refusing.{RefusesBy};
 ghost use Rattle.sql_tree.specs.Spells.{Spells};
 ghost use Rattle.sql_words.specs.Symbols.{symbols_of};
 ghost use Rattle.sql_tree.specs.declared.statement.Statement.{Statement as AStatement};
-ghost use Rattle.statement_plan.specs.Planned.{early_refusal, IsPlanned};
+ghost use Rattle.statement_plan.specs.Planned.{early_call_refusal, early_refusal, IsPlanned};
 ghost use Rattle.store_core.specs.Running.{frame_of, IsState};
 ghost use Rattle.store_step.specs.Arms.{Answers};
 ghost use Rattle.store_step.specs.Forms.{is_copy, is_served, is_served_call};
@@ -23,19 +23,20 @@ use crate::holding::{
     ahm_epoch, current_epoch, explain_query, insert_rows, last_good_epoch, roll_back, use_session,
 };
 use crate::loading::copy;
+use crate::marking::set_mark;
 use crate::moving::{moveout, step_mover};
 use crate::reading::{Reading, is_served, read_statement};
 use crate::shaping::{create_projection, drop_projection};
 use col_disk::{Disk, StoreFault};
 use col_io::Files;
-use folder_model::every_image_reopens;
+use folder_model::{every_image_reopens, last_good_is_reached};
 use name_binder::BindFault;
 use sql_tree::{Function, Refusal, Statement};
 use statement_plan::{Plan, early_refusals_stand, make_plan};
 use std::alloc::{AllocError, Global};
 use store_core::{Store, frames_are_of_the_state};
 
-/// A function that is served.
+/// A function that is served and isn't refused for what it says.
 fn call<D: Disk>(
     alloc: Global,
     store: &mut Store,
@@ -43,15 +44,21 @@ fn call<D: Disk>(
     disk: &mut D,
 ) -> Result<Answer, StoreFault>
     requires { is_served_call function.now ≡ true }
-    ensures answers { (files : LoadFiles) (state : State) → IsState ⟦<D as Disk>⟧ store.old disk.old state
+    ensures answers { (files : LoadFiles) (state : State) → IsState ⟦<D as Disk>⟧ store.old disk.old state → early_call_refusal state function.now ≡ None
         → Answers ⟦<D as Disk>⟧ files (AStatement.Call function.now) store.new disk.old disk.new result state }
     ensures cause { HasCause StoreFault.Disk (D.faults disk.old) (D.faults disk.new) result }
 {
     every_image_reopens::<D>();
+    last_good_is_reached();
     match function {
         Function::Lge => in_memory(last_good_epoch::<D>(alloc, store)),
         Function::Ahm => in_memory(ahm_epoch::<D>(alloc, store)),
         Function::Current => in_memory(current_epoch::<D>(alloc, store)),
+        Function::MakeAhmNow => {
+            let mark = u128::from(store.last_good());
+            set_mark(alloc, store, mark, disk)
+        }
+        Function::SetAhm(mark) => set_mark(alloc, store, *mark, disk),
         Function::Moveout => moveout(alloc, store, disk),
         _ => unreachable!(),
     }

@@ -22,7 +22,7 @@ use Rattle.stored_rows.specs.Stored.{Projected}
 use Rattle.proj_store.specs.Loaded.{Loaded}
 use Rattle.sound_laws.specs.Moves.{change_at}
 use Rattle.db_model.specs.Database.{super_name}
-use Rattle.table_store.specs.Creating.{first_entry, first_table, with_table, without_table}
+use Rattle.table_store.specs.Creating.{first_entry, first_table, with_table, without_table, with_mark}
 use Rattle.table_store.specs.Drawing.{Draws, DrawsEntry, DrawsJob, DrawsOne, FewContainers}
 use Rattle.table_store.specs.Held.{at_epoch, projections_of, IsHeld}
 use Rattle.table_store.specs.Moving.{with_entry, with_entry_at}
@@ -51,6 +51,9 @@ drop_draws root c last place is = subst (DrawsOne root) (sym is) (record {
   few = λ most all.
       All-append (IsSmall most) (take place root.tables) (drop (suc place) root.tables) (All-take (IsSmall most) place root.tables all) (All-drop (IsSmall most) (suc place) root.tables all);
 })
+
+pub mark_draws : (root c : Catalogue) (last mark : ℕ) → c ≡ with_mark last mark root → DrawsOne root c
+mark_draws root c last mark is = subst (DrawsOne root) (sym is) (record { next = refl; few = λ most all. all })
 
 -- the catalogues with the newest epochs
 pub one_drawn : (root c : Catalogue) (last after : ℕ) → DrawsOne root c → DrawsOne (at_epoch last root) (at_epoch after c)

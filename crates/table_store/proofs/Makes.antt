@@ -1,5 +1,5 @@
 -- What the calls of a store make of it.
-use Rattle.std.proofs.Common.{◌≡◌, ℕ, ◌<◌, ◌≤◌, List, [], ◌∷◌, length, map, set, get_or, true, refl, sym, ◌∙◌, ap, ap₂, subst, inl, arith}
+use Rattle.std.proofs.Common.{◌≡◌, ℕ, ◌+◌, ◌<◌, ◌≤◌, List, [], ◌∷◌, length, map, set, get_or, true, refl, sym, ◌∙◌, ap, ap₂, subst, inl, arith}
 use Rattle.std.specs.Prelude.{Result, Ok, Err, IsErrOf, IsSomeAnd}
 use Rattle.std.specs.List.{Any, flat_map, insert, remove, slice_get}
 use Rattle.std.proofs.lemmas.List.{length-map}
@@ -30,13 +30,14 @@ use Rattle.proj_store.specs.Loaded.{Loaded}
 use Rattle.folder_model.specs.Tables.{AreDatabase}
 use Rattle.folder_model.specs.Standing.{IsRootOf}
 use Rattle.folder_model.proofs.Committing.{stands_moved, moved_reopens}
+use Rattle.folder_model.proofs.Marked.{mark_rises}
 use Rattle.store_commit.specs.Seen.{Seen, Stands, seen}
 use Rattle.store_commit.specs.Making.{Makes}
 use Rattle.store_commit.proofs.Settled.{failed}
 use Rattle.sound_laws.specs.Moves.{change_at, moved_at}
 use Rattle.sound_laws.proofs.Moved.{moved_sound}
 use Rattle.table_store.specs.Held.{at_epoch, projections_of, seen_of, IsHeld}
-use Rattle.table_store.specs.Creating.{first_entry, first_table, bare, place_of, with_table, created, without_table, dropped}
+use Rattle.table_store.specs.Creating.{first_entry, first_table, bare, place_of, with_mark, with_table, created, without_table, dropped}
 use Rattle.table_store.specs.Moving.{IsFreshAt, IsRewrittenFrom, IsRewritten, with_entry_at}
 use Rattle.table_store.proofs.Created.{map_insert, created_are}
 use Rattle.table_store.proofs.Dropped.{map_remove, dropped_are, dropped_sound}
@@ -223,4 +224,27 @@ drop_held root last tables after place catalogue is catalogue_is held valid = re
       ∙ ap (λ (ess : List (List Projection)). remove ess place) held.entries
       ∙ sym (map_remove (λ (t : kept.Table). t.projections) root.tables place)
       ∙ sym (ap (λ (c : Catalogue). map (λ t. t.projections) c.tables) catalogue_is);
+}
+
+-- ---- the ancient history mark rises
+
+pub mark_makes : {D : Type 0} (disk : Ghosts D) {old new : D} (root : Catalogue) (last : ℕ) (tables : List (List Loaded)) (now : Seen) (mark : ℕ) (catalogue : Catalogue) (result : Result (Unit {0}) DiskFault) (d : Database)
+    → ((was : Seen) (stores : List (List Projected)) (d e : Database) → (stands : Stands disk was old d) → was.catalogue.next ≤ root.next → AreDatabase stands.files catalogue stores e → IsSoundDatabase e → Makes disk disk_fault.Memory was (seen catalogue stores) old new result d e)
+    → seen_of root last tables ≡ now → catalogue ≡ with_mark last mark root → Stands disk now old d → d.ahm ≤ mark → IsSoundDatabase (record d { ahm = mark })
+    → Makes disk disk_fault.Memory now (seen catalogue (map projections_of tables)) old new result d (record d { ahm = mark })
+mark_makes {D} disk {old} {new} root last tables now mark catalogue result d made view is stands le sound =
+    let here : Stands disk (seen_of root last tables) old d = subst (λ (s : Seen). Stands disk s old d) (sym view) stands in
+    let own : root.ahm ≤ mark = subst (λ (n : ℕ). n ≤ mark) here.are.ahm le in
+    let are = mark_rises here.files (at_epoch last root) (map projections_of tables) d mark (root.next + 1) own here.are in
+    subst (λ (s : Seen). Makes disk disk_fault.Memory s (seen catalogue (map projections_of tables)) old new result d (record d { ahm = mark })) view
+    (made (seen_of root last tables) (map projections_of tables) d (record d { ahm = mark }) here (omega arith)
+    (subst (λ (k : Catalogue). AreDatabase here.files k (map projections_of tables) (record d { ahm = mark })) (sym is) are) sound)
+
+pub mark_seen : (root : Catalogue) (last : ℕ) (tables : List (List Loaded)) (mark : ℕ) (catalogue : Catalogue) → catalogue ≡ with_mark last mark root → seen catalogue (map projections_of tables) ≡ seen_of catalogue last tables
+mark_seen root last tables mark catalogue is = ap (λ (c : Catalogue). seen c (map projections_of tables)) (at_own catalogue last (sym (ap (λ (c : Catalogue). c.last) is)))
+
+pub mark_held : (root : Catalogue) (last : ℕ) (tables : List (List Loaded)) (mark : ℕ) (catalogue : Catalogue) → catalogue ≡ with_mark last mark root → IsHeld root tables → IsValid catalogue → IsHeld catalogue tables
+mark_held root last tables mark catalogue is held valid = record {
+  valid = valid;
+  entries = held.entries ∙ sym (ap (λ (c : Catalogue). map (λ t. t.projections) c.tables) is);
 }

@@ -1,4 +1,4 @@
--- A table that comes, and where it stands; and one that goes.
+-- A table that comes, and where it stands; one that goes; and a later ancient history mark.
 use Rattle.std.specs.Prelude.{ℕ, ◌+◌, if◌then◌else◌, true, List, [], ◌∷◌, map, filter}
 use Rattle.std.specs.List.{enumerate_from, insert, remove}
 use Rattle.std.specs.Ordering.{is_lt, nat_cmp}
@@ -51,6 +51,10 @@ created name columns d = record d { tables = put_table (empty_table name columns
 -- the catalogue without the table at a place, whose version is the next number
 abbrev pub without_table : ℕ → ℕ → Catalogue → Catalogue
 without_table last place c = record { last = last; ahm = c.ahm; next = c.next + 1; tables = remove c.tables place }
+
+-- the catalogue with another ancient history mark, whose version is the next number
+abbrev pub with_mark : ℕ → ℕ → Catalogue → Catalogue
+with_mark last mark c = record { last = last; ahm = mark; next = c.next + 1; tables = c.tables }
 
 -- a database without the table of a name
 abbrev pub dropped : List ℕ → Database → Database

@@ -9,6 +9,7 @@
 mod committing;
 mod creating;
 mod dropping;
+mod marking;
 mod moving;
 mod part;
 mod parts;

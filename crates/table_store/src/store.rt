@@ -25,6 +25,7 @@ ghost use Rattle.table_store.specs.Creating.{bare, created, dropped, first_entry
 use crate::committing::{apply_all, prepare_all};
 use crate::creating::{first_entry, first_table, place_for, projection_name, with_table};
 use crate::dropping::without_table;
+use crate::marking::with_mark;
 use crate::moving::{entry_copy, with_entry_at};
 use crate::parts::Parts;
 use catalog_types::Catalogue;
@@ -276,6 +277,31 @@ impl TableStore {
         }
         self.root = catalogue;
         self.tables.remove(table);
+        Ok(())
+    }
+
+    /// The ancient history mark becomes a later epoch; it is there after a stop once this has answered Ok. An epoch that an up-to-date
+    /// projection hasn't reached is answered as want of memory.
+    pub fn raise_mark<D: Disk>(
+        &mut self,
+        alloc: Global,
+        mark: u64,
+        disk: &mut D,
+    ) -> Result<(), DiskFault>
+        ensures made { (d : Database) → Stands ⟦<D as Disk>⟧ self.old disk.old d → d.ahm ≤ mark → IsSoundDatabase (record d { ahm = mark }) → Makes ⟦<D as Disk>⟧ Memory self.old self.new disk.old disk.new result d (record d { ahm = mark }) }
+        ensures drawn { OnOk result (DrawsOne self.old.catalogue self.new.catalogue) }
+        ensures same { OnErr result (self.new ≡ self.old) }
+        ensures cause { HasCause DiskFault.Failed (D.faults disk.old) (D.faults disk.new) result }
+    {
+        let catalogue = match with_mark(alloc, &self.root, self.last, mark) {
+            Ok(catalogue) => catalogue,
+            Err(AllocError) => return Err(DiskFault::Memory),
+        };
+        match settle(alloc, disk, self.root.next, &catalogue) {
+            Ok(()) => {}
+            Err(fault) => return Err(fault),
+        }
+        self.root = catalogue;
         Ok(())
     }
 

@@ -1,56 +1,13 @@
 //! What is asked of a store without its disk. Nothing here takes memory.
 
-ghost use Rattle.std.specs.Prelude.{◌≡◌, None, fold};
-ghost use Rattle.catalog_types.specs.Reached.{earlier, least_lge, reached, table_reached};
+ghost use Rattle.std.specs.Prelude.{◌≡◌};
+ghost use Rattle.catalog_types.specs.Reached.{least_lge};
 ghost use Rattle.db_model.specs.State.{has_changes};
 ghost use Rattle.store_core.specs.Sessions.{own_of};
 
 use super::Store;
-use catalog_types::{Projection, Table};
-
-/// The earlier of two epochs that may be there.
-fn earlier(a: Option<u64>, b: Option<u64>) -> Option<u64>
-    ensures { result ≡ earlier a b }
-{
-    match (a, b) {
-        (None, b) => b,
-        (Some(a), None) => Some(a),
-        (Some(a), Some(b)) => Some(if a < b { a } else { b }),
-    }
-}
-
-/// What a projection has reached, if it is up to date.
-fn reached(projection: &Projection) -> Option<u64>
-    ensures { result ≡ reached projection.now }
-{
-    if projection.fresh {
-        Some(projection.lge)
-    } else {
-        None
-    }
-}
-
-/// The least epoch that an up-to-date projection of a table has reached.
-fn table_reached(table: &Table) -> Option<u64>
-    ensures { result ≡ table_reached table.now }
-{
-    let mut least: Option<u64> = None;
-    for projection in table.projections.as_slice() {
-        least = earlier(least, reached(projection));
-    }
-    least
-}
-
-/// The least epoch that an up-to-date projection of some tables has reached.
-fn all_reached(tables: &[Table]) -> Option<u64>
-    ensures { result ≡ fold (λ e t. earlier e (table_reached t)) None tables.now }
-{
-    let mut least: Option<u64> = None;
-    for table in tables {
-        least = earlier(least, table_reached(table));
-    }
-    least
-}
+use catalog_types::Table;
+use statement_plan::last_good;
 
 impl Store {
     /// The tables of the catalogue, in the order of their names.
@@ -71,10 +28,7 @@ impl Store {
     pub fn last_good(&self) -> u64
         ensures { result ≡ least_lge self.now.seen.catalogue }
     {
-        match all_reached(self.tables()) {
-            Some(epoch) => epoch,
-            None => self.tables.last(),
-        }
+        last_good(self.tables(), self.tables.last())
     }
 
     /// Whether the current session has something to commit.

@@ -1,25 +1,42 @@
-use Rattle.std.proofs.Common.{◌≡◌, rules}
+use Rattle.std.proofs.Common.{◌≡◌, ◌∙◌, None, refl, sym, rules}
 use Rattle.sql_tree.specs.declared.statement.Function.{Function}
 use Rattle.sql_tree.specs.declared.statement.Statement.{Statement}
+use Rattle.statement_plan.specs.Planned.{early_call_refusal}
 use Rattle.store_step.proofs.Answered.{memory_answers, same_answers}
 use Rattle.store_step.proofs.stepping.call.Goals as goal
 
 pub returns-in-Lge-clause-answers : goal.returns-in-Lge-clause-answers
-returns-in-Lge-clause-answers g c = λ files state here.
+returns-in-Lge-clause-answers g c = λ files state here free.
     let is : Statement.Call c.args.function.now ≡ Statement.Call Function.Lge = search rules in
     memory_answers g.D.Disk files _ (Statement.Call Function.Lge) c.args.store.now c.args.disk.now c.last_good_epoch.result c.in_memory.result state is c.in_memory.ensures here.sound.database (c.every_image_reopens.ensures c.args.store.now.seen.catalogue c.args.store.now.seen.stores c.args.disk.now state.database here.database) (c.last_good_epoch.ensures files c.args.disk.now state here)
 
 pub returns-in-Ahm-clause-answers : goal.returns-in-Ahm-clause-answers
-returns-in-Ahm-clause-answers g c = λ files state here.
+returns-in-Ahm-clause-answers g c = λ files state here free.
     let is : Statement.Call c.args.function.now ≡ Statement.Call Function.Ahm = search rules in
     memory_answers g.D.Disk files _ (Statement.Call Function.Ahm) c.args.store.now c.args.disk.now c.ahm_epoch.result c.in_memory-in-Ahm.result state is c.in_memory-in-Ahm.ensures here.sound.database (c.every_image_reopens.ensures c.args.store.now.seen.catalogue c.args.store.now.seen.stores c.args.disk.now state.database here.database) (c.ahm_epoch.ensures files c.args.disk.now state here)
 
 pub returns-in-Current-clause-answers : goal.returns-in-Current-clause-answers
-returns-in-Current-clause-answers g c = λ files state here.
+returns-in-Current-clause-answers g c = λ files state here free.
     let is : Statement.Call c.args.function.now ≡ Statement.Call Function.Current = search rules in
     memory_answers g.D.Disk files _ (Statement.Call Function.Current) c.args.store.now c.args.disk.now c.current_epoch.result c.in_memory-in-Current.result state is c.in_memory-in-Current.ensures here.sound.database (c.every_image_reopens.ensures c.args.store.now.seen.catalogue c.args.store.now.seen.stores c.args.disk.now state.database here.database) (c.current_epoch.ensures files c.args.disk.now state here)
 
 pub returns-in-Moveout-clause-answers : goal.returns-in-Moveout-clause-answers
-returns-in-Moveout-clause-answers g c = λ files state here.
+returns-in-Moveout-clause-answers g c = λ files state here free.
     let is : Statement.Call c.args.function.now ≡ Statement.Call Function.Moveout = search rules in
     same_answers g.D.Disk files _ (Statement.Call Function.Moveout) c.moveout.new.store c.moveout.result state is (c.moveout.ensures.answers files state here)
+
+pub returns-in-MakeAhmNow-clause-answers : goal.returns-in-MakeAhmNow-clause-answers
+returns-in-MakeAhmNow-clause-answers g c = λ files state here free.
+    let is : Statement.Call c.args.function.now ≡ Statement.Call Function.MakeAhmNow = search rules in
+    let refuses : early_call_refusal state Function.MakeAhmNow ≡ None = search (rules, free) in
+    let good = c.last_good_is_reached.ensures here.database.files c.args.store.now.seen.catalogue c.args.store.now.seen.stores state.database here.database.are in
+    same_answers g.D.Disk files _ (Statement.Call Function.MakeAhmNow) c.set_mark.new.store c.set_mark.result state is
+    (c.set_mark.ensures.answers files state Function.MakeAhmNow here (c.last_good.ensures ∙ sym good) (sym refuses))
+
+pub returns-in-SetAhm-clause-answers : goal.returns-in-SetAhm-clause-answers
+returns-in-SetAhm-clause-answers g c = λ files state here free.
+    let n = c.in-SetAhm.mark.now in
+    let is : Statement.Call c.args.function.now ≡ Statement.Call (Function.SetAhm n) = search rules in
+    let refuses : early_call_refusal state (Function.SetAhm n) ≡ None = search (rules, free) in
+    same_answers g.D.Disk files _ (Statement.Call (Function.SetAhm n)) c.set_mark-in-SetAhm.new.store c.set_mark-in-SetAhm.result state is
+    (c.set_mark-in-SetAhm.ensures.answers files state (Function.SetAhm n) here refl (sym refuses))

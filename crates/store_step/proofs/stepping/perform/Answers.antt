@@ -93,7 +93,7 @@ returns-in-Call-default-clause-answers g c = λ files state here.
     let is : c.args.statement ≡ s = search rules in
     let all = c.frames_are_of_the_state.ensures.plan c.args.disk.now c.args.store.now state c.args.statement c.args.plan here c.requires.planned in
     let planned : IsPlanned state s c.args.plan = rw c.in-Call-default.is-0 at all in
-    same_answers g.D.Disk files c.args.statement s c.call.new.store c.call.result state is (c.call.ensures.answers files state here)
+    same_answers g.D.Disk files c.args.statement s c.call.new.store c.call.result state is (c.call.ensures.answers files state here planned.accepted)
 
 pub returns-in-Session-default-clause-answers : goal.returns-in-Session-default-clause-answers
 returns-in-Session-default-clause-answers g c = λ files state here.
