@@ -47,6 +47,7 @@ fn rank(value: &Value) -> u64 {
         Value::Null => 0,
         Value::Bool(value) => 1 + u64::from(*value),
         Value::Int(n) => u64::from_be_bytes(n.to_be_bytes()).wrapping_add(1 << 63),
+        Value::Date(d) => u64::from(*d),
         Value::Text(text) => head(text.as_bytes()),
     }
 }

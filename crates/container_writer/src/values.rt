@@ -2,26 +2,37 @@
 
 ghost use Rattle.std.specs.Prelude.{◌≡◌, map, pos, slice_index_or, IfOk};
 ghost use Rattle.std.specs.List.{All};
-ghost use Rattle.block_choice.specs.Choice.{Takes};
+ghost use Rattle.block_choice.specs.Choice.{TakesAll};
 ghost use Rattle.col_value.specs.Order.{IsValue};
 ghost use Rattle.col_value.specs.declared.value.Value.TheVariants.{Int, Null};
 ghost use Rattle.ros_container.specs.Rows.{column_values, epoch_values, stored_values};
 ghost use Rattle.container_writer.specs.Ordered.{asked_of};
 
 use crate::refs::{Keyed, StampedRef};
-use block_choice::takes;
+use block_choice::takes_all;
 use col_value::{Encoding, Row, Value};
 use std::alloc::{AllocError, Global};
 use value_bytes::is_value;
 
-/// The value, where a table may have it and a column of this encoding takes it.
-fn fitting(value: Value, encoding: Encoding) -> Result<Value, AllocError>
+/// The value, where a table may have it.
+fn fitting(value: Value) -> Result<Value, AllocError>
     ensures same { IfOk result (λ v. v ≡ value) }
     ensures value { IfOk result IsValue }
-    ensures taken { IfOk result (Takes encoding) }
 {
-    if is_value(&value) && takes(encoding, &value) {
+    if is_value(&value) {
         Ok(value)
+    } else {
+        Err(AllocError)
+    }
+}
+
+/// The values, where a column of this encoding takes them.
+fn taken(values: Vec<Value>, encoding: Encoding) -> Result<Vec<Value>, AllocError>
+    ensures same { IfOk result (λ v. v ≡ values) }
+    ensures taken { IfOk result (λ v. TakesAll encoding v.items) }
+{
+    if takes_all(encoding, values.as_slice()) {
+        Ok(values)
     } else {
         Err(AllocError)
     }
@@ -47,32 +58,25 @@ fn number_of(epoch: u64) -> Result<Value, AllocError>
     Ok(Value::Int(epoch as i64))
 }
 
-fn column_values(
-    alloc: Global,
-    rows: &[Keyed],
-    column: usize,
-    encoding: Encoding,
-) -> Result<Vec<Value>, AllocError>
+fn column_values(alloc: Global, rows: &[Keyed], column: usize) -> Result<Vec<Value>, AllocError>
     ensures same { IfOk result (λ v. v.items ≡ column_values column (map asked_of rows.now)) }
     ensures values { IfOk result (λ v. All IsValue v.items) }
-    ensures taken { IfOk result (λ v. All (Takes encoding) v.items) }
 {
     let mut out = Vec::with_capacity(alloc, rows.len())?;
     for row in rows {
         let value = value_of(alloc, row.stamped.row, column)?;
-        out.push(fitting(value, encoding)?)?;
+        out.push(fitting(value)?)?;
     }
     Ok(out)
 }
 
-fn epoch_values(alloc: Global, rows: &[Keyed], encoding: Encoding) -> Result<Vec<Value>, AllocError>
+fn epoch_values(alloc: Global, rows: &[Keyed]) -> Result<Vec<Value>, AllocError>
     ensures same { IfOk result (λ v. v.items ≡ epoch_values (map asked_of rows.now)) }
     ensures values { IfOk result (λ v. All IsValue v.items) }
-    ensures taken { IfOk result (λ v. All (Takes encoding) v.items) }
 {
     let mut out = Vec::with_capacity(alloc, rows.len())?;
     for row in rows {
-        out.push(fitting(number_of(row.stamped.ins)?, encoding)?)?;
+        out.push(fitting(number_of(row.stamped.ins)?)?)?;
     }
     Ok(out)
 }
@@ -88,11 +92,11 @@ pub fn stored_values(
 ) -> Result<Vec<Value>, AllocError>
     ensures same { IfOk result (λ v. v.items ≡ stored_values columns column (map asked_of rows.now)) }
     ensures values { IfOk result (λ v. All IsValue v.items) }
-    ensures taken { IfOk result (λ v. All (Takes encoding) v.items) }
+    ensures taken { IfOk result (λ v. TakesAll encoding v.items) }
 {
     if column == columns {
-        epoch_values(alloc, rows, encoding)
+        taken(epoch_values(alloc, rows)?, encoding)
     } else {
-        column_values(alloc, rows, column, encoding)
+        taken(column_values(alloc, rows, column)?, encoding)
     }
 }

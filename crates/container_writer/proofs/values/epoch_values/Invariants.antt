@@ -1,6 +1,5 @@
 use Rattle.std.proofs.Common.{◌≡◌, map, take}
 use Rattle.std.specs.List.{All}
-use Rattle.block_choice.specs.Choice.{Takes}
 use Rattle.col_value.specs.Order.{IsValue}
 use Rattle.ros_container.specs.Rows.{epoch_values}
 use Rattle.container_writer.specs.Ordered.{asked_of}
@@ -10,5 +9,4 @@ abbrev pub invariant-loop-row : goal.invariant-loop-row
 invariant-loop-row l = record {
   same : l.out.items ≡ epoch_values (map asked_of (take l.row-index l.rows));
   values : All IsValue l.out.items;
-  taken : All (Takes l.encoding) l.out.items;
 }
