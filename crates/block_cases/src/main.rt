@@ -1,4 +1,4 @@
-//! Reads lists of values from standard input, each with its blocks in the four encodings, and prints the lines at which a
+//! Reads lists of values from standard input, each with its blocks in the encodings, and prints the lines at which a
 //! block is another one or isn't read as the list. The lines are written by `tools/block_cases.py`, which has encoders of
 //! its own.
 //!
@@ -115,7 +115,7 @@ fn is_right_line(alloc: Global, line: &str) -> Result<bool, AllocError> {
     let values = values.as_slice();
     let auto = match tag {
         "1" => rle,
-        "2" => delta,
+        "2" | "5" => delta,
         "3" => dict,
         _ => plain,
     };
