@@ -3,3 +3,4 @@ pub mod Magnitudes
 pub mod Narrow
 pub mod Steps
 pub mod Settled
+pub mod Parts

@@ -4,6 +4,7 @@ ghost use Rattle.col_value.specs.Order.{widened};
 ghost use Rattle.col_value.specs.declared.value.Value.TheVariants as value;
 ghost use Rattle.col_value.specs.declared.wide.Wide.TheVariants as wide;
 ghost use Rattle.sql_bound.specs.Values.{of_row};
+ghost use Rattle.expr_value.specs.Parts.{behind_nulls};
 ghost use Rattle.expr_value.specs.Worths.{wide_of};
 
 use crate::worth::Worth;
@@ -14,6 +15,7 @@ use std::marker::Model;
 /// group.
 #[derive(Drop)]
 pub struct Sight<'a> {
+    first: usize,
     row: &'a [Value],
     keys: &'a [Value],
     aggs: &'a [Wide],
@@ -21,10 +23,11 @@ pub struct Sight<'a> {
 
 impl<'a> Model for Sight<'a> {
     ghost use Rattle.sql_bound.specs.Values.{Scope};
+    ghost use Rattle.expr_value.specs.Parts.{behind_nulls as placed};
 
     ghost Value = { Scope };
 
-    ghost view = { λ s. record { row = s.row.now; keys = s.keys.now; aggs = s.aggs.now } };
+    ghost view = { λ s. record { row = placed s.first s.row.now; keys = s.keys.now; aggs = s.aggs.now } };
 }
 
 impl<'a> Sight<'a> {
@@ -33,6 +36,19 @@ impl<'a> Sight<'a> {
         ensures { result ≡ of_row row.now }
     {
         Sight {
+            first: 0,
+            row,
+            keys: &[],
+            aggs: &[],
+        }
+    }
+
+    /// A row that stands behind so many other columns, all NULL, and no group.
+    pub fn of_part(first: usize, row: &'a [Value]) -> Sight<'a>
+        ensures { result ≡ of_row (behind_nulls first row.now) }
+    {
+        Sight {
+            first,
             row,
             keys: &[],
             aggs: &[],
@@ -44,6 +60,7 @@ impl<'a> Sight<'a> {
         ensures { result ≡ record { row = []; keys = keys.now; aggs = aggs.now } }
     {
         Sight {
+            first: 0,
             row: &[],
             keys,
             aggs,
@@ -54,7 +71,7 @@ impl<'a> Sight<'a> {
     pub fn column(&self, i: usize) -> Worth<'a>
         ensures { wide_of result ≡ widened (slice_index_or self.now.row i value.Null) }
     {
-        value_at(self.row, i)
+        part_value_at(self.first, self.row, i)
     }
 
     /// A column of GROUP BY; NULL where it is not there.
@@ -81,5 +98,15 @@ fn value_at<'a>(values: &'a [Value], i: usize) -> Worth<'a>
     match values.get(i) {
         Some(value) => Worth::of_value(value),
         None => Worth::Null,
+    }
+}
+
+fn part_value_at<'a>(first: usize, values: &'a [Value], i: usize) -> Worth<'a>
+    ensures { wide_of result ≡ widened (slice_index_or (behind_nulls first values.now) i value.Null) }
+{
+    if i < first {
+        Worth::Null
+    } else {
+        value_at(values, i - first)
     }
 }
