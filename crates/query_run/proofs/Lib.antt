@@ -1,3 +1,5 @@
+pub mod Told
+pub mod Chosen
 pub mod Equal
 pub mod Leaves
 pub mod Walked

@@ -1,3 +1,4 @@
 pub mod Outputs
+pub mod Ready
 pub mod Sides
 pub mod Runs

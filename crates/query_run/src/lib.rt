@@ -1,9 +1,11 @@
 //! Queries, run by hash.
 //!
 //! `printed` gives what `sql_bound` defines a query to print. The rows of each FROM item behind the first stand in a table under the
-//! columns that a condition equates with columns of the items before it, so that only rows that can join are put together; each
-//! tuple that is kept goes at once to its group, or becomes an output row, of which few more are held than a LIMIT asks for; one that stands
-//! behind as many by the keys of ORDER BY isn't even made.
+//! columns that a condition equates with columns of the items before it, so that only rows that can join are put together; a row that
+//! the conditions on it alone refuse isn't there. Each condition is tested as soon as a tuple has the columns at which it looks, and
+//! where it isn't true no row is joined to the tuple (`false_refuses`). Each tuple that is kept goes at once to its group, or becomes
+//! an output row, of which few more are held than a LIMIT asks for; one that stands behind as many by the keys of ORDER BY isn't even
+//! made.
 //! A `Run` is the same where the rows of the first FROM item come one by one, and are not held: `HasTaken` in `specs/Runs.antt` says
 //! what came.
 #![tactic(auto)]
@@ -12,12 +14,15 @@ mod bar;
 mod collected;
 mod equated;
 mod fault;
+mod laws;
 mod output;
 mod printing;
+mod ready;
 mod run;
 mod side;
 mod walk;
 
 pub use fault::QueryFault;
+pub use laws::false_refuses;
 pub use printing::printed;
 pub use run::Run;

@@ -1,6 +1,6 @@
 //! The ancient history mark.
 
-ghost use Rattle.std.specs.Prelude.{◌≡◌, None};
+ghost use Rattle.std.specs.Prelude.{◌≡◌, ◌≤◌, None};
 ghost use Rattle.common_laws.specs.Causes.{HasCause};
 ghost use Rattle.db_model.specs.Loading.{Files as LoadFiles};
 ghost use Rattle.db_model.specs.Refusals.{CallRefuses};
@@ -20,6 +20,13 @@ use statement_text::mark_text;
 use std::alloc::{AllocError, Global};
 use store_core::Store;
 
+/// A mark that is no later than the last good epoch, as it is held.
+fn held_mark(mark: u128, good: u64) -> u64
+    ensures { mark ≤ good → result ≡ mark }
+{
+    mark.min(u128::from(good)) as u64
+}
+
 /// MAKE_AHM_NOW and SET_AHM_EPOCH that aren't refused, by the epoch that they set the ancient history mark to.
 pub fn set_mark<D: Disk>(
     alloc: Global,
@@ -35,10 +42,10 @@ pub fn set_mark<D: Disk>(
     last_good_is_reached();
     marks_up_to_the_last_good_epoch_are_sound();
     an_event_may_draw();
-    let mark = mark.min(u128::from(store.last_good())) as u64;
-    let text = match mark_text(alloc, mark) {
+    let epoch = held_mark(mark, store.last_good());
+    let text = match mark_text(alloc, epoch) {
         Ok(text) => text,
         Err(AllocError) => return Err(StoreFault::Memory),
     };
-    on_disk(printed(text), store.set_mark(alloc, mark, disk))
+    on_disk(printed(text), store.set_mark(alloc, epoch, disk))
 }

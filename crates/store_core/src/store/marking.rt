@@ -29,7 +29,8 @@ impl Store {
         ensures cause { HasCause DiskFault.Failed (D.faults disk.old) (D.faults disk.new) result }
     {
         marks_up_to_the_last_good_epoch_are_sound();
-        if mark <= self.mark() {
+        let now = self.mark();
+        if mark <= now {
             return Ok(());
         }
         self.tables.raise_mark(alloc, mark, disk)

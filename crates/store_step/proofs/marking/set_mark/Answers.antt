@@ -1,12 +1,11 @@
-use Rattle.std.proofs.Common.{◌≡◌, ◌≤◌, ℕ, min, subst, sym, ap, rules, arith}
+use Rattle.std.proofs.Common.{◌≡◌, ◌≤◌, subst, sym, rules, arith}
 use Rattle.std.specs.Prelude.{codes, Result}
 use Rattle.col_disk.specs.declared.disk.DiskFault.TheVariants.{Memory}
 use Rattle.col_disk.specs.declared.disk.StoreFault.{StoreFault}
 use Rattle.col_disk.specs.Faults.{store_fault}
-use Rattle.db_model.specs.Epochs.{last_good, rises}
+use Rattle.db_model.specs.Epochs.{rises}
 use Rattle.db_model.specs.Leaving.{MarkLeaves}
 use Rattle.db_model.specs.Printing.{counted_line}
-use Rattle.sql_tree.specs.declared.statement.Function.{Function}
 use Rattle.sql_tree.specs.declared.statement.Statement.{Statement}
 use Rattle.store_step.specs.declared.answer.Answer.{Answer}
 use Rattle.store_step.specs.Arms.{Answers}
@@ -22,7 +21,16 @@ returns-in-Err-clause-answers g c = λ files state f here is free. unmade g.D.Di
 
 pub returns-clause-answers : goal.returns-clause-answers
 returns-clause-answers g c = λ files state f here is free.
-    let m = c.mark_text.result in
-    let good = c.last_good_is_reached.ensures here.database.files c.args.store.now.seen.catalogue c.args.store.now.seen.stores state.database here.database.are in
+    let epoch = c.held_mark-epoch.result in
+    let s = Statement.Call f in
     let within = mark_within state f c.args.mark is free in
-    search rules
+    let good = c.last_good_is_reached.ensures here.database.files c.args.store.now.seen.catalogue c.args.store.now.seen.stores state.database here.database.are in
+    let seen = c.last_good.ensures in
+    let le : c.args.mark ≤ c.last_good.result = omega (arith, within, good, seen) in
+    let is_epoch : IsMarkOf state f epoch = subst (IsMarkOf state f) (sym (c.held_mark-epoch.ensures le)) is in
+    let epoch_within = mark_within state f epoch is_epoch free in
+    let says : Says (counted_line (codes "AHM ") epoch) c.printed.result = search rules in
+    subst (λ (r : Result Answer StoreFault). Answers g.D.Disk files s c.set_mark.new.self c.args.disk.now c.set_mark.new.disk r state) (sym c.on_disk.ensures)
+    (event_answers g.D.Disk Memory store_fault c.args.store.now c.set_mark.new.self c.set_mark.result c.printed.result state files s (counted_line (codes "AHM ") epoch) (MarkLeaves (rises epoch state.database) epoch state) here says
+    (marked_event state files f epoch is_epoch free here.sound (c.marks_up_to_the_last_good_epoch_are_sound.ensures state epoch here.asked epoch_within here.sound) c.an_event_may_draw.ensures)
+    disk_short (disk_unblamed c.set_mark.result) c.set_mark.ensures.same (c.set_mark.ensures.does state here epoch_within))
