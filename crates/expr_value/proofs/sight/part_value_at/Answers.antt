@@ -1,4 +1,4 @@
-use Rattle.std.proofs.Common.{◌≡◌, ap, sym, ◌∙◌, arith}
+use Rattle.std.proofs.Common.{ap, sym, ◌∙◌, arith}
 use Rattle.col_value.specs.Order.{widened}
 use Rattle.expr_value.proofs.Parts.{null_before, value_past}
 use Rattle.expr_value.proofs.sight.part_value_at.Goals as goal
