@@ -65,6 +65,7 @@ member_in f c (Expr-F.Lit w) = literal w
     literal Wide.Null = refl
     literal (Wide.Bool b) = refl
     literal (Wide.Int n) = refl
+    literal (Wide.Date d) = refl
     literal (Wide.Text t) = refl
 member_in f c (Expr-F.Col i) = refl
 member_in f c (Expr-F.Key i) = refl
