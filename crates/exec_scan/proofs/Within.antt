@@ -1,9 +1,9 @@
--- A value whose number or day lies before the first or behind the last lies out of a bound.
-use Rattle.std.proofs.Common.{◌≡◌, ◌∙◌, ◌-◌, ◌^◌, ◌<◌, ℕ, ℤ, pos, negsuc, ◌<ℤ◌, FitsSigned, w64, false, ap, sym, arith}
+-- A value whose number lies before the first or behind the last lies out of a bound.
+use Rattle.std.proofs.Common.{◌≡◌, ◌∙◌, ◌-◌, ◌^◌, ℤ, pos, negsuc, ◌<ℤ◌, FitsSigned, w64, false, ap, sym, arith}
 use Rattle.std.specs.Ordering.{is_le, int_cmp}
 use Rattle.std.proofs.lemmas.Int.{ints}
-use Rattle.block_codec.specs.Held.{day_value, number_value}
-use Rattle.block_codec.proofs.Ordered.{day_cmp, lane_cmp}
+use Rattle.block_codec.specs.Held.{number_value}
+use Rattle.block_codec.proofs.Ordered.{lane_cmp}
 use Rattle.col_value.specs.Order.{value_cmp}
 use Rattle.col_value.specs.declared.value.Value.{Value}
 
@@ -23,11 +23,3 @@ none_below (negsuc n) fits lt = omega (arith, ints, fits.sfits, lt)
 pub none_above : (n : ℤ) → FitsSigned w64 n → pos (2 ^ 63 - 1) <ℤ n → ⊥
 none_above (pos n) fits lt = omega (arith, ints, fits.sfits, lt)
 none_above (negsuc n) fits lt = omega (arith, ints, lt)
-
--- ---- days
-
-pub day_below : (v : Value) (first d : ℕ) → day_value first ≡ v → d < first → is_le (value_cmp v (day_value d)) ≡ false
-day_below v first d is lt = ap (λ (w : Value). is_le (value_cmp w (day_value d))) (sym is) ∙ ap is_le (day_cmp first d) ∙ grind arith
-
-pub day_above : (v : Value) (last d : ℕ) → day_value last ≡ v → last < d → is_le (value_cmp (day_value d) v) ≡ false
-day_above v last d is lt = ap (λ (w : Value). is_le (value_cmp (day_value d) w)) (sym is) ∙ ap is_le (day_cmp d last) ∙ grind arith
