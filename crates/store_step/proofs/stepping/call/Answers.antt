@@ -1,4 +1,5 @@
-use Rattle.std.proofs.Common.{◌≡◌, ◌∙◌, None, refl, sym, rules}
+use Rattle.std.proofs.Common.{◌≡◌, None, refl, sym, rules, arith}
+use Rattle.db_model.specs.Epochs.{last_good}
 use Rattle.sql_tree.specs.declared.statement.Function.{Function}
 use Rattle.sql_tree.specs.declared.statement.Statement.{Statement}
 use Rattle.statement_plan.specs.Planned.{early_call_refusal}
@@ -30,12 +31,13 @@ returns-in-MakeAhmNow-clause-answers g c = λ files state here free.
     let is : Statement.Call c.args.function.now ≡ Statement.Call Function.MakeAhmNow = search rules in
     let refuses : early_call_refusal state Function.MakeAhmNow ≡ None = search (rules, free) in
     let good = c.last_good_is_reached.ensures here.database.files c.args.store.now.seen.catalogue c.args.store.now.seen.stores state.database here.database.are in
+    let is_good : c.from-mark.result ≡ last_good state.database = omega (arith, c.from-mark.ensures, c.last_good.ensures, good) in
     same_answers g.D.Disk files _ (Statement.Call Function.MakeAhmNow) c.set_mark.new.store c.set_mark.result state is
-    (c.set_mark.ensures.answers files state Function.MakeAhmNow here (c.last_good.ensures ∙ sym good) (sym refuses))
+    (c.set_mark.ensures.answers files state Function.MakeAhmNow here is_good (sym refuses))
 
 pub returns-in-SetAhm-clause-answers : goal.returns-in-SetAhm-clause-answers
 returns-in-SetAhm-clause-answers g c = λ files state here free.
-    let n = c.in-SetAhm.mark.now in
+    let n = c.in-SetAhm.mark in
     let is : Statement.Call c.args.function.now ≡ Statement.Call (Function.SetAhm n) = search rules in
     let refuses : early_call_refusal state (Function.SetAhm n) ≡ None = search (rules, free) in
     same_answers g.D.Disk files _ (Statement.Call (Function.SetAhm n)) c.set_mark-in-SetAhm.new.store c.set_mark-in-SetAhm.result state is
