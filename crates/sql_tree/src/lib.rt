@@ -13,7 +13,11 @@ mod statement;
 mod tree;
 
 pub use part::{Addend, Part};
-pub use query::{At, Item, Items, KeyRef, Query, SortKey, Source};
+pub use query::{
+    At, Item, ItemTree, Items, KeyRef, Query, SortKey, Source, Window, WindowKey, WindowKind,
+};
 pub use refusal::{Refusal, Which};
-pub use statement::{Delete, Function, Insert, NewPart, NewProjection, Setting, Statement, Update};
+pub use statement::{
+    AddColumn, Delete, Function, Insert, NewPart, NewProjection, Setting, Statement, Update,
+};
 pub use tree::{AggKind, Cmp, ColRef, Term, Tree};

@@ -1,10 +1,44 @@
 use crate::{ColRef, Tree};
 use col_value::{List, Name};
 
+/// What a window function is: a number of a row, or an aggregate over its frame.
+#[derive(Clone, Copy, Debug, PartialEq, Eq)]
+pub enum WindowKind {
+    RowNumber,
+    Rank,
+    CountAll,
+    Count,
+    Sum,
+}
+
+/// A key of ORDER BY in a window, and whether DESC stands behind it.
+#[derive(Debug, Drop)]
+pub struct WindowKey {
+    pub column: ColRef,
+    pub descending: bool,
+}
+
+/// `kind(arg) OVER (PARTITION BY partition ORDER BY order)`. Only `Count` and `Sum` have an argument;
+/// the lists are empty where the window has no PARTITION BY and no ORDER BY.
+#[derive(Debug, Drop)]
+pub struct Window {
+    pub kind: WindowKind,
+    pub arg: Option<Tree>,
+    pub partition: List<ColRef>,
+    pub order: List<WindowKey>,
+}
+
+/// What an item is: an expression, or a window function.
+#[derive(Debug, Drop)]
+pub enum ItemTree {
+    Plain(Tree),
+    Window(Window),
+}
+
 /// A column of the result, and the name behind its AS.
 #[derive(Debug, Drop)]
 pub struct Item {
-    pub tree: Tree,
+    pub tree: ItemTree,
     pub alias: Option<Name>,
 }
 

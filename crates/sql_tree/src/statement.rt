@@ -1,5 +1,5 @@
 use crate::{At, Query, Tree};
-use col_value::{Column, Encoding, List, Name, Text, WideRow};
+use col_value::{Column, Encoding, List, Name, Text, Wide, WideRow};
 
 /// `INSERT INTO table VALUES rows`. The rows have the literals as they stand.
 #[derive(Debug, Drop)]
@@ -28,6 +28,14 @@ pub struct Update {
     pub table: Name,
     pub settings: List<Setting>,
     pub keep: Option<Tree>,
+}
+
+/// `ALTER TABLE table ADD COLUMN column DEFAULT default`. The default is the literal as it stands.
+#[derive(Debug, Drop)]
+pub struct AddColumn {
+    pub table: Name,
+    pub column: Column,
+    pub default: Wide,
 }
 
 /// A column of a new projection.
@@ -83,6 +91,7 @@ pub enum Statement {
     Delete(Delete),
     Update(Update),
     Copy(Name, Text),
+    AddColumn(AddColumn),
     Commit,
     Rollback,
     Select(At, Query),
