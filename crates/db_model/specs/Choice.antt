@@ -14,32 +14,6 @@ use Rattle.sql_bound.specs.declared.query.FromItem.{FromItem}
 use Rattle.sql_bound.specs.declared.query.BoundQuery.{BoundQuery}
 use Rattle.db_model.specs.Database.{Shape, has_columns}
 
--- the columns that an expression looks at
-abbrev pub columns_step : Expr-F (List ℕ) (List ℕ) → List ℕ
-columns_step (Expr-F.Lit w) = []
-columns_step (Expr-F.Col i) = i ∷ []
-columns_step (Expr-F.Key i) = []
-columns_step (Expr-F.Agg i) = []
-columns_step (Expr-F.Neg a) = a
-columns_step (Expr-F.Sum parts) = flat_map (λ p. p) parts
-columns_step (Expr-F.Product parts) = flat_map (λ p. p) parts
-columns_step (Expr-F.Compare a c b) = a ++ b
-columns_step (Expr-F.IsNull a) = a
-columns_step (Expr-F.Not a) = a
-columns_step (Expr-F.And parts) = flat_map (λ p. p) parts
-columns_step (Expr-F.Or parts) = flat_map (λ p. p) parts
-
-abbrev pub columns_term : BoundTerm-F (List ℕ) (List ℕ) → List ℕ
-columns_term t = t.part
-
-abbrev pub columns_of : Expr → List ℕ
-columns_of = fold-Expr (List ℕ) (List ℕ) columns_step columns_term
-
--- the columns that a query uses: those of its conditions, its GROUP BY, its aggregates and, where it isn't grouped, its items
-abbrev pub used_columns : BoundQuery → List ℕ
-used_columns q =
-    flat_map columns_of q.keep ++ (q.keys ++ (flat_map (λ a. option_map_or columns_of a.arg []) q.aggs ++ (if q.grouped then [] else flat_map columns_of q.items)))
-
 -- of columns of all FROM items those of one, by their places in its table
 abbrev pub within_item : FromItem → List ℕ → List ℕ
 within_item f columns = map (λ c. c - f.first) (filter (λ c. nat_le f.first c && nat_lt c (f.first + f.columns)) columns)

@@ -7,16 +7,7 @@ use Rattle.col_value.specs.declared.value.Value.{Value}
 use Rattle.col_value.specs.declared.value.Value.TheVariants as value
 use Rattle.sql_bound.specs.declared.query.FromItem.{FromItem}
 use Rattle.sql_bound.specs.declared.query.BoundQuery.{BoundQuery}
-use Rattle.db_model.specs.Choice.{used_columns}
-
--- the query uses a column, by its place among those of all FROM items
-abbrev pub is_used : BoundQuery → ℕ → Bool
-is_used q c = list_any (λ u. u == c) (used_columns q)
-
--- a row with NULL in the columns that don't pass a test; its first column has this place
-abbrev pub blanked : (ℕ → Bool) → ℕ → List Value → List Value
-blanked test first [] = []
-blanked test first (v ∷ row) = (if test first then v else value.Null) ∷ blanked test (first + 1) row
+use Rattle.sql_bound.specs.Used.{blanked, is_used}
 
 -- Of a FROM item's columns, of which there are so many and the first has this place, some rows have in those that the query uses what
 -- others have, whatever the order of the rows.

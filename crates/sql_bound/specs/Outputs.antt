@@ -1,17 +1,21 @@
 -- The output rows of a query, in some order.
-use Rattle.std.specs.Prelude.{◌≡◌, ℕ, ℤ, pos, ◌+◌, ◌+ℤ◌, ◌<◌, ◌++◌, ◌&&◌, not, if◌then◌else◌, Bool, true, false, List, [], ◌∷◌, length, map, filter, fold, Option, Some, None}
-use Rattle.std.specs.List.{Contains, list_all, flat_map, slice_index_or}
+use Rattle.std.specs.Prelude.{◌≡◌, ℕ, ℤ, pos, ◌+◌, ◌+ℤ◌, ◌<◌, ◌++◌, ◌&&◌, ◌⊎◌, not, if◌then◌else◌, Bool, true, false, List, [], ◌∷◌, length, map, filter, fold, count_by, Option, Some, None}
+use Rattle.std.specs.List.{Contains, list_all, flat_map, enumerate_from, slice_index_or}
 use Rattle.std.specs.Option.{option_map_or}
-use Rattle.std.specs.Ordering.{is_eq, is_lt}
+use Rattle.std.specs.declared.cmp.Ordering.{Ordering}
+use Rattle.std.specs.Ordering.{is_eq, is_le, is_lt, nat_cmp, on, ordering_reverse, then_cmp}
 use Rattle.col_value.specs.declared.value.Value.{Value}
 use Rattle.col_value.specs.declared.value.Value.TheVariants as value
 use Rattle.col_value.specs.declared.wide.Wide.{Wide}
 use Rattle.col_value.specs.declared.wide.Wide.TheVariants as wide
-use Rattle.col_value.specs.Order.{row_cmp, wide_cmp}
+use Rattle.col_value.specs.Order.{row_cmp, value_cmp, wide_cmp}
 use Rattle.sql_tree.specs.declared.tree.AggKind.{AggKind}
+use Rattle.sql_tree.specs.declared.query.WindowKind.{WindowKind}
 use Rattle.sql_bound.specs.declared.expr.Expr.{Expr}
 use Rattle.sql_bound.specs.declared.query.Aggregate.{Aggregate}
 use Rattle.sql_bound.specs.declared.query.BoundQuery.{BoundQuery}
+use Rattle.sql_bound.specs.declared.query.BoundWindow.{BoundWindow}
+use Rattle.sql_bound.specs.Used.{blanked, is_used}
 use Rattle.sql_bound.specs.Values.{Scope, of_row, value_of, is_true, is_null}
 use Rattle.sql_bound.specs.Bounds.{magnitude, result_bound}
 
@@ -101,10 +105,74 @@ group_scope q rows group = record { row = []; keys = group; aggs = map (aggregat
 abbrev pub group_scopes : BoundQuery → List (List Value) → List Scope
 group_scopes q rows = filter (λ s. option_map_or (λ e. is_true (value_of s e)) q.having true) (map (group_scope q rows) (group_keys q.keys rows))
 
-abbrev pub scopes : BoundQuery → List (List Value) → List Scope
-scopes q rows = if q.grouped then group_scopes q rows else map of_row rows
+-- ---- windows
 
--- the output rows: the items' values in each row, or in each group that is kept
+-- by one key of a window's ORDER BY, NULL least; DESC turns it round
+abbrev pub window_key_cmp : ℕ × Bool → List Value → List Value → Ordering
+window_key_cmp key a b =
+    if key.1 then ordering_reverse (value_cmp (slice_index_or a key.0 value.Null) (slice_index_or b key.0 value.Null))
+    else value_cmp (slice_index_or a key.0 value.Null) (slice_index_or b key.0 value.Null)
+
+-- by all of them; without one all tuples are peers
+abbrev pub window_cmp : List (ℕ × Bool) → List Value → List Value → Ordering
+window_cmp [] a b = Ordering.Equal
+window_cmp (key ∷ keys) a b = then_cmp (window_key_cmp key) (window_cmp keys) a b
+
+-- the tuples of a partition have equal partition columns, NULLs together
+abbrev pub in_partition : BoundWindow → List Value → List Value → Bool
+in_partition w row other = same_keys (keys_of w.partition row) (keys_of w.partition other)
+
+-- a tuple of the partition that stands before this one
+abbrev pub stands_before : BoundWindow → List Value → List Value → Bool
+stands_before w row other = in_partition w row other && is_lt (window_cmp w.order other row)
+
+-- a tuple of the partition that stands before this one or is its peer
+abbrev pub in_frame : BoundWindow → List Value → List Value → Bool
+in_frame w row other = in_partition w row other && is_le (window_cmp w.order other row)
+
+-- ROW_NUMBER counts tuples, each with its place in the list: by the keys, peers by all that is seen of them, and alike peers by their places
+abbrev pub number_cmp : BoundWindow → (List Value → List Value) → ℕ × List Value → ℕ × List Value → Ordering
+number_cmp w seen = then_cmp (on (λ t. t.1) (window_cmp w.order)) (then_cmp (on (λ t. seen t.1) row_cmp) (on (λ t. t.0) nat_cmp))
+
+abbrev pub is_numbered_before : BoundWindow → (List Value → List Value) → ℕ × List Value → ℕ × List Value → Bool
+is_numbered_before w seen t other = in_partition w t.1 other.1 && is_lt (number_cmp w seen other t)
+
+-- the aggregate that a window is over its frame
+abbrev pub aggregate_kind : WindowKind → AggKind
+aggregate_kind WindowKind.RowNumber = AggKind.CountAll
+aggregate_kind WindowKind.Rank = AggKind.CountAll
+aggregate_kind WindowKind.CountAll = AggKind.CountAll
+aggregate_kind WindowKind.Count = AggKind.Count
+aggregate_kind WindowKind.Sum = AggKind.Sum
+
+abbrev pub aggregate_of : BoundWindow → Aggregate
+aggregate_of w = record { kind = aggregate_kind w.kind; arg = w.arg }
+
+-- a window on a tuple: behind so many that are numbered before it, behind so many that stand before it, and over these, its frame
+abbrev pub window_over : WindowKind → ℕ → ℕ → Wide → Wide
+window_over WindowKind.RowNumber numbered before frame = wide.Int (pos (numbered + 1))
+window_over WindowKind.Rank numbered before frame = wide.Int (pos (before + 1))
+window_over WindowKind.CountAll numbered before frame = frame
+window_over WindowKind.Count numbered before frame = frame
+window_over WindowKind.Sum numbered before frame = frame
+
+-- the value of a window on a tuple, which has a place in the list of all tuples
+abbrev pub window_value : (List Value → List Value) → List (List Value) → ℕ × List Value → BoundWindow → Wide
+window_value seen rows t w =
+    window_over w.kind (count_by (is_numbered_before w seen t) (enumerate_from 0 rows)) (count_by (stands_before w t.1) rows)
+    (aggregate_over (filter (in_frame w t.1) rows) (aggregate_of w))
+
+-- a tuple as items see it that stand beside windows; it is seen in the columns that the query uses
+abbrev pub tuple_scope : BoundQuery → List (List Value) → ℕ × List Value → Scope
+tuple_scope q rows t = record { row = t.1; keys = []; aggs = map (window_value (blanked (is_used q) 0) rows t) q.windows }
+
+abbrev pub tuple_scopes : BoundQuery → List (List Value) → List Scope
+tuple_scopes q rows = map (tuple_scope q rows) (enumerate_from 0 rows)
+
+abbrev pub scopes : BoundQuery → List (List Value) → List Scope
+scopes q rows = if q.grouped then group_scopes q rows else tuple_scopes q rows
+
+-- the output rows: the items' values in each tuple, or in each group that is kept
 abbrev pub output : BoundQuery → List (List (List Value)) → List (List Wide)
 output q inputs = map (λ s. map (value_of s) q.items) (scopes q (kept q inputs))
 
@@ -117,7 +185,17 @@ abbrev pub IsGreatSum : List (List Value) → Aggregate → Type 0
 IsGreatSum rows a = (a.kind ≡ AggKind.Sum) × (result_bound < size_of (values_over a.arg rows))
 
 -- it is so in some group, before HAVING
+abbrev pub HasGreatGroup : BoundQuery → List (List Value) → Type 0
+HasGreatGroup q rows =
+    (q.grouped ≡ true) × (group : List Value) × (a : Aggregate) × Contains (group_keys q.keys rows) group × Contains q.aggs a × IsGreatSum (members q.keys group rows) a
+
+-- or in some tuple's partition of a window
+abbrev pub HasGreatPartition : BoundQuery → List (List Value) → Type 0
+HasGreatPartition q rows =
+    (q.grouped ≡ false) × (w : BoundWindow) × (row : List Value) × Contains q.windows w × Contains rows row × IsGreatSum (filter (in_partition w row) rows) (aggregate_of w)
+
+abbrev pub HasGreatSum : BoundQuery → List (List Value) → Type 0
+HasGreatSum q rows = HasGreatGroup q rows ⊎ HasGreatPartition q rows
+
 abbrev pub IsSumTooGreat : BoundQuery → List (List (List Value)) → Type 0
-IsSumTooGreat q inputs =
-    (q.grouped ≡ true) × (group : List Value) × (a : Aggregate) × Contains (group_keys q.keys (kept q inputs)) group × Contains q.aggs a
-    × IsGreatSum (members q.keys group (kept q inputs)) a
+IsSumTooGreat q inputs = HasGreatSum q (kept q inputs)

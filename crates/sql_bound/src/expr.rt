@@ -19,7 +19,8 @@ pub struct BoundTerm {
     pub part: Expr,
 }
 
-/// An expression. `Col(i)` is column i of the concatenated FROM tables, `Key(i)` column i of GROUP BY and `Agg(i)` aggregate i.
+/// An expression. `Col(i)` is column i of the concatenated FROM tables, `Key(i)` column i of GROUP BY. `Agg(i)` is what was made of several
+/// tuples: aggregate i of a group, or the value of window i, which stands only as a whole item.
 #[cycle(expr)]
 #[derive(Debug, Drop)]
 pub enum Expr {

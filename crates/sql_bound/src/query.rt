@@ -1,12 +1,22 @@
 use crate::Expr;
 use col_value::List;
-use sql_tree::AggKind;
+use sql_tree::{AggKind, WindowKind};
 
 /// An aggregate over the rows of a group. Only `CountAll` has no argument.
 #[derive(Debug, Drop)]
 pub struct Aggregate {
     pub kind: AggKind,
     pub arg: Option<Expr>,
+}
+
+/// A window function over the tuples that a query keeps. Only `Count` and `Sum` have an argument; `partition` are columns, and
+/// `order` are columns, each with whether DESC stands behind it.
+#[derive(Debug, Drop)]
+pub struct BoundWindow {
+    pub kind: WindowKind,
+    pub arg: Option<Expr>,
+    pub partition: List<usize>,
+    pub order: List<(usize, bool)>,
 }
 
 /// A FROM item: its table's place among all tables, the place of its first column among the columns of all items, and how
@@ -19,7 +29,8 @@ pub struct FromItem {
 }
 
 /// A query. `keep` has the conditions of ON and WHERE, each split at its ANDs; `keys` are the columns of GROUP BY; `order` has
-/// the output columns by which it is ordered, each with whether DESC stands behind it.
+/// the output columns by which it is ordered, each with whether DESC stands behind it. Only a query that isn't grouped has windows, and
+/// only a grouped one has keys, aggregates and HAVING.
 #[derive(Debug, Drop)]
 pub struct BoundQuery {
     pub sources: List<FromItem>,
@@ -28,6 +39,7 @@ pub struct BoundQuery {
     pub keys: List<usize>,
     pub aggs: List<Aggregate>,
     pub having: Option<Expr>,
+    pub windows: List<BoundWindow>,
     pub items: List<Expr>,
     pub order: List<(usize, bool)>,
     pub limit: Option<u128>,
