@@ -10,9 +10,10 @@ use Rattle.sql_tree.specs.declared.tree.Tree.{Tree}
 use Rattle.sql_tree.specs.declared.tree.Tree
 use Rattle.sql_tree.specs.declared.part.Addend.{Addend}
 use Rattle.sql_tree.specs.declared.part.Part.{Part}
+use Rattle.sql_tree.specs.declared.part.Tally.{Tally}
 use Rattle.sql_tree.specs.Phrases.{One, Says, Nothing, Then, Either, Many, Chain}
 use Rattle.sql_tree.specs.Symbols.{Spelling, Word, Glyph, Inside, IsDate, name_of, text_of, number_of, cmp_of}
-use Rattle.sql_tree.specs.Makers.{constant, column, negated, denied, is_null, compared, between, one_of, chained, addend, summed, count_all, aggregated}
+use Rattle.sql_tree.specs.Makers.{constant, column, negated, denied, is_null, compared, between, one_of, chained, addend, summed, aggregated, as_aggregate}
 
 -- TRUE | FALSE | NULL
 abbrev pub NamedConstant : Spelling Wide
@@ -99,17 +100,21 @@ Conjunction P = Chain (Symbol.Keyword Key.And) (Negation P) (chained Tree.And)
 abbrev pub Over : Spelling Part → Spelling Part
 Over P = Chain (Symbol.Keyword Key.Or) (Conjunction P) (chained Tree.Or)
 
--- ( expr ), of an aggregate
+-- ( * ) | ( expr ), of COUNT
+abbrev pub Counted : Spelling Part → Spelling Tally
+Counted E = Inside (Either (Glyph Sign.Star (Nothing Tally.All)) (Then E (λ x. Nothing (Tally.Count x))))
+
+-- COUNT ( * ) | (COUNT | SUM) ( expr )
+abbrev pub Tallied : Spelling Part → Spelling Tally
+Tallied E = Either (Word Key.Count (Counted E)) (Word Key.Sum (Then (Inside E) (λ x. Nothing (Tally.Sum x))))
+
+-- ( expr ), of MIN and MAX
 abbrev pub Argument : AggKind → Spelling Part → Spelling Part
 Argument kind E = Then (Inside E) (λ x. Nothing (aggregated kind x))
 
--- ( * ) | ( expr ), of COUNT
-abbrev pub Counted : Spelling Part → Spelling Part
-Counted E = Inside (Either (Glyph Sign.Star (Nothing count_all)) (Then E (λ x. Nothing (aggregated AggKind.Count x))))
-
 -- aggregate = COUNT ( * ) | (COUNT | SUM | MIN | MAX) ( expr )
 abbrev pub Aggregate : Spelling Part → Spelling Part
-Aggregate E = Either (Word Key.Count (Counted E)) (Either (Word Key.Sum (Argument AggKind.Sum E)) (Either (Word Key.Min (Argument AggKind.Min E)) (Word Key.Max (Argument AggKind.Max E))))
+Aggregate E = Either (Then (Tallied E) (λ t. Nothing (as_aggregate t))) (Either (Word Key.Min (Argument AggKind.Min E)) (Word Key.Max (Argument AggKind.Max E)))
 
 -- primary = int | text | DATE text | TRUE | FALSE | NULL | colref | ( expr ), where so many more parentheses may nest
 unfoldable pub Primary : ℕ → Spelling Part

@@ -1,5 +1,5 @@
 -- The trees that a reading makes of its parts.
-use Rattle.std.specs.Prelude.{Bool, true, false, ◌||◌, List, [], ◌∷◌, map, Some, None}
+use Rattle.std.specs.Prelude.{Bool, true, false, ◌||◌, List, [], ◌∷◌, map, Option, Some, None}
 use Rattle.std.specs.List.{list_any}
 use Rattle.col_value.specs.declared.wide.Wide.{Wide}
 use Rattle.sql_tree.specs.declared.tree.AggKind.{AggKind}
@@ -10,6 +10,10 @@ use Rattle.sql_tree.specs.declared.tree.Tree.{Tree}
 use Rattle.sql_tree.specs.declared.tree.Tree
 use Rattle.sql_tree.specs.declared.part.Addend.{Addend}
 use Rattle.sql_tree.specs.declared.part.Part.{Part}
+use Rattle.sql_tree.specs.declared.part.Tally.{Tally}
+use Rattle.sql_tree.specs.declared.query.Window.{Window}
+use Rattle.sql_tree.specs.declared.query.WindowKey.{WindowKey}
+use Rattle.sql_tree.specs.declared.query.WindowKind.{WindowKind}
 
 -- a literal
 abbrev pub constant : Wide → Part
@@ -71,3 +75,23 @@ count_all = record { tree = Tree.Agg AggKind.CountAll None; holds = false }
 -- an aggregate of x
 abbrev pub aggregated : AggKind → Part → Part
 aggregated kind x = record { tree = Tree.Agg kind (Some x.tree); holds = x.holds }
+
+-- a COUNT or SUM as an aggregate
+abbrev pub as_aggregate : Tally → Part
+as_aggregate Tally.All = count_all
+as_aggregate (Tally.Count x) = aggregated AggKind.Count x
+as_aggregate (Tally.Sum x) = aggregated AggKind.Sum x
+
+-- a window function over all rows
+abbrev pub over_all : WindowKind → Option Tree → Window
+over_all kind arg = record { kind = kind; arg = arg; partition = []; order = [] }
+
+-- a COUNT or SUM as a window function
+abbrev pub as_window : Tally → Window
+as_window Tally.All = over_all WindowKind.CountAll None
+as_window (Tally.Count x) = over_all WindowKind.Count (Some x.tree)
+as_window (Tally.Sum x) = over_all WindowKind.Sum (Some x.tree)
+
+-- a window function over parts of the rows, by an order
+abbrev pub over_parts : Window → List ColRef → List WindowKey → Window
+over_parts w partition order = record { kind = w.kind; arg = w.arg; partition = partition; order = order }

@@ -33,6 +33,11 @@ abbrev pub Many : {T V : Type 0} → Phrase T V → Phrase T (List V)
 Many A front [] = front ≡ []
 Many {T} A front (v ∷ vs) = (a : List T) × (b : List T) × (front ≡ a ++ b) × A a v × Many A b vs
 
+-- what A spells, any number of times, in a state that each value changes by `next`
+abbrev pub Turns : {T S V : Type 0} → (S → Phrase T V) → (S → V → S) → S → Phrase T (List V)
+Turns A next s front [] = front ≡ []
+Turns {T} A next s front (v ∷ vs) = (a : List T) × (b : List T) × (front ≡ a ++ b) × A s a v × Turns A next (next s v) b vs
+
 -- what A spells, once or more, with the given symbol between two; f joins the first value and the others
 abbrev pub Chain : {T X V : Type 0} → T → Phrase T X → (X → List X → V) → Phrase T V
 Chain t A f = Then A (λ x. Then (Many (Mark t A)) (λ xs. Nothing (f x xs)))

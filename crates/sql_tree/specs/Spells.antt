@@ -57,6 +57,10 @@ CreatesProjection = Word Key.Projection (Then (One name_of) (λ p. Then (Inside 
 abbrev pub Creates : Spelling Statement
 Creates = Word Key.Create (Either CreatesTable CreatesProjection)
 
+-- ALTER TABLE name ADD COLUMN column DEFAULT literal
+abbrev pub Alters : Spelling Statement
+Alters = Word Key.Alter (Word Key.Table (Then (One name_of) (λ t. Word Key.Add (Word Key.Column (Then NewColumns (λ c. Word Key.Default (Then Literal (λ d. Nothing (Statement.AddColumn (record { table = t; column = c; default = d }))))))))))
+
 -- DROP (TABLE | PROJECTION) name
 abbrev pub Drops : Spelling Statement
 Drops = Word Key.Drop (Either (Word Key.Table (Then (One name_of) (λ t. Nothing (Statement.DropTable t)))) (Word Key.Projection (Then (One name_of) (λ p. Nothing (Statement.DropProjection p)))))
@@ -136,4 +140,4 @@ Controls = Either (Word Key.Commit (Nothing Statement.Commit)) (Either (Word Key
 
 -- the statement that symbols spell
 abbrev pub Spells : Spelling Statement
-Spells = Either Creates (Either Drops (Either Inserts (Either Deletes (Either Updates (Either Copies (Either Selects (Either SelectsAt (Either Explains Controls))))))))
+Spells = Either Creates (Either Alters (Either Drops (Either Inserts (Either Deletes (Either Updates (Either Copies (Either Selects (Either SelectsAt (Either Explains Controls)))))))))

@@ -6,15 +6,16 @@
 
 mod copies;
 mod makers;
+mod modes;
 mod part;
 mod query;
 mod refusal;
 mod statement;
 mod tree;
 
-pub use part::{Addend, Part};
+pub use part::{Addend, Part, Tally};
 pub use query::{
-    At, Item, ItemTree, Items, KeyRef, Query, SortKey, Source, Window, WindowKey, WindowKind,
+    At, Item, ItemTree, Items, KeyRef, ListMode, Query, SortKey, Source, Window, WindowKey, WindowKind,
 };
 pub use refusal::{Refusal, Which};
 pub use statement::{

@@ -1,8 +1,10 @@
 ghost use Rattle.std.specs.Prelude.{◌≡◌, false, [], ◌∷◌, map, IfOk};
 ghost use Rattle.std.specs.List.{list_any};
-ghost use Rattle.sql_tree.specs.Makers.{constant, column, negated, denied, is_null, compared, between, equals, one_of, chained, addend, term, summed, aggregated, count_all};
+ghost use Rattle.sql_tree.specs.Makers.{constant, column, negated, denied, is_null, compared, between, equals, one_of, chained, addend, term, summed, aggregated, count_all, as_aggregate, over_all, as_window, over_parts};
 
-use crate::{Addend, AggKind, Cmp, ColRef, Part, Term, Tree};
+use crate::{
+    Addend, AggKind, Cmp, ColRef, Part, Tally, Term, Tree, Window, WindowKey, WindowKind,
+};
 use col_value::{Boxed, List, Wide};
 use std::alloc::{AllocError, Global};
 
@@ -172,6 +174,56 @@ impl Part {
             tree: Tree::Agg(kind, Some(Boxed::new(alloc, self.tree)?)),
             holds,
         })
+    }
+}
+
+impl Tally {
+    /// A COUNT or SUM as an aggregate.
+    pub fn aggregate(self, alloc: Global) -> Result<Part, AllocError>
+        ensures { IfOk result (λ p. p ≡ as_aggregate self) }
+    {
+        match self {
+            Tally::All => Ok(Part::count_all()),
+            Tally::Count(part) => part.aggregated(alloc, AggKind::Count),
+            Tally::Sum(part) => part.aggregated(alloc, AggKind::Sum),
+        }
+    }
+
+    /// A COUNT or SUM as a window function over all rows.
+    pub fn window(self, alloc: Global) -> Window
+        ensures { result ≡ as_window self }
+    {
+        match self {
+            Tally::All => Window::over_all(alloc, WindowKind::CountAll, None),
+            Tally::Count(part) => Window::over_all(alloc, WindowKind::Count, Some(part.tree)),
+            Tally::Sum(part) => Window::over_all(alloc, WindowKind::Sum, Some(part.tree)),
+        }
+    }
+}
+
+impl Window {
+    /// A window function over all rows.
+    pub fn over_all(alloc: Global, kind: WindowKind, arg: Option<Tree>) -> Window
+        ensures { result ≡ over_all kind arg }
+    {
+        Window {
+            kind,
+            arg,
+            partition: List::new(Vec::new(alloc)),
+            order: List::new(Vec::new(alloc)),
+        }
+    }
+
+    /// A window function over parts of the rows, by an order.
+    pub fn over_parts(self, partition: List<ColRef>, order: List<WindowKey>) -> Window
+        ensures { result ≡ over_parts self partition order }
+    {
+        Window {
+            kind: self.kind,
+            arg: self.arg,
+            partition,
+            order,
+        }
     }
 }
 

@@ -13,3 +13,11 @@ pub struct Addend {
     pub minus: bool,
     pub part: Part,
 }
+
+/// `COUNT(*)`, `COUNT(part)` or `SUM(part)`: an aggregate, or, with OVER behind it, a window function.
+#[derive(Debug, Drop)]
+pub enum Tally {
+    All,
+    Count(Part),
+    Sum(Part),
+}

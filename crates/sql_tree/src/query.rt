@@ -42,6 +42,15 @@ pub struct Item {
     pub alias: Option<Name>,
 }
 
+/// What the items that were read let stand in the rest of their list: all, no window, or no aggregate
+/// outside of a window.
+#[derive(Clone, Copy, Debug, PartialEq, Eq)]
+pub enum ListMode {
+    Free,
+    Grouped,
+    Windowed,
+}
+
 /// A table behind FROM, the name behind its AS, and the condition behind its ON where it was joined.
 #[derive(Debug, Drop)]
 pub struct Source {

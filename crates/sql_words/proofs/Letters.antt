@@ -29,7 +29,7 @@ abbrev behind : ℕ → Bool
 behind n = list_all (is_apart n) (drop (start (n + 1) - start n) (drop (start n) reserved_words))
 
 abbrev is_placed : ℕ → Bool
-is_placed n = before n && (behind n && (leb (start n) (start (n + 1)) && leb (start (n + 1)) 65))
+is_placed n = before n && (behind n && (leb (start n) (start (n + 1)) && leb (start (n + 1)) 73))
 
 abbrev all_below : ℕ → (ℕ → Bool) → Bool
 all_below zero p = true
@@ -50,16 +50,16 @@ one_below (suc k) p all n below =
 placed : (n : ℕ) → n ≤ 26 → is_placed n ≡ true
 placed n below = one_below 27 is_placed all_placed n (omega arith)
 
-starts_fit : (n : ℕ) → n ≤ 26 → (leb (start n) (start (n + 1)) ≡ true) × (leb (start (n + 1)) 65 ≡ true)
+starts_fit : (n : ℕ) → n ≤ 26 → (leb (start n) (start (n + 1)) ≡ true) × (leb (start (n + 1)) 73 ≡ true)
 starts_fit n below =
-    let fits = leb (start n) (start (n + 1)) && leb (start (n + 1)) 65 in
-    and_parts (leb (start n) (start (n + 1))) (leb (start (n + 1)) 65) (and_parts (behind n) fits (and_parts (before n) (behind n && fits) (placed n below)).1).1
+    let fits = leb (start n) (start (n + 1)) && leb (start (n + 1)) 73 in
+    and_parts (leb (start n) (start (n + 1))) (leb (start (n + 1)) 73) (and_parts (behind n) fits (and_parts (before n) (behind n && fits) (placed n below)).1).1
 
 pub starts_in_order : (n : ℕ) → n ≤ 26 → start n ≤ start (n + 1)
 starts_in_order n below = leb-true (start n) (start (n + 1)) (starts_fit n below).0
 
-pub starts_within : (n : ℕ) → n ≤ 26 → start (n + 1) ≤ 65
-starts_within n below = leb-true (start (n + 1)) 65 (starts_fit n below).1
+pub starts_within : (n : ℕ) → n ≤ 26 → start (n + 1) ≤ 73
+starts_within n below = leb-true (start (n + 1)) 73 (starts_fit n below).1
 
 -- words that are the same but for case begin with the same letter
 first_lowered : (word : List ℕ) → to_ascii_lowercase (slice_index word 0) ≡ slice_index (str_to_ascii_lowercase word) 0

@@ -10,7 +10,9 @@ ghost use Rattle.sql_words.specs.Words.{key_in, key_of, reserved_words};
 use crate::token::Key;
 
 /// The reserved words in lower case, in the order of the alphabet.
-pub const RESERVED: [(&str, Key); 65] = [
+pub const RESERVED: [(&str, Key); 73] = [
+    ("add", Key::Add),
+    ("alter", Key::Alter),
     ("and", Key::And),
     ("as", Key::As),
     ("asc", Key::Asc),
@@ -21,11 +23,13 @@ pub const RESERVED: [(&str, Key); 65] = [
     ("block_dict", Key::BlockDict),
     ("boolean", Key::Boolean),
     ("by", Key::By),
+    ("column", Key::Column),
     ("commit", Key::Commit),
     ("copy", Key::Copy),
     ("count", Key::Count),
     ("create", Key::Create),
     ("date", Key::Date),
+    ("default", Key::Default),
     ("delete", Key::Delete),
     ("deltaval", Key::Deltaval),
     ("desc", Key::Desc),
@@ -59,12 +63,16 @@ pub const RESERVED: [(&str, Key); 65] = [
     ("on", Key::On),
     ("or", Key::Or),
     ("order", Key::Order),
+    ("over", Key::Over),
+    ("partition", Key::Partition),
     ("plain", Key::Plain),
     ("projection", Key::Projection),
     ("purge_table", Key::PurgeTable),
+    ("rank", Key::Rank),
     ("refresh", Key::Refresh),
     ("rle", Key::Rle),
     ("rollback", Key::Rollback),
+    ("row_number", Key::RowNumber),
     ("select", Key::Select),
     ("set", Key::Set),
     ("set_ahm_epoch", Key::SetAhmEpoch),
@@ -80,8 +88,8 @@ pub const RESERVED: [(&str, Key); 65] = [
 
 /// The place in `RESERVED` at which each letter's words begin, so that a word is compared with few of them.
 const STARTS: [usize; 28] = [
-    0, 5, 10, 14, 20, 23, 25, 29, 30, 37, 38, 38, 40, 43, 45, 48, 51, 51, 54, 59, 61, 62, 64, 65,
-    65, 65, 65, 65,
+    0, 7, 12, 17, 24, 27, 29, 33, 34, 41, 42, 42, 44, 47, 49, 53, 57, 57, 62, 67,
+    69, 70, 72, 73, 73, 73, 73, 73,
 ];
 
 /// The place in the alphabet of a word's first letter. What is before `a` counts as it, and what is behind `z` is 26.
@@ -100,7 +108,7 @@ fn places_of(letter: usize) -> (usize, usize)
     requires { letter ≤ 26 }
     ensures places { result ≡ (get_or STARTS letter 0, get_or STARTS (letter + 1) 0) }
     ensures order { result.0 ≤ result.1 }
-    ensures within { result.1 ≤ 65 }
+    ensures within { result.1 ≤ 73 }
 {
     (STARTS[letter], STARTS[letter + 1])
 }
@@ -120,7 +128,7 @@ fn key_in(table: &[(&'static str, Key)], word: &[u8]) -> Option<Key>
 
 /// The keyword of the first reserved word that the word is, looked for among those of its first letter.
 fn key_among(table: &[(&'static str, Key)], word: &[u8]) -> Option<Key>
-    requires size { length table.now ≡ 65 }
+    requires size { length table.now ≡ 73 }
     requires words { map (λ e. (e.0.now, e.1)) table.now ≡ reserved_words }
     ensures { result ≡ key_of word.now }
 {
