@@ -22,7 +22,7 @@ use Rattle.sql_bound.specs.Kinds.{Kinds, kind_of_column}
 use Rattle.sql_binding.specs.Changes.{bound_setting, bound_settings, bound_update, column_named, is_narrow_update, is_typed_setting, is_typed_update, item_of, naming_query, set_twice_behind, setting_items, source_of, update_name_refusal, update_refusal, update_scope, update_sight, update_tree_refusal}
 use Rattle.sql_binding.specs.Firsts.{first_given, first_of, given_where, refused_where}
 use Rattle.sql_binding.specs.Queries.{ambiguous_name, column_search, is_known, is_typed_query, row_kinds, unknown_column, unknown_table}
-use Rattle.sql_binding.specs.Search.{first_in_condition, first_in_group, first_in_items, first_in_sources, first_in_tree, shown, whole_rows}
+use Rattle.sql_binding.specs.Search.{first_in_condition, first_in_group, first_in_item, first_in_items, first_in_sources, first_in_tree, shown, whole_rows}
 use Rattle.sql_binding.specs.Sight.{Reach, Seen, fits, fits_twice, is_grouped_by, item_columns, place_of, seen_as}
 use Rattle.sql_binding.specs.Uses.{Use, used_outside, uses, uses_step, uses_term}
 use Rattle.common_laws.proofs.Truths.{and_true}
@@ -70,7 +70,7 @@ known_place : (seen : List Seen) (reach : Reach) (u : Use) → is_known no_group
 known_place seen reach u known =
     place_there (fits reach.last u.column) seen (found_before (fits reach.last u.column) (λ s. (not reach.grouped || u.inside) || (fits_twice seen reach.last u.column || is_grouped_by reach.last no_group s)) seen known)
 
-columns_known : (seen : List Seen) (q : Query) (reach : Reach) (settings : List Setting) → first_given (λ i. first_in_tree (column_search seen q) reach i.tree) (flat_map setting_items settings) ≡ None
+columns_known : (seen : List Seen) (q : Query) (reach : Reach) (settings : List Setting) → first_given (λ i. first_in_item (column_search seen q) reach i.tree) (flat_map setting_items settings) ≡ None
     → All (λ s. first_in_tree (column_search seen q) reach (tree.Col (column_named s.column)) ≡ None) settings
 columns_known seen q reach [] none = All-nil _
 columns_known seen q reach (s ∷ settings) none =

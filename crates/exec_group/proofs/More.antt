@@ -82,7 +82,7 @@ value_taken kind rows ws w =
       | false ↦ counted_more kind rows ws w
     ]
 
-row_taken : (rows : List (List Value)) (row : List Value) (a : Aggregate) → taken (accumulated_over rows a) (argument_in a.arg row) ≡ accumulated_over (rows ++ row ∷ []) a
+pub row_taken : (rows : List (List Value)) (row : List Value) (a : Aggregate) → taken (accumulated_over rows a) (argument_in a.arg row) ≡ accumulated_over (rows ++ row ∷ []) a
 row_taken rows row a =
     value_taken a.kind (length rows) (values_over a.arg rows) (argument_in a.arg row)
     ∙ ap₂ (accumulated a.kind) (sym (length-append rows (row ∷ []))) (sym (values_more a.arg rows row))
@@ -92,7 +92,7 @@ pub all_taken : (rows : List (List Value)) (row : List Value) (aggs : List Aggre
 all_taken rows row [] = refl
 all_taken rows row (a ∷ aggs) = ap₂ (λ (x : Accumulator) (xs : List Accumulator). x ∷ xs) (row_taken rows row a) (all_taken rows row aggs)
 
-no_values : (arg : Option Expr) → values_over arg [] ≡ []
+pub no_values : (arg : Option Expr) → values_over arg [] ≡ []
 no_values None = refl
 no_values (Some e) = refl
 

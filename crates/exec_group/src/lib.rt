@@ -14,3 +14,4 @@ mod total;
 pub use accumulator::Accumulator;
 pub use fault::GroupFault;
 pub use groups::{Grouped, Groups};
+pub use tally::argument_of;

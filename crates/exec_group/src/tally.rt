@@ -54,7 +54,7 @@ impl Tally {
         ensures { OnOk result (self.new ≡ taken_by_all row.now aggs.now self.old) }
     {
         for (i, a) in aggs.iter().enumerate() {
-            take_at(&mut self.list, alloc, i, &argument(a, row))?;
+            take_at(&mut self.list, alloc, i, &argument_of(a, row))?;
         }
         Ok(())
     }
@@ -88,7 +88,7 @@ fn worths(alloc: Global, list: &[Accumulator]) -> Result<Vec<Wide>, GroupFault>
 }
 
 /// The value of the aggregate's argument in the row; NULL where it has none.
-fn argument<'a>(a: &'a Aggregate, row: &'a [Value]) -> Worth<'a>
+pub fn argument_of<'a>(a: &'a Aggregate, row: &'a [Value]) -> Worth<'a>
     requires bounded { is_bounded_aggregate a.now ≡ true }
     requires row { IsRow row.now }
     ensures { wide_of result ≡ argument_in a.now.arg row.now }

@@ -1,12 +1,15 @@
 -- The columns at which an expression looks.
-use Rattle.std.specs.Prelude.{◌≡◌, ℕ, ◌&&◌, nat_le, nat_lt, Bool, true, List, slice_index_or}
+use Rattle.std.specs.Prelude.{◌≡◌, ℕ, ◌==◌, ◌&&◌, ◌||◌, not, nat_le, nat_lt, Bool, true, List, slice_index_or}
 use Rattle.std.specs.List.{list_all}
+use Rattle.std.specs.Option.{option_map_or}
 use Rattle.col_value.specs.declared.value.Value.{Value}
 use Rattle.col_value.specs.declared.value.Value.TheVariants.{Null}
 use Rattle.sql_bound.specs.declared.expr.BoundTerm.{BoundTerm}
 use Rattle.sql_bound.specs.declared.expr.Expr.{Expr}
 use Rattle.sql_bound.specs.declared.expr.Expr.TheOpen.{Expr-F, BoundTerm-F}
 use Rattle.sql_bound.specs.declared.expr.Expr.TheFolds.{fold-BoundTerm, fold-Expr}
+use Rattle.sql_bound.specs.declared.query.BoundQuery.{BoundQuery}
+use Rattle.sql_bound.specs.declared.query.BoundWindow.{BoundWindow}
 use Rattle.sql_bound.specs.Values.{of_row, value_of}
 
 -- one level: each column passes the test
@@ -45,3 +48,17 @@ AgreeOn test a b = (i : ℕ) → test i ≡ true → slice_index_or a i Null ≡
 -- an expression has the same value over rows that agree in the columns at which it looks
 abbrev pub ColumnsDecide : Type 0
 ColumnsDecide = (test : ℕ → Bool) (a b : List Value) (e : Expr) → AgreeOn test a b → looks_only test e ≡ true → value_of (of_row a) e ≡ value_of (of_row b) e
+
+-- the places but one
+abbrev pub is_other : ℕ → ℕ → Bool
+is_other column i = not (i == column)
+
+-- a window, and all parts of a query, look only at columns that pass the test
+abbrev pub window_looks_only : (ℕ → Bool) → BoundWindow → Bool
+window_looks_only test w = list_all test w.partition && list_all (λ k. test k.0) w.order
+
+abbrev pub query_looks_only : (ℕ → Bool) → BoundQuery → Bool
+query_looks_only test q =
+    list_all (looks_only test) q.keep
+    && (list_all test q.keys
+    && (list_all (λ a. option_map_or (looks_only test) a.arg true) q.aggs && (list_all (window_looks_only test) q.windows && (q.grouped || list_all (looks_only test) q.items))))

@@ -3,4 +3,3 @@ pub mod Parts
 pub mod Sights
 pub mod Walks
 pub mod Theres
-pub mod Aggregates

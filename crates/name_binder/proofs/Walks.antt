@@ -1,8 +1,11 @@
 -- The first that is given in lists that are joined.
-use Rattle.std.proofs.Common.{◌≡◌, refl, sym, ap, ◌∙◌, List, [], ◌∷◌, ◌++◌, map, Bool, true, false, Option, None, Some}
+use Rattle.std.proofs.Common.{◌≡◌, refl, sym, ap, ap₂, ◌∙◌, List, [], ◌∷◌, ◌++◌, map, Bool, true, false, Option, None, Some}
 use Rattle.std.specs.List.{flat_map}
 use Rattle.std.specs.Option.{option_map_or}
 use Rattle.sql_tree.specs.declared.tree.Cmp.{Cmp}
+use Rattle.sql_tree.specs.declared.query.Window.{Window}
+use Rattle.sql_tree.specs.declared.query.WindowKey.{WindowKey}
+use Rattle.sql_tree.specs.declared.tree.ColRef.{ColRef}
 use Rattle.sql_tree.specs.declared.tree.Tree.{Tree}
 use Rattle.sql_tree.specs.declared.tree.Tree
 use Rattle.sql_tree.specs.declared.tree.Tree.TheOpen.{Tree-F}
@@ -11,7 +14,7 @@ use Rattle.sql_tree.specs.declared.tree.Term.{Term}
 use Rattle.sql_tree.specs.declared.tree.Tree.TheViews.{roll-Tree, rolls-Sum, rolls-Product, rolls-Compare, rolls-And, rolls-Or, rolls-Agg}
 use Rattle.sql_tree.specs.declared.tree.Tree.TheFolds.{map-Tree, fold-roll-Tree}
 use Rattle.sql_binding.specs.Firsts.{first_of, first_given}
-use Rattle.sql_binding.specs.Uses.{Use, used_inside, uses, uses_step, uses_term}
+use Rattle.sql_binding.specs.Uses.{Use, condition_uses, used_inside, used_outside, uses, uses_step, uses_term, window_uses}
 use Rattle.name_binder.specs.declared.view.View.{View}
 use Rattle.name_binder.specs.Looks.{named_in, term_uses}
 use Rattle.name_binder.proofs.Parts.{first_of_both}
@@ -27,6 +30,19 @@ given_each f g [] = refl
 given_each f g (x ∷ xs) =
     given_joined f (g x) (flat_map (λ p. p) (map g xs))
     ∙ ap (first_of (first_given f (g x))) (given_each f g xs)
+
+given_mapped : {X U Y : Type 0} (f : U → Option Y) (g : X → U) (xs : List X) → first_given f (map g xs) ≡ first_given (λ x. f (g x)) xs
+given_mapped f g [] = refl
+given_mapped f g (x ∷ xs) = ap (first_of (f (g x))) (given_mapped f g xs)
+
+pub in_window : {Y : Type 0} (f : Use → Option Y) (w : Window)
+    → first_given f (window_uses w)
+    ≡ first_of (first_given f (condition_uses w.arg)) (first_of (first_given (λ (r : ColRef). f (used_outside r)) w.partition) (first_given (λ (k : WindowKey). f (used_outside k.column)) w.order))
+in_window f w =
+    given_joined f (condition_uses w.arg) (map used_outside w.partition ++ map (λ (k : WindowKey). used_outside k.column) w.order)
+    ∙ ap (first_of (first_given f (condition_uses w.arg)))
+    (given_joined f (map used_outside w.partition) (map (λ (k : WindowKey). used_outside k.column) w.order)
+    ∙ ap₂ first_of (given_mapped f used_outside w.partition) (given_mapped f (λ (k : WindowKey). used_outside k.column) w.order))
 
 -- inside an aggregate
 pub given_inside : (v : View) (inside : Bool) (us : List Use) → first_given (named_in v true) us ≡ first_given (named_in v inside) (map used_inside us)

@@ -4,7 +4,7 @@ use Rattle.sql_tree.specs.declared.query.Query.{Query}
 use Rattle.sql_tree.specs.declared.tree.Term.{Term}
 use Rattle.sql_tree.specs.declared.tree.Tree.TheFolds.{fold-Term}
 use Rattle.sql_binding.specs.Firsts.{first_of}
-use Rattle.sql_binding.specs.Uses.{Use, uses_step, uses_term, aggregate_step, aggregate_term}
+use Rattle.sql_binding.specs.Uses.{Use, uses_step, uses_term}
 use Rattle.sql_binding.specs.Sight.{Reach}
 use Rattle.sql_binding.specs.Search.{Search, shown, whole_rows, first_in_items, first_in_sources, first_in_condition, first_in_group}
 use Rattle.sql_binding.specs.Queries.{table_search, column_search, twice_search}
@@ -38,9 +38,6 @@ first_before_order s q =
     (first_of (first_in_group s (whole_rows q) q.group)
     (first_in_condition s (shown q) q.having))))
 
--- a part of a sum: the columns that it names, and whether an aggregate stands in it
+-- the columns that a part of a sum names
 abbrev pub term_uses : Term → List Use
 term_uses = fold-Term (List Use) (List Use) uses_step uses_term
-
-abbrev pub term_has_aggregate : Term → Bool
-term_has_aggregate = fold-Term Bool Bool aggregate_step aggregate_term

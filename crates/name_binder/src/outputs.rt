@@ -1,10 +1,10 @@
 ghost use Rattle.std.specs.Prelude.{◌≡◌, IfOk, nat_lt, position, map, Some};
 ghost use Rattle.std.specs.List.{list_any};
-ghost use Rattle.sql_binding.specs.Outputs.{output_name, plain_name, output_names, is_named, count_named};
+ghost use Rattle.sql_binding.specs.Outputs.{output_name, plain_name, tree_name, output_names, is_named, count_named};
 
 use crate::SeenColumn;
 use col_value::Name;
-use sql_tree::{Item, Items, Tree};
+use sql_tree::{Item, ItemTree, Items, Tree};
 use std::alloc::{AllocError, Global};
 
 /// The names of the output columns, where they have one.
@@ -47,7 +47,17 @@ fn output_name(alloc: Global, item: &Item) -> Result<Option<Name>, AllocError>
 {
     match &item.alias {
         Some(alias) => Ok(Some(alias.copy(alloc)?)),
-        None => plain_name(alloc, &item.tree),
+        None => tree_name(alloc, &item.tree),
+    }
+}
+
+/// The name of a plain column; a window has none of its own.
+fn tree_name(alloc: Global, tree: &ItemTree) -> Result<Option<Name>, AllocError>
+    ensures { IfOk result (λ n. n ≡ tree_name tree.now) }
+{
+    match tree {
+        ItemTree::Plain(tree) => plain_name(alloc, tree),
+        ItemTree::Window(_) => Ok(None),
     }
 }
 

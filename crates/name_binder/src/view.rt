@@ -4,14 +4,14 @@ ghost use Rattle.sql_binding.specs.Firsts.{first_given};
 ghost use Rattle.sql_binding.specs.Queries.{is_known};
 ghost use Rattle.sql_binding.specs.Search.{first_in_items, first_in_condition, first_in_group};
 ghost use Rattle.sql_binding.specs.Sight.{fits_twice, is_grouped_by};
-ghost use Rattle.sql_binding.specs.Uses.{uses, used_outside};
+ghost use Rattle.sql_binding.specs.Uses.{item_uses, uses, used_outside, window_uses};
 ghost use Rattle.name_binder.specs.Looks.{looks, named_in, reach_of, used_where, term_uses};
 
 use crate::SeenColumn;
 use crate::look::{Look, given_where, stray_qualifier};
 use crate::seen::{first_fit, fits_twice};
 use col_value::Boxed;
-use sql_tree::{ColRef, Item, Items, Term, Tree};
+use sql_tree::{ColRef, Item, ItemTree, Items, Term, Tree, Window, WindowKey};
 
 /// Where it is looked for: `last` is the place of the last FROM item that is in reach, and `grouped` says that a column has to be one
 /// of GROUP BY.
@@ -81,10 +81,43 @@ impl<'a> View<'a> {
     }
 
     fn first_in_list(self, items: &'a [Item]) -> Option<&'a [u8]>
-        ensures { option_map (λ n. n.now) result ≡ first_given (λ i. first_given (named_in self.entry false) (uses i.tree)) items.entry.now }
+        ensures { option_map (λ n. n.now) result ≡ first_given (λ i. first_given (named_in self.entry false) (item_uses i.tree)) items.entry.now }
     {
         for item in items {
-            if let Some(name) = self.first_in(false, &item.tree) {
+            if let Some(name) = self.first_in_item(&item.tree) {
+                return Some(name);
+            }
+        }
+        None
+    }
+
+    fn first_in_item(self, tree: &'a ItemTree) -> Option<&'a [u8]>
+        ensures { option_map (λ n. n.now) result ≡ first_given (named_in self.entry false) (item_uses tree.now) }
+    {
+        match tree {
+            ItemTree::Plain(tree) => self.first_in(false, tree),
+            ItemTree::Window(window) => self.first_in_window(window),
+        }
+    }
+
+    #[tactic(auto, using(crate::proofs::Walks::in_window))]
+    fn first_in_window(self, window: &'a Window) -> Option<&'a [u8]>
+        ensures { option_map (λ n. n.now) result ≡ first_given (named_in self.entry false) (window_uses window.now) }
+    {
+        if let Some(name) = self.first_in_condition(&window.arg) {
+            return Some(name);
+        }
+        if let Some(name) = self.first_in_group(window.partition.as_slice()) {
+            return Some(name);
+        }
+        self.first_in_keys(window.order.as_slice())
+    }
+
+    fn first_in_keys(self, keys: &'a [WindowKey]) -> Option<&'a [u8]>
+        ensures { option_map (λ n. n.now) result ≡ first_given (λ k. named_in self.entry false (used_outside k.column)) keys.entry.now }
+    {
+        for key in keys {
+            if let Some(name) = self.column(false, &key.column) {
                 return Some(name);
             }
         }

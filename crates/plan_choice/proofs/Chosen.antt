@@ -10,7 +10,8 @@ use Rattle.catalog_types.specs.declared.catalogue.Projection.{Projection}
 use Rattle.sql_bound.specs.declared.query.FromItem.{FromItem}
 use Rattle.sql_bound.specs.declared.query.BoundQuery.{BoundQuery}
 use Rattle.db_model.specs.Database.{Shape, has_columns}
-use Rattle.db_model.specs.Choice.{used_columns, bounded_columns, within_item, is_sorted_by_one, first_sorted, narrowest, or_all, chosen_for}
+use Rattle.db_model.specs.Choice.{bounded_columns, within_item, is_sorted_by_one, first_sorted, narrowest, or_all, chosen_for}
+use Rattle.sql_bound.specs.Used.{used_columns}
 use Rattle.folder_model.specs.Projections.{shape_of}
 use Rattle.plan_choice.specs.Choosing.{serves, is_sorted_well, is_candidate, is_better, best_from}
 use Rattle.plan_choice.proofs.Covered.{query_has}

@@ -19,10 +19,12 @@ use Rattle.sql_bound.specs.declared.expr.Expr.TheFolds.{map-Expr, map-BoundTerm,
 use Rattle.sql_bound.specs.declared.query.Aggregate.{Aggregate}
 use Rattle.sql_bound.specs.declared.query.FromItem.{FromItem}
 use Rattle.sql_bound.specs.declared.query.BoundQuery.{BoundQuery}
+use Rattle.sql_bound.specs.declared.query.BoundWindow.{BoundWindow}
 use Rattle.db_model.specs.Database.{Shape, has_columns}
-use Rattle.db_model.specs.Choice.{columns_step, columns_term, columns_of, used_columns, within_item}
+use Rattle.db_model.specs.Choice.{within_item}
+use Rattle.sql_bound.specs.Used.{columns_step, columns_term, columns_of, columns_of_window, used_columns}
 use Rattle.folder_model.specs.Projections.{shape_of}
-use Rattle.plan_choice.specs.Covering.{covers_column, covers_step, covers_term, covers, covers_part, covers_aggregate, covers_query}
+use Rattle.plan_choice.specs.Covering.{covers_column, covers_step, covers_term, covers, covers_part, covers_aggregate, covers_window, covers_query}
 
 -- of some columns of all FROM items, those of this one are columns of the projection
 abbrev covered : FromItem → List ProjColumn → List ℕ → Bool
@@ -151,6 +153,19 @@ aggregates_are f columns (a ∷ aggs) =
     ap₂ (λ (x y : Bool). x && y) (aggregate_is f columns a.arg) (aggregates_are f columns aggs) ∙ sym (covered_append f columns (aggregate_columns a) (flat_map aggregate_columns aggs))
     ∙ ap (covered f columns) (sym (flat_map-cons aggregate_columns a aggs))
 
+order_are : (f : FromItem) (columns : List ProjColumn) (keys : List (ℕ × Bool)) → list_all (λ k. covers_column f columns k.0) keys ≡ covered f columns (map (λ k. k.0) keys)
+order_are f columns [] = refl
+order_are f columns (k ∷ keys) = ap₂ (λ (x y : Bool). x && y) (covered_one f columns k.0) (order_are f columns keys) ∙ sym (covered_append f columns (k.0 ∷ []) (map (λ (j : ℕ × Bool). j.0) keys))
+
+windows_are : (f : FromItem) (columns : List ProjColumn) (windows : List BoundWindow) → list_all (covers_window f columns) windows ≡ covered f columns (flat_map columns_of_window windows)
+windows_are f columns [] = refl
+windows_are f columns (w ∷ windows) =
+    ap₂ (λ (x y : Bool). x && y)
+    (ap₂ (λ (x y : Bool). x && y) (keys_are f columns w.partition) (order_are f columns w.order) ∙ sym (covered_append f columns w.partition (map (λ (k : ℕ × Bool). k.0) w.order)))
+    (windows_are f columns windows)
+    ∙ sym (covered_append f columns (columns_of_window w) (flat_map columns_of_window windows))
+    ∙ ap (covered f columns) (sym (flat_map-cons columns_of_window w windows))
+
 items_are : (f : FromItem) (columns : List ProjColumn) (grouped : Bool) (es : List Expr)
     → (grouped || list_all (λ b. b) (map (covers f columns) es)) ≡ covered f columns (cond grouped [] (flat_map columns_of es))
 items_are f columns true es = refl
@@ -159,13 +174,16 @@ items_are f columns false es = exprs_are f columns es
 query_covered : (f : FromItem) (columns : List ProjColumn) (q : BoundQuery) → covers_query f columns q ≡ covered f columns (used_columns q)
 query_covered f columns q =
     let items = cond q.grouped [] (flat_map columns_of q.items) in
+    let windows = flat_map columns_of_window q.windows in
     let aggs = flat_map aggregate_columns q.aggs in
     let keep = flat_map columns_of q.keep in
     ap₂ (λ (x y : Bool). x && y) (exprs_are f columns q.keep)
     (ap₂ (λ (x y : Bool). x && y) (keys_are f columns q.keys)
-    (ap₂ (λ (x y : Bool). x && y) (aggregates_are f columns q.aggs) (items_are f columns q.grouped q.items) ∙ sym (covered_append f columns aggs items))
-    ∙ sym (covered_append f columns q.keys (aggs ++ items)))
-    ∙ sym (covered_append f columns keep (q.keys ++ (aggs ++ items)))
+    (ap₂ (λ (x y : Bool). x && y) (aggregates_are f columns q.aggs)
+    (ap₂ (λ (x y : Bool). x && y) (windows_are f columns q.windows) (items_are f columns q.grouped q.items) ∙ sym (covered_append f columns windows items))
+    ∙ sym (covered_append f columns aggs (windows ++ items)))
+    ∙ sym (covered_append f columns q.keys (aggs ++ (windows ++ items))))
+    ∙ sym (covered_append f columns keep (q.keys ++ (aggs ++ (windows ++ items))))
 
 -- ---- the columns of a shape
 

@@ -10,6 +10,7 @@ use Rattle.sql_bound.specs.declared.expr.Expr.TheFolds.{fold-Expr, fold-BoundTer
 use Rattle.sql_bound.specs.declared.query.Aggregate.{Aggregate}
 use Rattle.sql_bound.specs.declared.query.FromItem.{FromItem}
 use Rattle.sql_bound.specs.declared.query.BoundQuery.{BoundQuery}
+use Rattle.sql_bound.specs.declared.query.BoundWindow.{BoundWindow}
 
 -- a column of all FROM items is none of this one's, or one that the projection has
 abbrev pub covers_column : FromItem → List ProjColumn → ℕ → Bool
@@ -41,8 +42,12 @@ covers_part f columns = fold-BoundTerm Bool Bool (covers_step f columns) covers_
 abbrev pub covers_aggregate : FromItem → List ProjColumn → Aggregate → Bool
 covers_aggregate f columns a = option_map_or (covers f columns) a.arg true
 
+abbrev pub covers_window : FromItem → List ProjColumn → BoundWindow → Bool
+covers_window f columns w = list_all (covers_column f columns) w.partition && list_all (λ k. covers_column f columns k.0) w.order
+
 abbrev pub covers_query : FromItem → List ProjColumn → BoundQuery → Bool
 covers_query f columns q =
     list_all (λ b. b) (map (covers f columns) q.keep)
     && (list_all (covers_column f columns) q.keys
-    && (list_all (covers_aggregate f columns) q.aggs && (q.grouped || list_all (λ b. b) (map (covers f columns) q.items))))
+    && (list_all (covers_aggregate f columns) q.aggs
+    && (list_all (covers_window f columns) q.windows && (q.grouped || list_all (λ b. b) (map (covers f columns) q.items)))))

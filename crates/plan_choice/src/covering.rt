@@ -2,10 +2,10 @@
 
 ghost use Rattle.std.specs.Prelude.{◌≡◌, ◌==◌, map};
 ghost use Rattle.std.specs.List.{list_all, list_any};
-ghost use Rattle.plan_choice.specs.Covering.{covers_column, covers, covers_part, covers_aggregate, covers_query};
+ghost use Rattle.plan_choice.specs.Covering.{covers_column, covers, covers_part, covers_aggregate, covers_window, covers_query};
 
 use catalog_types::ProjColumn;
-use sql_bound::{Aggregate, BoundQuery, BoundTerm, Expr, FromItem};
+use sql_bound::{Aggregate, BoundQuery, BoundTerm, BoundWindow, Expr, FromItem};
 
 /// Whether the projection has the table's column of this place.
 fn has_column(c: usize, columns: &[ProjColumn]) -> bool
@@ -97,6 +97,35 @@ fn covers_keys(keys: &[usize], item: FromItem, columns: &[ProjColumn]) -> bool
     true
 }
 
+fn covers_window(window: &BoundWindow, item: FromItem, columns: &[ProjColumn]) -> bool
+    ensures { result ≡ covers_window item columns.now window.now }
+{
+    covers_keys(window.partition.as_slice(), item, columns)
+        && covers_order(window.order.as_slice(), item, columns)
+}
+
+fn covers_order(order: &[(usize, bool)], item: FromItem, columns: &[ProjColumn]) -> bool
+    ensures { result ≡ list_all (λ k. covers_column item columns.now k.0) order.now }
+{
+    for (column, _) in order {
+        if !covers_column(*column, item, columns) {
+            return false;
+        }
+    }
+    true
+}
+
+fn covers_windows(windows: &[BoundWindow], item: FromItem, columns: &[ProjColumn]) -> bool
+    ensures { result ≡ list_all (covers_window item columns.now) windows.now }
+{
+    for window in windows {
+        if !covers_window(window, item, columns) {
+            return false;
+        }
+    }
+    true
+}
+
 /// Whether a projection with these columns has all of this FROM item that the query uses.
 pub fn covers_query(q: &BoundQuery, item: FromItem, columns: &[ProjColumn]) -> bool
     ensures { result ≡ covers_query item columns.now q.now }
@@ -104,5 +133,6 @@ pub fn covers_query(q: &BoundQuery, item: FromItem, columns: &[ProjColumn]) -> b
     covers_all(q.keep.as_slice(), item, columns)
         && covers_keys(q.keys.as_slice(), item, columns)
         && covers_aggregates(q.aggs.as_slice(), item, columns)
+        && covers_windows(q.windows.as_slice(), item, columns)
         && (q.grouped || covers_all(q.items.as_slice(), item, columns))
 }

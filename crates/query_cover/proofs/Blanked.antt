@@ -1,5 +1,5 @@
 -- Rows with NULL in the columns that don't pass a test.
-use Rattle.std.proofs.Common.{◌≡◌, ℕ, zero, suc, ◌+◌, ◌++◌, Bool, true, cond, List, [], ◌∷◌, length, map, get_or, refl, sym, ap, ap₂, ◌∙◌, arith}
+use Rattle.std.proofs.Common.{◌≡◌, ℕ, zero, suc, ◌+◌, ◌++◌, Bool, true, false, cond, List, [], ◌∷◌, length, map, get_or, refl, sym, ap, ap₂, ◌∙◌, arith}
 use Rattle.std.specs.List.{All, flat_map}
 use Rattle.std.proofs.lemmas.List.{map-append}
 use Rattle.std.proofs.lemmas.List.Concat.{flat_map-cons}
@@ -10,7 +10,7 @@ use Rattle.expr_places.specs.Places.{AgreeOn}
 use Rattle.row_history.proofs.Histories.{map_mapped}
 use Rattle.sql_bound.specs.declared.query.FromItem.{FromItem}
 use Rattle.sql_bound.specs.Outputs.{tuples}
-use Rattle.query_cover.specs.Seen.{blanked}
+use Rattle.sql_bound.specs.Used.{blanked}
 
 -- such a row has what it had in the columns that pass
 blank_at : (test : ℕ → Bool) (first : ℕ) (row : List Value) (i : ℕ) → test (first + i) ≡ true → get_or (blanked test first row) i value.Null ≡ get_or row i value.Null
@@ -24,6 +24,14 @@ blank_at test first (v ∷ row) (suc i) is =
 
 pub blank_agrees : (test : ℕ → Bool) (row : List Value) → AgreeOn test (blanked test 0 row) row
 blank_agrees test row i is = let same : 0 + i ≡ i = omega arith in blank_at test 0 row i (ap test same ∙ is)
+
+pub blank_twice : (test : ℕ → Bool) (first : ℕ) (row : List Value) → blanked test first (blanked test first row) ≡ blanked test first row
+blank_twice test first [] = refl
+blank_twice test first (v ∷ row) = ap₂ (λ (x : Value) (xs : List Value). x ∷ xs) (once (test first)) (blank_twice test (first + 1) row)
+  where
+    once : (b : Bool) → cond b (cond b v value.Null) value.Null ≡ cond b v value.Null
+    once true = refl
+    once false = refl
 
 pub blank_length : (test : ℕ → Bool) (first : ℕ) (row : List Value) → length (blanked test first row) ≡ length row
 blank_length test first [] = refl

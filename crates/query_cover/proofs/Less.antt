@@ -12,13 +12,13 @@ use Rattle.col_value.specs.declared.value.Value.{Value}
 use Rattle.col_value.specs.declared.wide.Wide.{Wide}
 use Rattle.sql_bound.specs.declared.expr.Expr.{Expr}
 use Rattle.sql_bound.specs.declared.query.BoundQuery.{BoundQuery}
-use Rattle.sql_bound.specs.Outputs.{is_kept, kept, output, tuples, IsSumTooGreat}
+use Rattle.sql_bound.specs.Outputs.{is_kept, kept, output, tuples, HasGreatSum, IsSumTooGreat}
 use Rattle.sql_bound.specs.Printed.{IsPrinted}
 use Rattle.query_laws.specs.Laws.{ArePermuted}
 use Rattle.query_laws.proofs.AnyOrder.{output_permuted}
 use Rattle.query_laws.proofs.Great.{fails_the_same}
 use Rattle.alike_laws.proofs.Permutes.{rows_permuted}
-use Rattle.query_cover.proofs.Same.{HasGreat, outputs}
+use Rattle.query_cover.proofs.Same.{outputs}
 
 abbrev Rows : Type 0
 Rows = List (List Value)
@@ -67,9 +67,9 @@ printed_less q less out rows more listed bag all printed = record {
 pub great_less : (q : BoundQuery) (less out rows : Rows) (more : List Rows) → SameBag rows (less ++ out) → All (IsOut q.keep) out → IsSumTooGreat q (less ∷ more) → IsSumTooGreat q (rows ∷ more)
 great_less q less out rows more bag all great =
     fails_the_same q ((less ++ out) ∷ more) (rows ∷ more) (IsPermutation-sym rows (less ++ out) (rows_permuted rows (less ++ out) bag), permuted_itself more)
-    (subst (HasGreat q) (sym (kept_less q less out more all)) great)
+    (subst (HasGreatSum q) (sym (kept_less q less out more all)) great)
 
 pub not_great_less : (q : BoundQuery) (less out rows : Rows) (more : List Rows) → SameBag rows (less ++ out) → All (IsOut q.keep) out → IsSumTooGreat q (rows ∷ more) → IsSumTooGreat q (less ∷ more)
 not_great_less q less out rows more bag all great =
-    subst (HasGreat q) (kept_less q less out more all)
+    subst (HasGreatSum q) (kept_less q less out more all)
     (fails_the_same q (rows ∷ more) ((less ++ out) ∷ more) (rows_permuted rows (less ++ out) bag, permuted_itself more) great)

@@ -1,4 +1,3 @@
-pub mod Looks
 pub mod Blanked
 pub mod Same
 pub mod Permuted

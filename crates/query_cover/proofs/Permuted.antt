@@ -11,15 +11,16 @@ use Rattle.col_value.specs.declared.value.Value.{Value}
 use Rattle.col_value.specs.declared.wide.Wide.{Wide}
 use Rattle.sql_bound.specs.declared.query.FromItem.{FromItem}
 use Rattle.sql_bound.specs.declared.query.BoundQuery.{BoundQuery}
-use Rattle.sql_bound.specs.Outputs.{is_kept, kept, output, same_keys, tuples, IsSumTooGreat}
+use Rattle.sql_bound.specs.Outputs.{is_kept, kept, output, same_keys, tuples, HasGreatSum, IsSumTooGreat}
 use Rattle.sql_bound.specs.Printed.{IsPrinted}
 use Rattle.query_laws.specs.Laws.{ArePermuted}
 use Rattle.query_laws.proofs.AnyOrder.{output_permuted}
 use Rattle.query_laws.proofs.Great.{fails_the_same}
 use Rattle.query_laws.proofs.Once.{same_equal, same_itself}
-use Rattle.query_cover.specs.Seen.{AreSeenFrom, blanked, is_used}
+use Rattle.query_cover.specs.Seen.{AreSeenFrom}
+use Rattle.sql_bound.specs.Used.{blanked, is_used}
 use Rattle.query_cover.proofs.Blanked.{blanked_from, HaveWidths, tuples_blanked}
-use Rattle.query_cover.proofs.Same.{great_from, great_to, HasGreat, outputs, query_kept_same, query_same}
+use Rattle.query_cover.proofs.Same.{great_from, great_to, outputs, query_kept_same, query_same}
 
 -- one bag is a permutation, where equality can be tested
 any_counted : {X : Type 0} (p : X → Bool) (xs ys : List X) → SameBag xs ys → list_any p xs ≡ list_any p ys
@@ -120,10 +121,10 @@ printed_seen q seen rows listed are printed = record {
 -- ---- sums
 
 great_blanked : (q : BoundQuery) (inputs : List (List (List Value))) → HaveWidths q.sources inputs → IsSumTooGreat q inputs → IsSumTooGreat q (blanked_from (is_used q) 0 q.sources inputs)
-great_blanked q inputs wide great = subst (HasGreat q) (sym (kept_blanked q inputs wide)) (great_to q (kept q inputs) great)
+great_blanked q inputs wide great = subst (HasGreatSum q) (sym (kept_blanked q inputs wide)) (great_to q (kept q inputs) great)
 
 great_unblanked : (q : BoundQuery) (inputs : List (List (List Value))) → HaveWidths q.sources inputs → IsSumTooGreat q (blanked_from (is_used q) 0 q.sources inputs) → IsSumTooGreat q inputs
-great_unblanked q inputs wide great = great_from q (kept q inputs) (subst (HasGreat q) (kept_blanked q inputs wide) great)
+great_unblanked q inputs wide great = great_from q (kept q inputs) (subst (HasGreatSum q) (kept_blanked q inputs wide) great)
 
 permuted_back : (inputs others : List (List (List Value))) → ArePermuted inputs others → ArePermuted others inputs
 permuted_back [] [] p = tt

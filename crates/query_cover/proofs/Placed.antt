@@ -14,7 +14,8 @@ use Rattle.col_value.specs.Order.{projected}
 use Rattle.row_history.specs.History.{on_columns, retained, visible}
 use Rattle.row_history.proofs.Histories.{bag_visible, visible_columns, visible_retained}
 use Rattle.sql_bound.specs.declared.query.BoundQuery.{BoundQuery}
-use Rattle.query_cover.specs.Seen.{AreSeen, ArePlaces, blanked, is_used, placed, value_at}
+use Rattle.query_cover.specs.Seen.{AreSeen, ArePlaces, placed, value_at}
+use Rattle.sql_bound.specs.Used.{blanked, is_used}
 
 -- From the mark on a projection holds the table's rows with its columns. Then what it shows at an epoch from the mark on is what the table
 -- shows, with its columns.

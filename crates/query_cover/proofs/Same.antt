@@ -1,5 +1,5 @@
 -- What a query makes of tuples is what it makes of them with NULL in the columns that it doesn't use.
-use Rattle.std.proofs.Common.{◌≡◌, ℕ, suc, ◌<◌, not, Bool, true, false, cond, List, [], ◌∷◌, length, map, filter, Option, Some, None, refl, sym, ap, ap₂, ◌∙◌, subst}
+use Rattle.std.proofs.Common.{◌≡◌, ℕ, suc, ◌<◌, not, Bool, true, false, cond, List, [], ◌∷◌, length, map, filter, Option, Some, None, refl, sym, ap, ap₂, ◌∙◌, inl, inr, subst}
 use Rattle.std.specs.Prelude.{◌&&◌}
 use Rattle.std.specs.Option.{option_map_or}
 use Rattle.std.specs.List.{list_all, Contains}
@@ -12,22 +12,17 @@ use Rattle.row_history.proofs.Histories.{filter_mapped, filter_same, map_mapped}
 use Rattle.sql_bound.specs.declared.expr.Expr.{Expr}
 use Rattle.sql_bound.specs.declared.query.Aggregate.{Aggregate}
 use Rattle.sql_bound.specs.declared.query.BoundQuery.{BoundQuery}
+use Rattle.sql_bound.specs.declared.query.BoundWindow.{BoundWindow}
 use Rattle.sql_bound.specs.Bounds.{result_bound}
-use Rattle.sql_bound.specs.Outputs.{aggregate_over, aggregated, distinct, group_keys, group_scope, group_scopes, is_kept, IsGreatSum, keys_of, members, same_keys, scopes, size_of, values_over}
+use Rattle.sql_bound.specs.Outputs.{aggregate_over, aggregated, distinct, group_keys, group_scope, group_scopes, in_partition, is_kept, keys_of, members, same_keys, scopes, seen_rows, size_of, tuple_scopes, values_over, window_scopes, HasGreatSum, IsGreatSum}
 use Rattle.sql_bound.specs.Values.{Scope, is_null, is_true, of_row, value_of}
-use Rattle.query_cover.specs.Seen.{blanked, is_used}
-use Rattle.query_cover.proofs.Looks.{aggs_look, argument_looks, items_look, keep_looks, keys_look, left, right}
-use Rattle.query_cover.proofs.Blanked.{blank_agrees, map_same}
+use Rattle.sql_bound.specs.Used.{blanked, is_used}
+use Rattle.expr_places.proofs.Looks.{aggs_look, argument_looks, items_look, keep_looks, keys_look, left, right}
+use Rattle.query_cover.proofs.Blanked.{blank_agrees, blank_twice, map_same}
 
 -- the items over some tuples, in groups or alone
 abbrev pub outputs : BoundQuery → List (List Value) → List (List Wide)
 outputs q rows = map (λ s. map (value_of s) q.items) (scopes q rows)
-
--- a SUM passes what a result holds in a group of some tuples
-abbrev pub HasGreat : BoundQuery → List (List Value) → Type 0
-HasGreat q rows =
-    (q.grouped ≡ true) × (group : List Value) × (a : Aggregate) × Contains (group_keys q.keys rows) group × Contains q.aggs a
-    × IsGreatSum (members q.keys group rows) a
 
 module _ (test : ℕ → Bool) where
   abbrev blank : List Value → List Value
@@ -108,20 +103,6 @@ module _ (test : ℕ → Bool) where
   alone_same items [] look = refl
   alone_same items (row ∷ rows) look = ap₂ (λ (ws : List Wide) (wss : List (List Wide)). ws ∷ wss) (values_same items row look) (alone_same items rows look)
 
-  outputs_same : (q : BoundQuery) (rows : List (List Value)) → list_all test q.keys ≡ true → list_all (argument_looks test) q.aggs ≡ true → (q.grouped ≡ false → list_all (looks_only test) q.items ≡ true)
-      → outputs q (map blank rows) ≡ outputs q rows
-  outputs_same q rows keys aggs items = by q.grouped refl
-    where
-      by : (b : Bool) → q.grouped ≡ b → outputs q (map blank rows) ≡ outputs q rows
-      by true is =
-          ap (λ (b : Bool). map (λ (s : Scope). map (value_of s) q.items) (cond b (group_scopes q (map blank rows)) (map of_row (map blank rows)))) is
-          ∙ ap (map (λ (s : Scope). map (value_of s) q.items)) (group_scopes_same q rows keys aggs)
-          ∙ sym (ap (λ (b : Bool). map (λ (s : Scope). map (value_of s) q.items) (cond b (group_scopes q rows) (map of_row rows))) is)
-      by false is =
-          ap (λ (b : Bool). map (λ (s : Scope). map (value_of s) q.items) (cond b (group_scopes q (map blank rows)) (map of_row (map blank rows)))) is
-          ∙ alone_same q.items rows (items is)
-          ∙ sym (ap (λ (b : Bool). map (λ (s : Scope). map (value_of s) q.items) (cond b (group_scopes q rows) (map of_row rows))) is)
-
   great_sum_same : (q : BoundQuery) (rows : List (List Value)) (group : List Value) (a : Aggregate) → list_all test q.keys ≡ true → argument_looks test a ≡ true
       → size_of (values_over a.arg (members q.keys group (map blank rows))) ≡ size_of (values_over a.arg (members q.keys group rows))
   great_sum_same q rows group a keys look =
@@ -136,8 +117,23 @@ one_looks test aggs a look (k, lt, is) = by (argument_looks test a) refl
         let none : list_all (argument_looks test) aggs ≡ false = list_all_at (argument_looks test) aggs k a lt (ap (argument_looks test) is ∙ told) in
         absurd (cc)
 
-pub great_from : (q : BoundQuery) (rows : List (List Value)) → HasGreat q (map (blanked (is_used q) 0) rows) → HasGreat q rows
-great_from q rows (grouped, group, a, here, there, big) = (
+-- ---- windows
+
+seen_again : (q : BoundQuery) (rows : List (List Value)) → seen_rows q (map (blanked (is_used q) 0) rows) ≡ seen_rows q rows
+seen_again q rows =
+    map_mapped (blanked (is_used q) 0) (blanked (is_used q) 0) rows
+    ∙ map_same (λ (row : List Value). blanked (is_used q) 0 (blanked (is_used q) 0 row)) (blanked (is_used q) 0) (λ row. blank_twice (is_used q) 0 row) rows
+
+abbrev items_of : BoundQuery → List Scope → List (List Wide)
+items_of q ss = map (λ s. map (value_of s) q.items) ss
+
+tuples_same : (windows : List BoundWindow) (q : BoundQuery) (rows : List (List Value)) → q.grouped ≡ false
+    → items_of q (tuple_scopes windows q (map (blanked (is_used q) 0) rows)) ≡ items_of q (tuple_scopes windows q rows)
+tuples_same [] q rows plain = alone_same (is_used q) q.items rows (items_look q plain)
+tuples_same (w ∷ windows) q rows plain = ap (λ (seen : List (List Value)). items_of q (window_scopes q seen)) (seen_again q rows)
+
+pub great_from : (q : BoundQuery) (rows : List (List Value)) → HasGreatSum q (map (blanked (is_used q) 0) rows) → HasGreatSum q rows
+great_from q rows (inl (grouped, group, a, here, there, big)) = inl (
   grouped,
   group,
   a,
@@ -145,9 +141,17 @@ great_from q rows (grouped, group, a, here, there, big) = (
   there,
   (big.0, subst (λ (n : ℕ). result_bound < n) (great_sum_same (is_used q) q rows group a (keys_look q) (one_looks (is_used q) q.aggs a (aggs_look q) there)) big.1),
 )
+great_from q rows (inr (plain, p, row, window, here, big)) = inr (
+  plain,
+  p,
+  row,
+  window,
+  subst (λ (seen : List (List Value)). Contains seen row) (seen_again q rows) here,
+  subst (λ (seen : List (List Value)). IsGreatSum (filter (in_partition p.0 row) seen) p.1) (seen_again q rows) big,
+)
 
-pub great_to : (q : BoundQuery) (rows : List (List Value)) → HasGreat q rows → HasGreat q (map (blanked (is_used q) 0) rows)
-great_to q rows (grouped, group, a, here, there, big) = (
+pub great_to : (q : BoundQuery) (rows : List (List Value)) → HasGreatSum q rows → HasGreatSum q (map (blanked (is_used q) 0) rows)
+great_to q rows (inl (grouped, group, a, here, there, big)) = inl (
   grouped,
   group,
   a,
@@ -155,9 +159,30 @@ great_to q rows (grouped, group, a, here, there, big) = (
   there,
   (big.0, subst (λ (n : ℕ). result_bound < n) (sym (great_sum_same (is_used q) q rows group a (keys_look q) (one_looks (is_used q) q.aggs a (aggs_look q) there))) big.1),
 )
+great_to q rows (inr (plain, p, row, window, here, big)) = inr (
+  plain,
+  p,
+  row,
+  window,
+  subst (λ (seen : List (List Value)). Contains seen row) (sym (seen_again q rows)) here,
+  subst (λ (seen : List (List Value)). IsGreatSum (filter (in_partition p.0 row) seen) p.1) (sym (seen_again q rows)) big,
+)
 
 pub query_same : (q : BoundQuery) (rows : List (List Value)) → outputs q (map (blanked (is_used q) 0) rows) ≡ outputs q rows
-query_same q rows = outputs_same (is_used q) q rows (keys_look q) (aggs_look q) (items_look q)
+query_same q rows = by q.grouped refl
+  where
+    blank : List (List Value)
+    blank = map (blanked (is_used q) 0) rows
+
+    by : (b : Bool) → q.grouped ≡ b → outputs q blank ≡ outputs q rows
+    by true is =
+        ap (λ (b : Bool). items_of q (cond b (group_scopes q blank) (tuple_scopes q.windows q blank))) is
+        ∙ ap (items_of q) (group_scopes_same (is_used q) q rows (keys_look q) (aggs_look q))
+        ∙ sym (ap (λ (b : Bool). items_of q (cond b (group_scopes q rows) (tuple_scopes q.windows q rows))) is)
+    by false is =
+        ap (λ (b : Bool). items_of q (cond b (group_scopes q blank) (tuple_scopes q.windows q blank))) is
+        ∙ tuples_same q.windows q rows is
+        ∙ sym (ap (λ (b : Bool). items_of q (cond b (group_scopes q rows) (tuple_scopes q.windows q rows))) is)
 
 pub query_kept_same : (q : BoundQuery) (rows : List (List Value)) → filter (is_kept q.keep) (map (blanked (is_used q) 0) rows) ≡ map (blanked (is_used q) 0) (filter (is_kept q.keep) rows)
 query_kept_same q rows = all_kept_same (is_used q) q.keep rows (keep_looks q)

@@ -77,11 +77,11 @@ pub any_alike : {X : Type 0} (p : X → Bool) (xs ys : List X) → Alike xs ys �
 any_alike p xs ys a = any_counted p xs ∙ ap (nat_lt 0) (a.sums (λ x. cond (p x) 1 0)) ∙ sym (any_counted p ys)
 
 -- where an element stands in a list
-Place : {X : Type 0} → X → List X → Type 0
+pub Place : {X : Type 0} → X → List X → Type 0
 Place {X} x ys = (us : List X) × (vs : List X) × (ys ≡ us ++ x ∷ vs)
 
 module _ {X : Type 0} (same : X → X → Bool) (exact : (a b : X) → same a b ≡ true → a ≡ b) (itself : (a : X) → same a a ≡ true) where
-  place : (x : X) (ys : List X) → list_any (same x) ys ≡ true → Place x ys
+  pub place : (x : X) (ys : List X) → list_any (same x) ys ≡ true → Place x ys
   unfolding Place
   place x [] e = cc
   place x (y ∷ ys) e =
@@ -90,7 +90,7 @@ module _ {X : Type 0} (same : X → X → Bool) (exact : (a b : X) → same a b 
         | false ↦ λ h k. let p = place x ys k in (y ∷ p.0, p.1, ap (λ (l : List X). y ∷ l) p.2)
       ] refl e
 
-  cancelled : (x : X) (xs us vs : List X) → Alike (x ∷ xs) (us ++ x ∷ vs) → Alike xs (us ++ vs)
+  pub cancelled : (x : X) (xs us vs : List X) → Alike (x ∷ xs) (us ++ x ∷ vs) → Alike xs (us ++ vs)
   cancelled x xs us vs a = record {
     sums = λ f. omega (arith, a.sums f, sum_by-cons f x xs, sum_by-append f us (x ∷ vs), sum_by-cons f x vs, sum_by-append f us vs);
   }

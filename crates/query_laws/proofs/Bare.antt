@@ -14,7 +14,8 @@ use Rattle.sql_bound.specs.declared.expr.Expr.TheFolds.{fold-roll-Expr}
 use Rattle.sql_bound.specs.declared.expr.Expr.TheOpen.{Expr-F}
 use Rattle.sql_bound.specs.declared.expr.Expr.TheVariants as expr
 use Rattle.sql_bound.specs.declared.query.BoundQuery.{BoundQuery}
-use Rattle.sql_bound.specs.Outputs.{group_scopes, is_kept, kept, output, tuples}
+use Rattle.sql_bound.specs.declared.query.BoundWindow.{BoundWindow}
+use Rattle.sql_bound.specs.Outputs.{group_scopes, is_kept, kept, output, tuple_scopes, tuples}
 use Rattle.sql_bound.specs.Printed.{limited}
 use Rattle.sql_bound.specs.Values.{compared, is_null, is_true, of_row, term_step, value_of, value_step, Scope}
 use Rattle.query_laws.specs.Laws.{IsBare, PrintsAll, NullIsNotKept}
@@ -30,7 +31,8 @@ over_rows {X} {Y} {Z} f g (x ∷ xs) = ap (λ (l : List Z). f (g x) ∷ l) (over
 bare_output : (q : BoundQuery) → IsBare q → (inputs : List (List (List Value))) → output q inputs ≡ map (λ row. map (value_of (of_row row)) q.items) (tuples inputs)
 bare_output q b inputs =
     let items = λ (s : Scope). map (value_of s) q.items in
-    ap (λ t. map items (if t then group_scopes q (kept q inputs) else map of_row (kept q inputs))) b.rows
+    ap (λ t. map items (if t then group_scopes q (kept q inputs) else tuple_scopes q.windows q (kept q inputs))) b.rows
+    ∙ ap (λ (ws : List BoundWindow). map items (tuple_scopes ws q (kept q inputs))) b.alone
     ∙ over_rows items of_row (kept q inputs)
     ∙ ap (λ (keep : List Expr). map (λ row. items (of_row row)) (filter (is_kept keep) (tuples inputs))) b.all
     ∙ ap (λ (rows : List (List Value)). map (λ row. items (of_row row)) rows) (all_kept (tuples inputs))

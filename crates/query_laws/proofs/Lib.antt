@@ -5,7 +5,11 @@ pub mod Bare
 pub mod Best
 pub mod Great
 pub mod NarrowLess
+pub mod Numbered
 pub mod Once
+pub mod Sames
 pub mod Sequences
 pub mod Shown
 pub mod TupleRows
+pub mod Windowed
+pub mod WindowOrders

@@ -1,5 +1,5 @@
 -- Queries whose expressions have static bounds.
-use Rattle.std.specs.Prelude.{◌≡◌, ℕ, if◌then◌else◌, Bool, true, List, [], map}
+use Rattle.std.specs.Prelude.{◌≡◌, ℕ, Bool, true, List, [], map}
 use Rattle.std.specs.List.{All}
 use Rattle.std.specs.Option.{option_map_or}
 use Rattle.sql_bound.specs.declared.query.Aggregate.{Aggregate}
@@ -10,9 +10,9 @@ use Rattle.sql_bound.specs.Bounds.{bound_of_aggregate, is_narrow}
 abbrev pub is_bounded_aggregate : Aggregate → Bool
 is_bounded_aggregate a = option_map_or (is_narrow []) a.arg true
 
--- the bounds of the aggregates that items and HAVING may look at
+-- the bounds of the aggregates that items and HAVING may look at; those of windows are over their frames
 abbrev pub seen_bounds : BoundQuery → List ℕ
-seen_bounds q = if q.grouped then map bound_of_aggregate q.aggs else []
+seen_bounds q = map bound_of_aggregate q.aggs
 
 -- The conditions, the arguments of the aggregates, the items and HAVING have static bounds: no number in them passes what a
 -- result holds.

@@ -29,9 +29,10 @@ PrintsTheSame q =
 abbrev pub FailsTheSame : BoundQuery → Type 0
 FailsTheSame q = (inputs others : List (List (List Value))) → ArePermuted inputs others → IsSumTooGreat q inputs → IsSumTooGreat q others
 
--- a query without groups, without a condition of ON or WHERE, and without LIMIT
+-- a query without groups and windows, without a condition of ON or WHERE, and without LIMIT
 pub record IsBare (q : BoundQuery) : Type 0 where
   pub rows : q.grouped ≡ false
+  pub alone : q.windows ≡ []
   pub all : q.keep ≡ []
   pub whole : q.limit ≡ None
 

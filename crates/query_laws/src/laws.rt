@@ -13,7 +13,7 @@ pub fn order_of_rows_is_free()
     ensures fault { (q : BoundQuery) → FailsTheSame q }
 {}
 
-/// A query without groups, ON, WHERE and LIMIT prints every tuple of the product once.
+/// A query without groups, windows, ON, WHERE and LIMIT prints every tuple of the product once.
 pub fn bare_query_prints_all()
     ensures { (q : BoundQuery) → IsBare q → PrintsAll q }
 {}

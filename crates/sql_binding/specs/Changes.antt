@@ -6,6 +6,7 @@ use Rattle.sql_tree.specs.declared.tree.Tree.{Tree}
 use Rattle.sql_tree.specs.declared.tree.Tree as tree
 use Rattle.sql_tree.specs.declared.query.Item.{Item}
 use Rattle.sql_tree.specs.declared.query.Items.{Items}
+use Rattle.sql_tree.specs.declared.query.ItemTree.{ItemTree}
 use Rattle.sql_tree.specs.declared.query.Query.{Query}
 use Rattle.sql_tree.specs.declared.query.Source.{Source}
 use Rattle.sql_tree.specs.declared.statement.Delete.{Delete}
@@ -49,7 +50,7 @@ update_query u = query_over u.table Items.Star u.keep
 
 -- the names of an UPDATE stand as those of a query: for each setting its column, and then what it is set to
 abbrev pub item_of : Tree → Item
-item_of t = record { tree = t; alias = None }
+item_of t = record { tree = ItemTree.Plain t; alias = None }
 
 abbrev pub column_named : List ℕ → ColRef
 column_named name = record { qualifier = None; name = name }

@@ -6,6 +6,7 @@ use Rattle.std.specs.Fmt.{signed_decimal}
 use Rattle.sql_tree.specs.declared.tree.Tree.{Tree}
 use Rattle.sql_tree.specs.declared.query.Item.{Item}
 use Rattle.sql_tree.specs.declared.query.Items.{Items}
+use Rattle.sql_tree.specs.declared.query.ItemTree.{ItemTree}
 use Rattle.sql_tree.specs.declared.query.KeyRef.{KeyRef}
 use Rattle.sql_tree.specs.declared.query.SortKey.{SortKey}
 use Rattle.sql_binding.specs.Firsts.{given_where}
@@ -16,8 +17,13 @@ abbrev pub plain_name : Tree → Option (List ℕ)
 plain_name (Tree.Col r) = Some r.name
 plain_name tree = None
 
+-- a window has no name of its own
+abbrev pub tree_name : ItemTree → Option (List ℕ)
+tree_name (ItemTree.Plain tree) = plain_name tree
+tree_name (ItemTree.Window w) = None
+
 abbrev pub output_name : Item → Option (List ℕ)
-output_name i = option_map_or (λ a. Some a) i.alias (plain_name i.tree)
+output_name i = option_map_or (λ a. Some a) i.alias (tree_name i.tree)
 
 -- the names of the output columns, where they have one; `*` stands for all columns in sight
 abbrev pub output_names : List Seen → Items → List (Option (List ℕ))

@@ -6,6 +6,7 @@ use Rattle.sql_tree.specs.declared.tree.ColRef.{ColRef}
 use Rattle.sql_tree.specs.declared.query.Items.{Items}
 use Rattle.sql_tree.specs.declared.query.Source.{Source}
 use Rattle.sql_tree.specs.declared.query.Query.{Query}
+use Rattle.sql_tree.specs.declared.query.Window.{Window}
 use Rattle.sql_tree.specs.declared.refusal.Refusal.{Refusal}
 use Rattle.sql_tree.specs.declared.refusal.Which.{Which}
 use Rattle.col_value.specs.declared.column.Column.{Column}
@@ -20,7 +21,7 @@ use Rattle.sql_binding.specs.Firsts.{first_of, given_where, refused_where, all_t
 use Rattle.sql_binding.specs.Uses.{Use, is_grouped}
 use Rattle.sql_binding.specs.Sight.{Seen, Reach, item_name, sight, fits, fits_twice, is_grouped_by}
 use Rattle.sql_binding.specs.Search.{Search, first_in_query}
-use Rattle.sql_binding.specs.Trees.{Scope, Bound, bound, bound_column, column_of, rows_of, groups_of, all_aggs}
+use Rattle.sql_binding.specs.Trees.{Scope, Bound, bound, bound_column, bound_window, window_aggregate, column_of, items_behind, windows_in, rows_of, groups_of, all_aggs}
 use Rattle.sql_binding.specs.Conjuncts.{condition_members}
 use Rattle.sql_binding.specs.Outputs.{output_names, unknown_key, twice_named, bound_order}
 
@@ -109,7 +110,12 @@ whole_scope seen q = scope_to seen q (length q.sources)
 -- the items: `*` stands for all columns in sight
 abbrev pub bound_items : List Seen → Query → Items → List (Bound Expr)
 bound_items seen q Items.Star = map (λ e. bound_column (whole_scope seen q) e.0) (enumerate_from 0 seen)
-bound_items seen q (Items.Listed items) = map (λ i. bound (whole_scope seen q) i.tree) items
+bound_items seen q (Items.Listed items) = items_behind (whole_scope seen q) 0 items
+
+-- the windows among the items
+abbrev pub windows_of : Items → List Window
+windows_of Items.Star = []
+windows_of (Items.Listed items) = flat_map (λ i. windows_in i.tree) items
 
 -- the conditions of ON and WHERE, split at their ANDs
 abbrev pub on_members : List Seen → Query → ℕ × Source → List Expr
@@ -128,8 +134,9 @@ over_rows tables seen q = record {
   keep = bound_keep seen q;
   grouped = false;
   keys = [];
-  aggs = [];
+  aggs = map (window_aggregate (whole_scope seen q)) (windows_of q.items);
   having = None;
+  windows = map (bound_window (whole_scope seen q)) (windows_of q.items);
   items = rows_of (bound_items seen q q.items);
   order = bound_order (output_names seen q.items) q.order;
   limit = q.limit;
@@ -146,6 +153,7 @@ over_groups tables seen q = record {
   keys = grouping seen q;
   aggs = all_aggs (bound_items seen q q.items) ++ aggs_of_having (bound_having seen q);
   having = option_map (λ b. b.group (length (all_aggs (bound_items seen q q.items)))) (bound_having seen q);
+  windows = [];
   items = groups_of (bound_items seen q q.items) 0;
   order = bound_order (output_names seen q.items) q.order;
   limit = q.limit;
@@ -169,16 +177,19 @@ row_kinds seen = record { columns = map (λ s. kind_of_column s.column.kind) see
 abbrev pub kind_or_null : Option Kind → Kind
 kind_or_null k = option_map_or (λ k. k) k Kind.Null
 
+abbrev pub aggregate_kinds : Kinds → List Aggregate → List Kind
+aggregate_kinds rows aggs = map (λ a. kind_or_null (kind_of_aggregate rows a)) aggs
+
 -- over groups, the kinds of the GROUP BY columns and of the aggregates, and no columns
 abbrev pub group_kinds : Kinds → BoundQuery → Kinds
-group_kinds rows b = record {
-  columns = [];
-  keys = map (λ k. slice_index_or rows.columns k Kind.Null) b.keys;
-  aggs = map (λ a. kind_or_null (kind_of_aggregate rows a)) b.aggs;
-}
+group_kinds rows b = record { columns = []; keys = map (λ k. slice_index_or rows.columns k Kind.Null) b.keys; aggs = aggregate_kinds rows b.aggs }
+
+-- over tuples, the kinds of the columns and of what the windows are
+abbrev pub tuple_kinds : Kinds → BoundQuery → Kinds
+tuple_kinds rows b = record { columns = rows.columns; keys = []; aggs = aggregate_kinds rows b.aggs }
 
 abbrev pub shown_kinds : Kinds → BoundQuery → Kinds
-shown_kinds rows b = if b.grouped then group_kinds rows b else rows
+shown_kinds rows b = if b.grouped then group_kinds rows b else tuple_kinds rows b
 
 abbrev pub is_typed : Kinds → Expr → Bool
 is_typed s e = is_some (kind_of s e)

@@ -4,11 +4,12 @@ use Rattle.std.specs.List.{enumerate_from}
 use Rattle.sql_tree.specs.declared.tree.ColRef.{ColRef}
 use Rattle.sql_tree.specs.declared.tree.Tree.{Tree}
 use Rattle.sql_tree.specs.declared.query.Items.{Items}
+use Rattle.sql_tree.specs.declared.query.ItemTree.{ItemTree}
 use Rattle.sql_tree.specs.declared.query.KeyRef.{KeyRef}
 use Rattle.sql_tree.specs.declared.query.Source.{Source}
 use Rattle.sql_tree.specs.declared.query.Query.{Query}
 use Rattle.sql_binding.specs.Firsts.{first_of, first_given}
-use Rattle.sql_binding.specs.Uses.{Use, used_outside, uses, condition_uses, is_grouped}
+use Rattle.sql_binding.specs.Uses.{Use, used_outside, uses, item_uses, condition_uses, is_grouped}
 use Rattle.sql_binding.specs.Sight.{Reach}
 
 -- what is named at `*`, at a FROM item by its place, at a column within a clause's reach, and at a key of ORDER BY
@@ -32,12 +33,15 @@ shown q = record { last = length q.sources; grouped = is_grouped q }
 abbrev pub first_in_tree : Search → Reach → Tree → Option (List ℕ)
 first_in_tree s reach tree = first_given (s.column reach) (uses tree)
 
+abbrev pub first_in_item : Search → Reach → ItemTree → Option (List ℕ)
+first_in_item s reach tree = first_given (s.column reach) (item_uses tree)
+
 abbrev pub first_in_condition : Search → Reach → Option Tree → Option (List ℕ)
 first_in_condition s reach keep = first_given (s.column reach) (condition_uses keep)
 
 abbrev pub first_in_items : Search → Reach → Items → Option (List ℕ)
 first_in_items s reach Items.Star = s.star
-first_in_items s reach (Items.Listed items) = first_given (λ i. first_in_tree s reach i.tree) items
+first_in_items s reach (Items.Listed items) = first_given (λ i. first_in_item s reach i.tree) items
 
 -- a FROM item stands before its ON
 abbrev pub first_in_source : Search → ℕ × Source → Option (List ℕ)

@@ -9,10 +9,15 @@ use Rattle.sql_tree.specs.declared.tree.Tree.{Tree}
 use Rattle.sql_tree.specs.declared.tree.Tree.TheOpen.{Tree-F, Term-F}
 use Rattle.sql_tree.specs.declared.tree.Tree.TheFolds.{fold-Tree, fold-Term}
 use Rattle.sql_tree.specs.declared.tree.Term.{Term}
+use Rattle.sql_tree.specs.declared.query.Item.{Item}
+use Rattle.sql_tree.specs.declared.query.ItemTree.{ItemTree}
+use Rattle.sql_tree.specs.declared.query.Window.{Window}
+use Rattle.sql_tree.specs.declared.query.WindowKind.{WindowKind}
 use Rattle.sql_bound.specs.declared.expr.Expr.{Expr}
 use Rattle.sql_bound.specs.declared.expr.Expr as expr
 use Rattle.sql_bound.specs.declared.expr.BoundTerm.{BoundTerm}
 use Rattle.sql_bound.specs.declared.query.Aggregate.{Aggregate}
+use Rattle.sql_bound.specs.declared.query.BoundWindow.{BoundWindow}
 use Rattle.sql_binding.specs.Sight.{Seen, place_of}
 
 -- Where names are looked up: the columns in sight, the place of the last FROM item that is in reach, and the GROUP BY columns.
@@ -90,3 +95,32 @@ bound s = fold-Tree (Bound Expr) (Bound BoundTerm) (bind_step s) bind_term
 
 abbrev pub bound_term : Scope → Term → Bound BoundTerm
 bound_term s = fold-Term (Bound Expr) (Bound BoundTerm) (bind_step s) bind_term
+
+-- ---- items
+
+-- a window: its places, and the aggregate that it is over its frame; a number of a row counts tuples
+abbrev pub bound_window : Scope → Window → BoundWindow
+bound_window s w = record { kind = w.kind; partition = map (column_of s) w.partition; order = map (λ k. (column_of s k.column, k.descending)) w.order }
+
+abbrev pub aggregate_kind : WindowKind → AggKind
+aggregate_kind WindowKind.RowNumber = AggKind.CountAll
+aggregate_kind WindowKind.Rank = AggKind.CountAll
+aggregate_kind WindowKind.CountAll = AggKind.CountAll
+aggregate_kind WindowKind.Count = AggKind.Count
+aggregate_kind WindowKind.Sum = AggKind.Sum
+
+abbrev pub window_aggregate : Scope → Window → Aggregate
+window_aggregate s w = record { kind = aggregate_kind w.kind; arg = option_map (λ tree. (bound s tree).row) w.arg }
+
+abbrev pub windows_in : ItemTree → List Window
+windows_in (ItemTree.Plain tree) = []
+windows_in (ItemTree.Window w) = w ∷ []
+
+-- an item before which so many windows stand: a window is its value
+abbrev pub bound_item : Scope → ℕ → ItemTree → Bound Expr
+bound_item s before (ItemTree.Plain tree) = bound s tree
+bound_item s before (ItemTree.Window w) = without_aggregate (expr.Agg before)
+
+abbrev pub items_behind : Scope → ℕ → List Item → List (Bound Expr)
+items_behind s before [] = []
+items_behind s before (i ∷ items) = bound_item s before i.tree ∷ items_behind s (before + length (windows_in i.tree)) items

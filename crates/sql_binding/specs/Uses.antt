@@ -7,7 +7,10 @@ use Rattle.sql_tree.specs.declared.tree.Tree.{Tree}
 use Rattle.sql_tree.specs.declared.tree.Tree.TheOpen.{Tree-F, Term-F}
 use Rattle.sql_tree.specs.declared.tree.Tree.TheFolds.{fold-Tree}
 use Rattle.sql_tree.specs.declared.query.Items.{Items}
+use Rattle.sql_tree.specs.declared.query.ItemTree.{ItemTree}
 use Rattle.sql_tree.specs.declared.query.Query.{Query}
+use Rattle.sql_tree.specs.declared.query.Window.{Window}
+use Rattle.sql_tree.specs.Modes.{has_aggregate}
 use Rattle.sql_binding.specs.Firsts.{is_empty}
 
 -- a column that an expression names, and whether it stands inside an aggregate
@@ -45,30 +48,24 @@ uses = fold-Tree (List Use) (List Use) uses_step uses_term
 abbrev pub condition_uses : Option Tree → List Use
 condition_uses keep = option_map_or uses keep []
 
--- an aggregate stands in an expression
-abbrev pub aggregate_step : Tree-F Bool Bool → Bool
-aggregate_step (Tree-F.Lit w) = false
-aggregate_step (Tree-F.Col r) = false
-aggregate_step (Tree-F.Neg a) = a
-aggregate_step (Tree-F.Sum parts) = list_any (λ b. b) parts
-aggregate_step (Tree-F.Product parts) = list_any (λ b. b) parts
-aggregate_step (Tree-F.Compare a c b) = a || b
-aggregate_step (Tree-F.IsNull a) = a
-aggregate_step (Tree-F.Not a) = a
-aggregate_step (Tree-F.And parts) = list_any (λ b. b) parts
-aggregate_step (Tree-F.Or parts) = list_any (λ b. b) parts
-aggregate_step (Tree-F.Agg k a) = true
+-- those of a window: its argument's, and those of PARTITION BY and ORDER BY
+abbrev pub window_uses : Window → List Use
+window_uses w = condition_uses w.arg ++ (map used_outside w.partition ++ map (λ k. used_outside k.column) w.order)
 
-abbrev pub aggregate_term : Term-F Bool Bool → Bool
-aggregate_term t = t.part
+-- those of an item
+abbrev pub item_uses : ItemTree → List Use
+item_uses (ItemTree.Plain tree) = uses tree
+item_uses (ItemTree.Window w) = window_uses w
 
-abbrev pub has_aggregate : Tree → Bool
-has_aggregate = fold-Tree Bool Bool aggregate_step aggregate_term
+-- an aggregate stands in an item, outside of a window
+abbrev pub item_has_aggregate : ItemTree → Bool
+item_has_aggregate (ItemTree.Plain tree) = has_aggregate tree
+item_has_aggregate (ItemTree.Window w) = false
 
 -- an aggregate stands among the items
 abbrev pub have_aggregate : Items → Bool
 have_aggregate Items.Star = false
-have_aggregate (Items.Listed items) = list_any (λ i. has_aggregate i.tree) items
+have_aggregate (Items.Listed items) = list_any (λ i. item_has_aggregate i.tree) items
 
 -- a query is grouped where it has GROUP BY, HAVING or an aggregate
 abbrev pub is_grouped : Query → Bool

@@ -1,5 +1,5 @@
 -- The output rows of a query, in some order.
-use Rattle.std.specs.Prelude.{◌≡◌, ℕ, ℤ, pos, ◌+◌, ◌+ℤ◌, ◌<◌, ◌++◌, ◌&&◌, ◌⊎◌, not, if◌then◌else◌, Bool, true, false, List, [], ◌∷◌, length, map, filter, fold, count_by, Option, Some, None}
+use Rattle.std.specs.Prelude.{◌≡◌, ℕ, ℤ, pos, ◌+◌, ◌+ℤ◌, ◌<◌, ◌++◌, ◌&&◌, ◌⊎◌, not, if◌then◌else◌, Bool, true, false, List, [], ◌∷◌, length, map, filter, fold, zip, count_by, Option, Some, None}
 use Rattle.std.specs.List.{Contains, list_all, flat_map, enumerate_from, slice_index_or}
 use Rattle.std.specs.Option.{option_map_or}
 use Rattle.std.specs.declared.cmp.Ordering.{Ordering}
@@ -130,23 +130,12 @@ stands_before w row other = in_partition w row other && is_lt (window_cmp w.orde
 abbrev pub in_frame : BoundWindow → List Value → List Value → Bool
 in_frame w row other = in_partition w row other && is_le (window_cmp w.order other row)
 
--- ROW_NUMBER counts tuples, each with its place in the list: by the keys, peers by all that is seen of them, and alike peers by their places
-abbrev pub number_cmp : BoundWindow → (List Value → List Value) → ℕ × List Value → ℕ × List Value → Ordering
-number_cmp w seen = then_cmp (on (λ t. t.1) (window_cmp w.order)) (then_cmp (on (λ t. seen t.1) row_cmp) (on (λ t. t.0) nat_cmp))
+-- tuples with their places in the list: by the keys, peers by all their columns, and alike peers by their places
+abbrev pub number_cmp : BoundWindow → ℕ × List Value → ℕ × List Value → Ordering
+number_cmp w = then_cmp (on (λ t. t.1) (window_cmp w.order)) (then_cmp (on (λ t. t.1) row_cmp) (on (λ t. t.0) nat_cmp))
 
-abbrev pub is_numbered_before : BoundWindow → (List Value → List Value) → ℕ × List Value → ℕ × List Value → Bool
-is_numbered_before w seen t other = in_partition w t.1 other.1 && is_lt (number_cmp w seen other t)
-
--- the aggregate that a window is over its frame
-abbrev pub aggregate_kind : WindowKind → AggKind
-aggregate_kind WindowKind.RowNumber = AggKind.CountAll
-aggregate_kind WindowKind.Rank = AggKind.CountAll
-aggregate_kind WindowKind.CountAll = AggKind.CountAll
-aggregate_kind WindowKind.Count = AggKind.Count
-aggregate_kind WindowKind.Sum = AggKind.Sum
-
-abbrev pub aggregate_of : BoundWindow → Aggregate
-aggregate_of w = record { kind = aggregate_kind w.kind; arg = w.arg }
+abbrev pub is_numbered_before : BoundWindow → ℕ × List Value → ℕ × List Value → Bool
+is_numbered_before w t other = in_partition w t.1 other.1 && is_lt (number_cmp w other t)
 
 -- a window on a tuple: behind so many that are numbered before it, behind so many that stand before it, and over these, its frame
 abbrev pub window_over : WindowKind → ℕ → ℕ → Wide → Wide
@@ -156,21 +145,30 @@ window_over WindowKind.CountAll numbered before frame = frame
 window_over WindowKind.Count numbered before frame = frame
 window_over WindowKind.Sum numbered before frame = frame
 
--- the value of a window on a tuple, which has a place in the list of all tuples
-abbrev pub window_value : (List Value → List Value) → List (List Value) → ℕ × List Value → BoundWindow → Wide
-window_value seen rows t w =
-    window_over w.kind (count_by (is_numbered_before w seen t) (enumerate_from 0 rows)) (count_by (stands_before w t.1) rows)
-    (aggregate_over (filter (in_frame w t.1) rows) (aggregate_of w))
+-- the value of a window on a tuple, which has a place in the list of all tuples; over its frame it is this aggregate
+abbrev pub window_value : List (List Value) → ℕ × List Value → BoundWindow × Aggregate → Wide
+window_value rows t p =
+    window_over p.0.kind (count_by (is_numbered_before p.0 t) (enumerate_from 0 rows)) (count_by (stands_before p.0 t.1) rows)
+    (aggregate_over (filter (in_frame p.0 t.1) rows) p.1)
 
--- a tuple as items see it that stand beside windows; it is seen in the columns that the query uses
-abbrev pub tuple_scope : BoundQuery → List (List Value) → ℕ × List Value → Scope
-tuple_scope q rows t = record { row = t.1; keys = []; aggs = map (window_value (blanked (is_used q) 0) rows t) q.windows }
+-- the tuples as windows see them: NULL stands in the columns that the query doesn't use
+abbrev pub seen_rows : BoundQuery → List (List Value) → List (List Value)
+seen_rows q rows = map (blanked (is_used q) 0) rows
 
-abbrev pub tuple_scopes : BoundQuery → List (List Value) → List Scope
-tuple_scopes q rows = map (tuple_scope q rows) (enumerate_from 0 rows)
+-- such a tuple beside the values of the windows
+abbrev pub window_scope : BoundQuery → List (List Value) → ℕ × List Value → Scope
+window_scope q rows t = record { row = t.1; keys = []; aggs = map (window_value rows t) (zip q.windows q.aggs) }
+
+abbrev pub window_scopes : BoundQuery → List (List Value) → List Scope
+window_scopes q rows = map (window_scope q rows) (enumerate_from 0 rows)
+
+-- the tuples as the items see them
+abbrev pub tuple_scopes : List BoundWindow → BoundQuery → List (List Value) → List Scope
+tuple_scopes [] q rows = map of_row rows
+tuple_scopes (w ∷ windows) q rows = window_scopes q (seen_rows q rows)
 
 abbrev pub scopes : BoundQuery → List (List Value) → List Scope
-scopes q rows = if q.grouped then group_scopes q rows else tuple_scopes q rows
+scopes q rows = if q.grouped then group_scopes q rows else tuple_scopes q.windows q rows
 
 -- the output rows: the items' values in each tuple, or in each group that is kept
 abbrev pub output : BoundQuery → List (List (List Value)) → List (List Wide)
@@ -192,7 +190,8 @@ HasGreatGroup q rows =
 -- or in some tuple's partition of a window
 abbrev pub HasGreatPartition : BoundQuery → List (List Value) → Type 0
 HasGreatPartition q rows =
-    (q.grouped ≡ false) × (w : BoundWindow) × (row : List Value) × Contains q.windows w × Contains rows row × IsGreatSum (filter (in_partition w row) rows) (aggregate_of w)
+    (q.grouped ≡ false) × (p : BoundWindow × Aggregate) × (row : List Value) × Contains (zip q.windows q.aggs) p × Contains (seen_rows q rows) row
+    × IsGreatSum (filter (in_partition p.0 row) (seen_rows q rows)) p.1
 
 abbrev pub HasGreatSum : BoundQuery → List (List Value) → Type 0
 HasGreatSum q rows = HasGreatGroup q rows ⊎ HasGreatPartition q rows

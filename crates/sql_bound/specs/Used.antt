@@ -31,9 +31,9 @@ columns_term t = t.part
 abbrev pub columns_of : Expr → List ℕ
 columns_of = fold-Expr (List ℕ) (List ℕ) columns_step columns_term
 
--- those of a window: its argument's, and those of PARTITION BY and ORDER BY
+-- those of PARTITION BY and ORDER BY of a window
 abbrev pub columns_of_window : BoundWindow → List ℕ
-columns_of_window w = option_map_or columns_of w.arg [] ++ (w.partition ++ map (λ k. k.0) w.order)
+columns_of_window w = w.partition ++ map (λ k. k.0) w.order
 
 -- the columns that a query uses: those of its conditions, its GROUP BY, its aggregates, its windows and, where it isn't grouped, its items
 abbrev pub used_columns : BoundQuery → List ℕ

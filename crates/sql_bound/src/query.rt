@@ -9,12 +9,10 @@ pub struct Aggregate {
     pub arg: Option<Expr>,
 }
 
-/// A window function over the tuples that a query keeps. Only `Count` and `Sum` have an argument; `partition` are columns, and
-/// `order` are columns, each with whether DESC stands behind it.
+/// A window over the tuples that a query keeps: `partition` are columns, and `order` are columns, each with whether DESC stands behind it.
 #[derive(Debug, Drop)]
 pub struct BoundWindow {
     pub kind: WindowKind,
-    pub arg: Option<Expr>,
     pub partition: List<usize>,
     pub order: List<(usize, bool)>,
 }
@@ -29,8 +27,8 @@ pub struct FromItem {
 }
 
 /// A query. `keep` has the conditions of ON and WHERE, each split at its ANDs; `keys` are the columns of GROUP BY; `order` has
-/// the output columns by which it is ordered, each with whether DESC stands behind it. Only a query that isn't grouped has windows, and
-/// only a grouped one has keys, aggregates and HAVING.
+/// the output columns by which it is ordered, each with whether DESC stands behind it. `aggs` are the aggregates of a group;
+/// where the query has windows it isn't grouped, and they are what the windows are over their frames, one for each.
 #[derive(Debug, Drop)]
 pub struct BoundQuery {
     pub sources: List<FromItem>,

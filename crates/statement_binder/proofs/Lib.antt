@@ -5,3 +5,4 @@ pub mod Refused
 pub mod Scoped
 pub mod Stars
 pub mod Growing
+pub mod Items

@@ -18,6 +18,10 @@ over_columns columns = record { columns = columns; keys = []; aggs = [] }
 abbrev pub of_groups : List Kind → List Kind → Kinds
 of_groups keys aggs = record { columns = []; keys = keys; aggs = aggs }
 
+-- over tuples with columns of these kinds, beside windows of these kinds
+abbrev pub of_tuples : List Kind → List Kind → Kinds
+of_tuples columns aggs = record { columns = columns; keys = []; aggs = aggs }
+
 -- each expression is typed, where the items and HAVING see these kinds
 abbrev pub is_typed_in : Kinds → Kinds → BoundQuery → Bool
 is_typed_in rows shown b =

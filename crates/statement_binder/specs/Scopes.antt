@@ -12,10 +12,11 @@ use Rattle.sql_bound.specs.declared.query.Aggregate.{Aggregate}
 use Rattle.sql_bound.specs.declared.query.BoundQuery.{BoundQuery}
 use Rattle.sql_binding.specs.Conjuncts.{condition_members}
 use Rattle.sql_binding.specs.Outputs.{bound_order}
-use Rattle.sql_binding.specs.Queries.{bound_sources, aggs_of_having}
+use Rattle.sql_binding.specs.Queries.{bound_sources, aggs_of_having, windows_of}
 use Rattle.sql_binding.specs.Trees as trees
-use Rattle.sql_binding.specs.Trees.{Bound, bound, bound_column, rows_of, groups_of, all_aggs}
+use Rattle.sql_binding.specs.Trees.{Bound, bound, bound_column, bound_window, window_aggregate, items_behind, rows_of, groups_of, all_aggs}
 use Rattle.statement_binder.specs.declared.queries.Base.{Base}
+use Rattle.statement_binder.specs.declared.queries.Made.{Made}
 use Rattle.statement_binder.specs.declared.queries.Shown.{Shown}
 use Rattle.statement_binder.specs.declared.scope.Scope.{Scope}
 
@@ -34,7 +35,7 @@ kept_in s q = flat_map (joined_members s) (enumerate_from 0 q.sources) ++ condit
 -- the items
 abbrev pub items_in : trees.Scope → Items → List (Bound Expr)
 items_in s Items.Star = map (λ e. bound_column s e.0) (enumerate_from 0 s.seen)
-items_in s (Items.Listed items) = map (λ i. bound s i.tree) items
+items_in s (Items.Listed items) = items_behind s 0 items
 
 abbrev pub having_in : trees.Scope → Query → Option (Bound Expr)
 having_in s q = option_map (bound s) q.having
@@ -46,8 +47,9 @@ rows_query s tables outputs q = record {
   keep = kept_in s q;
   grouped = false;
   keys = [];
-  aggs = [];
+  aggs = map (window_aggregate s) (windows_of q.items);
   having = None;
+  windows = map (bound_window s) (windows_of q.items);
   items = rows_of (items_in s q.items);
   order = bound_order outputs q.order;
   limit = q.limit;
@@ -61,18 +63,22 @@ groups_query s tables outputs q = record {
   keys = s.keys;
   aggs = all_aggs (items_in s q.items) ++ aggs_of_having (having_in s q);
   having = option_map (λ b. b.group (length (all_aggs (items_in s q.items)))) (having_in s q);
+  windows = [];
   items = groups_of (items_in s q.items) 0;
   order = bound_order outputs q.order;
   limit = q.limit;
 }
 
--- what both have, and what one over groups has alone
+-- what both have, and what one over rows and one over groups has alone
 abbrev pub base_in : trees.Scope → List (ℕ × List Column) → List (Option (List ℕ)) → Query → Base
 base_in s tables outputs q = record {
   sources = bound_sources 0 tables;
   keep = kept_in s q;
   order = bound_order outputs q.order;
 }
+
+abbrev pub made_in : trees.Scope → Query → Made
+made_in s q = record { windows = map (bound_window s) (windows_of q.items); aggs = map (window_aggregate s) (windows_of q.items); items = rows_of (items_in s q.items) }
 
 abbrev pub shown_in : trees.Scope → Query → Shown
 shown_in s q = record {

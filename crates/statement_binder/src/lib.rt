@@ -15,6 +15,7 @@ mod row_trees;
 mod scope;
 mod sources;
 mod types;
+mod windows;
 
 pub use kinds::column_kinds;
 pub use narrowness::{are_narrow, is_narrow_query};

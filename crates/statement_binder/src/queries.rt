@@ -8,7 +8,7 @@ ghost use Rattle.name_binder.specs.Refusing.{RefusesBy};
 ghost use Rattle.name_binder.specs.Tables.{columns_found};
 ghost use Rattle.sql_binding.specs.Sight.{place_of};
 ghost use Rattle.statement_binder.specs.Answers.{IsBoundQuery, later_refusal, seen_refusal};
-ghost use Rattle.statement_binder.specs.Scopes.{scope_of, rows_query, groups_query, base_in, shown_in};
+ghost use Rattle.statement_binder.specs.Scopes.{scope_of, rows_query, groups_query, base_in, made_in, shown_in};
 
 use crate::Scope;
 use crate::items::{bind_group_items, bind_having, bind_row_items};
@@ -16,12 +16,13 @@ use crate::keep::bind_keep;
 use crate::narrowness::is_narrow_query;
 use crate::sources::bind_sources;
 use crate::types::is_typed_query;
+use crate::windows::{bind_frames, bind_windows};
 use col_value::{List, Name};
 use name_binder::{
     BindFault, Found, SeenColumn, bind_order, check_names, find_tables, is_grouped, output_names,
     place_of, sight,
 };
-use sql_bound::{Aggregate, BoundQuery, Expr, FromItem};
+use sql_bound::{Aggregate, BoundQuery, BoundWindow, Expr, FromItem};
 use sql_tree::{ColRef, Query, Refusal, Which};
 use std::alloc::{AllocError, Global};
 
@@ -169,6 +170,14 @@ struct Shown {
     having: Option<Expr>,
 }
 
+/// What a query has over rows alone: its windows, what they are over their frames, and its items.
+#[derive(Drop)]
+struct Made {
+    windows: List<BoundWindow>,
+    aggs: List<Aggregate>,
+    items: List<Expr>,
+}
+
 fn over_rows(
     alloc: Global,
     scope: Scope<'_>,
@@ -179,9 +188,9 @@ fn over_rows(
     requires { All (λ k. unknown_key outputs.now k.key ≡ None) query.now.order }
     ensures { IfOk result (λ b. b ≡ rows_query (scope_of scope.entry) tables.now outputs.now query.now) }
 {
-    let items = bind_row_items(alloc, scope, &query.items)?;
+    let made = bind_made(alloc, scope, query)?;
     let base = bind_base(alloc, scope, outputs, tables, query)?;
-    Ok(with_rows(alloc, base, items, query.limit))
+    Ok(with_rows(alloc, base, made, query.limit))
 }
 
 fn over_groups(
@@ -196,7 +205,7 @@ fn over_groups(
 {
     let shown = bind_shown(alloc, scope, query)?;
     let base = bind_base(alloc, scope, outputs, tables, query)?;
-    Ok(with_groups(base, shown, query.limit))
+    Ok(with_groups(alloc, base, shown, query.limit))
 }
 
 fn bind_base(
@@ -219,6 +228,19 @@ fn bind_base(
     })
 }
 
+fn bind_made(alloc: Global, scope: Scope<'_>, query: &Query) -> Result<Made, AllocError>
+    ensures { IfOk result (λ m. m ≡ made_in (scope_of scope.entry) query.now) }
+{
+    let windows = bind_windows(alloc, scope, &query.items)?;
+    let aggs = bind_frames(alloc, scope, &query.items)?;
+    let items = bind_row_items(alloc, scope, &query.items)?;
+    Ok(Made {
+        windows,
+        aggs,
+        items,
+    })
+}
+
 fn bind_shown(alloc: Global, scope: Scope<'_>, query: &Query) -> Result<Shown, AllocError>
     ensures { IfOk result (λ s. s ≡ shown_in (scope_of scope.entry) query.now) }
 {
@@ -234,22 +256,28 @@ fn bind_shown(alloc: Global, scope: Scope<'_>, query: &Query) -> Result<Shown, A
     })
 }
 
-/// The query over rows that has these items.
-fn with_rows(alloc: Global, base: Base, items: List<Expr>, limit: Option<u128>) -> BoundQuery
-    ensures { result ≡ record { sources = base.sources; keep = base.keep; grouped = false; keys = []; aggs = []; having = None; items = items; order = base.order; limit = limit } }
+/// The query over rows that makes this.
+fn with_rows(alloc: Global, base: Base, made: Made, limit: Option<u128>) -> BoundQuery
+    ensures { result ≡ record { sources = base.sources; keep = base.keep; grouped = false; keys = []; aggs = made.aggs; having = None; windows = made.windows; items = made.items; order = base.order; limit = limit } }
 {
     let Base {
         sources,
         keep,
         order,
     } = base;
+    let Made {
+        windows,
+        aggs,
+        items,
+    } = made;
     BoundQuery {
         sources,
         keep,
         grouped: false,
         keys: List::new(Vec::new(alloc)),
-        aggs: List::new(Vec::new(alloc)),
+        aggs,
         having: None,
+        windows,
         items,
         order,
         limit,
@@ -257,8 +285,8 @@ fn with_rows(alloc: Global, base: Base, items: List<Expr>, limit: Option<u128>) 
 }
 
 /// The query over groups that shows this.
-fn with_groups(base: Base, shown: Shown, limit: Option<u128>) -> BoundQuery
-    ensures { result ≡ record { sources = base.sources; keep = base.keep; grouped = true; keys = shown.keys; aggs = shown.aggs; having = shown.having; items = shown.items; order = base.order; limit = limit } }
+fn with_groups(alloc: Global, base: Base, shown: Shown, limit: Option<u128>) -> BoundQuery
+    ensures { result ≡ record { sources = base.sources; keep = base.keep; grouped = true; keys = shown.keys; aggs = shown.aggs; having = shown.having; windows = []; items = shown.items; order = base.order; limit = limit } }
 {
     let Base {
         sources,
@@ -278,6 +306,7 @@ fn with_groups(base: Base, shown: Shown, limit: Option<u128>) -> BoundQuery
         keys,
         aggs,
         having,
+        windows: List::new(Vec::new(alloc)),
         items,
         order,
         limit,

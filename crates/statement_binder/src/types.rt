@@ -2,7 +2,7 @@ ghost use Rattle.std.specs.Prelude.{◌≡◌, true, map, IfOk};
 ghost use Rattle.std.specs.List.{list_all};
 ghost use Rattle.std.specs.Option.{option_map_or};
 ghost use Rattle.sql_bound.specs.Kinds.{is_condition, kind_of_aggregate};
-ghost use Rattle.sql_binding.specs.Queries.{is_typed, is_typed_aggregate, is_typed_query, row_kinds, group_kinds, kind_or_null};
+ghost use Rattle.sql_binding.specs.Queries.{is_typed, is_typed_aggregate, is_typed_query, row_kinds, group_kinds, tuple_kinds, kind_or_null};
 ghost use Rattle.statement_binder.specs.Measures.{is_typed_in, over_columns};
 
 use crate::kinds::{aggregate_kinds, column_kinds, key_kinds, kind_of_aggregate};
@@ -30,9 +30,21 @@ fn is_typed_over(alloc: Global, columns: &[Kind], query: &BoundQuery) -> Result<
     if query.grouped {
         is_typed_groups(alloc, columns, query)
     } else {
-        let rows = Places::new(columns, &[], &[]);
-        Ok(is_typed_in(&rows, &rows, query))
+        is_typed_tuples(alloc, columns, query)
     }
+}
+
+fn is_typed_tuples(
+    alloc: Global,
+    columns: &[Kind],
+    query: &BoundQuery,
+) -> Result<bool, AllocError>
+    ensures { IfOk result (λ t. t ≡ is_typed_in (over_columns columns.now) (tuple_kinds (over_columns columns.now) query.now) query.now) }
+{
+    let rows = Places::new(columns, &[], &[]);
+    let aggs = kinds_of_aggregates(alloc, columns, query.aggs.as_slice())?;
+    let tuples = Places::new(columns, &[], aggs.as_slice());
+    Ok(is_typed_in(&rows, &tuples, query))
 }
 
 fn is_typed_groups(alloc: Global, columns: &[Kind], query: &BoundQuery) -> Result<bool, AllocError>

@@ -6,4 +6,3 @@ pub mod Served
 pub mod Fed
 pub mod ItemRows
 pub mod Seeing
-pub mod Using

@@ -17,7 +17,8 @@ use Rattle.col_value.specs.declared.kinds.Encoding.{Encoding}
 use Rattle.sql_bound.specs.declared.query.FromItem.{FromItem}
 use Rattle.sql_bound.specs.declared.query.BoundQuery.{BoundQuery}
 use Rattle.db_model.specs.Database.{has_columns}
-use Rattle.db_model.specs.Choice.{used_columns, within_item}
+use Rattle.db_model.specs.Choice.{within_item}
+use Rattle.sql_bound.specs.Used.{used_columns}
 use Rattle.folder_model.specs.Projections.{ordinals, shape_of}
 use Rattle.query_cover.specs.Seen.{ArePlaces}
 use Rattle.store_query.specs.Placing.{ArePlacesOf, AreWithin, IsPlaceOf}

@@ -27,7 +27,8 @@ use Rattle.db_model.specs.Database.{Database, Table, table_named}
 use Rattle.db_model.specs.State.{Changes, pending_deletes, pending_rows, without}
 use Rattle.db_model.specs.Sound.{HasEpochs, IsSoundDatabase, IsSoundSession, IsSoundTable, RowFits, ValueFits}
 use Rattle.sound_laws.proofs.Changes.{all_fit, all_within, found_all, names_differ}
-use Rattle.query_cover.specs.Seen.{blanked, is_used, placed, value_at, AreSeen, ArePlaces}
+use Rattle.query_cover.specs.Seen.{placed, value_at, AreSeen, ArePlaces}
+use Rattle.sql_bound.specs.Used.{blanked, is_used}
 use Rattle.query_cover.proofs.Placed.{placed_seen}
 use Rattle.store_query.specs.Lessening.{cleared, deletes_of, value_kept, IsLess}
 use Rattle.store_query.specs.Reading.{epoch_of, pending_of, rows_of, IsKept}

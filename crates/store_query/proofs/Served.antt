@@ -12,7 +12,8 @@ use Rattle.catalog_types.specs.declared.catalogue.Projection.{Projection}
 use Rattle.sql_bound.specs.declared.query.FromItem.{FromItem}
 use Rattle.sql_bound.specs.declared.query.BoundQuery.{BoundQuery}
 use Rattle.db_model.specs.Database.{Database, Shape, Table, has_columns}
-use Rattle.db_model.specs.Choice.{bounded_columns, chosen_for, is_narrower, is_sorted_by_one, or_all, used_columns, within_item}
+use Rattle.db_model.specs.Choice.{bounded_columns, chosen_for, is_narrower, is_sorted_by_one, or_all, within_item}
+use Rattle.sql_bound.specs.Used.{used_columns}
 use Rattle.stored_rows.specs.Stored.{Projected}
 use Rattle.folder_model.specs.Projections.{shape_of, HasHistory, HasRows}
 use Rattle.folder_model.specs.Tables.{AreDatabase, StandForTables, StandsForTable}

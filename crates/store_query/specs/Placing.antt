@@ -3,7 +3,7 @@ use Rattle.std.specs.Prelude.{◌≡◌, ℕ, ◌+◌, ◌<◌, ◌==◌, true, 
 use Rattle.std.specs.List.{All, list_any, slice_get}
 use Rattle.std.specs.Option.{IfSome}
 use Rattle.sql_bound.specs.declared.query.BoundQuery.{BoundQuery}
-use Rattle.query_cover.specs.Seen.{is_used}
+use Rattle.sql_bound.specs.Used.{is_used}
 
 -- A place is that of the table's column `c`; and the column has one where the query uses it and the projection has it. The item's first
 -- column stands at `first` among those of all items.

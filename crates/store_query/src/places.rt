@@ -1,25 +1,13 @@
 //! Where the columns that a query uses stand in a projection.
 
 ghost use Rattle.std.specs.Prelude.{◌≡◌, ◌==◌, ◌+◌, true, length, map, position, IfOk};
-ghost use Rattle.query_cover.specs.Seen.{is_used};
+ghost use Rattle.sql_bound.specs.Used.{is_used};
 ghost use Rattle.store_query.specs.Placing.{ArePlacesOf, AreWithin, IsPlaceOf};
 
 use catalog_types::ProjColumn;
-use plan_choice::covers_query;
+use expr_places::is_used;
 use sql_bound::{BoundQuery, FromItem};
 use std::alloc::{AllocError, Global};
-
-/// Whether the query uses the column at a place among those of all FROM items.
-fn is_used(query: &BoundQuery, column: usize) -> bool
-    ensures { result ≡ is_used query.now column }
-{
-    let alone = FromItem {
-        table: 0,
-        first: column,
-        columns: 1,
-    };
-    !covers_query(query, alone, &[])
-}
 
 /// Whether the query may use the column at a place behind another; one past all numbers isn't looked for.
 fn may_be_used(query: &BoundQuery, first: usize, c: usize) -> bool

@@ -14,9 +14,9 @@ use Rattle.sql_bound.specs.declared.expr.Expr.TheOpen.{Expr-F, BoundTerm-F}
 use Rattle.sql_bound.specs.declared.expr.Expr.TheFolds.{map-Expr, map-BoundTerm, fold-BoundTerm, fold-roll-Expr, fold-roll-BoundTerm, ind-Expr}
 use Rattle.sql_bound.specs.declared.query.Aggregate.{Aggregate}
 use Rattle.sql_bound.specs.declared.query.BoundQuery.{BoundQuery}
-use Rattle.db_model.specs.Choice.{columns_step, columns_term, columns_of, used_columns}
+use Rattle.sql_bound.specs.declared.query.BoundWindow.{BoundWindow}
+use Rattle.sql_bound.specs.Used.{columns_of, columns_of_window, columns_step, columns_term, is_used, used_columns}
 use Rattle.expr_places.specs.Places.{looks_only, looks_step, looks_term, term_looks_only}
-use Rattle.query_cover.specs.Seen.{is_used}
 
 pub left : (a b : Bool) → (a && b) ≡ true → a ≡ true
 left true b e = refl
@@ -91,10 +91,10 @@ rolled_term test x y is =
     let l = subst (λ (z : BoundTerm-F Expr BoundTerm). looks_only test z.part ≡ list_all test (columns_of z.part)) is y.part.1 in
     m ∙ l ∙ sym (ap (list_all test) b)
 
-looks_is : (test : ℕ → Bool) (e : Expr) → IsLooked test e
+pub looks_is : (test : ℕ → Bool) (e : Expr) → IsLooked test e
 looks_is test = ind-Expr (IsLooked test) (IsLookedTerm test) (rolled test) (rolled_term test)
 
-exprs_look : (test : ℕ → Bool) (es : List Expr) → list_all (looks_only test) es ≡ list_all test (flat_map columns_of es)
+pub exprs_look : (test : ℕ → Bool) (es : List Expr) → list_all (looks_only test) es ≡ list_all test (flat_map columns_of es)
 exprs_look test [] = refl
 exprs_look test (e ∷ es) =
     ap₂ (λ (x y : Bool). x && y) (looks_is test e) (exprs_look test es) ∙ sym (list_all-append test (columns_of e) (flat_map columns_of es))
@@ -105,18 +105,28 @@ exprs_look test (e ∷ es) =
 abbrev pub argument_looks : (ℕ → Bool) → Aggregate → Bool
 argument_looks test a = option_map_or (looks_only test) a.arg true
 
-abbrev aggregate_columns : Aggregate → List ℕ
+abbrev pub aggregate_columns : Aggregate → List ℕ
 aggregate_columns a = option_map_or columns_of a.arg []
 
 argument_is : (test : ℕ → Bool) (o : Option Expr) → option_map_or (looks_only test) o true ≡ list_all test (option_map_or columns_of o [])
 argument_is test None = refl
 argument_is test (Some e) = looks_is test e
 
-arguments_look : (test : ℕ → Bool) (aggs : List Aggregate) → list_all (argument_looks test) aggs ≡ list_all test (flat_map aggregate_columns aggs)
+pub arguments_look : (test : ℕ → Bool) (aggs : List Aggregate) → list_all (argument_looks test) aggs ≡ list_all test (flat_map aggregate_columns aggs)
 arguments_look test [] = refl
 arguments_look test (a ∷ aggs) =
     ap₂ (λ (x y : Bool). x && y) (argument_is test a.arg) (arguments_look test aggs) ∙ sym (list_all-append test (aggregate_columns a) (flat_map aggregate_columns aggs))
     ∙ ap (list_all test) (sym (flat_map-cons aggregate_columns a aggs))
+
+-- the columns of a window pass the test
+abbrev pub window_looks : (ℕ → Bool) → BoundWindow → Bool
+window_looks test w = list_all test (columns_of_window w)
+
+pub windows_look_at : (test : ℕ → Bool) (windows : List BoundWindow) → list_all (window_looks test) windows ≡ list_all test (flat_map columns_of_window windows)
+windows_look_at test [] = refl
+windows_look_at test (w ∷ windows) =
+    ap (λ (b : Bool). window_looks test w && b) (windows_look_at test windows) ∙ sym (list_all-append test (columns_of_window w) (flat_map columns_of_window windows))
+    ∙ ap (list_all test) (sym (flat_map-cons columns_of_window w windows))
 
 -- each column of a list stands in the list
 found : (front : List ℕ) (x : ℕ) (xs : List ℕ) → list_any (λ u. u == x) (front ++ x ∷ xs) ≡ true
@@ -140,22 +150,32 @@ all_among front (x ∷ xs) =
 all_used : (q : BoundQuery) → list_all (is_used q) (used_columns q) ≡ true
 all_used q = all_among [] (used_columns q)
 
+abbrev shown_columns : BoundQuery → List ℕ
+shown_columns q = cond q.grouped [] (flat_map columns_of q.items)
+
+abbrev behind_aggs : BoundQuery → List ℕ
+behind_aggs q = flat_map columns_of_window q.windows ++ shown_columns q
+
+abbrev behind_keys : BoundQuery → List ℕ
+behind_keys q = flat_map aggregate_columns q.aggs ++ behind_aggs q
+
 abbrev behind_keep : BoundQuery → List ℕ
-behind_keep q = q.keys ++ (flat_map aggregate_columns q.aggs ++ cond q.grouped [] (flat_map columns_of q.items))
+behind_keep q = q.keys ++ behind_keys q
 
 keep_and : (q : BoundQuery) → (list_all (is_used q) (flat_map columns_of q.keep) && list_all (is_used q) (behind_keep q)) ≡ true
 keep_and q = sym (list_all-append (is_used q) (flat_map columns_of q.keep) (behind_keep q)) ∙ all_used q
 
-abbrev behind_keys : BoundQuery → List ℕ
-behind_keys q = flat_map aggregate_columns q.aggs ++ cond q.grouped [] (flat_map columns_of q.items)
-
 keys_and : (q : BoundQuery) → (list_all (is_used q) q.keys && list_all (is_used q) (behind_keys q)) ≡ true
 keys_and q = sym (list_all-append (is_used q) q.keys (behind_keys q)) ∙ right (list_all (is_used q) (flat_map columns_of q.keep)) (list_all (is_used q) (behind_keep q)) (keep_and q)
 
-aggs_and : (q : BoundQuery) → (list_all (is_used q) (flat_map aggregate_columns q.aggs) && list_all (is_used q) (cond q.grouped [] (flat_map columns_of q.items))) ≡ true
+aggs_and : (q : BoundQuery) → (list_all (is_used q) (flat_map aggregate_columns q.aggs) && list_all (is_used q) (behind_aggs q)) ≡ true
 aggs_and q =
-    sym (list_all-append (is_used q) (flat_map aggregate_columns q.aggs) (cond q.grouped [] (flat_map columns_of q.items)))
-    ∙ right (list_all (is_used q) q.keys) (list_all (is_used q) (behind_keys q)) (keys_and q)
+    sym (list_all-append (is_used q) (flat_map aggregate_columns q.aggs) (behind_aggs q)) ∙ right (list_all (is_used q) q.keys) (list_all (is_used q) (behind_keys q)) (keys_and q)
+
+windows_and : (q : BoundQuery) → (list_all (is_used q) (flat_map columns_of_window q.windows) && list_all (is_used q) (shown_columns q)) ≡ true
+windows_and q =
+    sym (list_all-append (is_used q) (flat_map columns_of_window q.windows) (shown_columns q))
+    ∙ right (list_all (is_used q) (flat_map aggregate_columns q.aggs)) (list_all (is_used q) (behind_aggs q)) (aggs_and q)
 
 pub keep_looks : (q : BoundQuery) → list_all (looks_only (is_used q)) q.keep ≡ true
 keep_looks q = exprs_look (is_used q) q.keep ∙ left (list_all (is_used q) (flat_map columns_of q.keep)) (list_all (is_used q) (behind_keep q)) (keep_and q)
@@ -165,11 +185,14 @@ keys_look q = left (list_all (is_used q) q.keys) (list_all (is_used q) (behind_k
 
 pub aggs_look : (q : BoundQuery) → list_all (argument_looks (is_used q)) q.aggs ≡ true
 aggs_look q =
-    arguments_look (is_used q) q.aggs
-    ∙ left (list_all (is_used q) (flat_map aggregate_columns q.aggs)) (list_all (is_used q) (cond q.grouped [] (flat_map columns_of q.items))) (aggs_and q)
+    arguments_look (is_used q) q.aggs ∙ left (list_all (is_used q) (flat_map aggregate_columns q.aggs)) (list_all (is_used q) (behind_aggs q)) (aggs_and q)
+
+pub windows_look : (q : BoundQuery) → list_all (window_looks (is_used q)) q.windows ≡ true
+windows_look q =
+    windows_look_at (is_used q) q.windows ∙ left (list_all (is_used q) (flat_map columns_of_window q.windows)) (list_all (is_used q) (shown_columns q)) (windows_and q)
 
 pub items_look : (q : BoundQuery) → q.grouped ≡ false → list_all (looks_only (is_used q)) q.items ≡ true
 items_look q plain =
     exprs_look (is_used q) q.items
     ∙ subst (λ (b : Bool). list_all (is_used q) (cond b [] (flat_map columns_of q.items)) ≡ true) plain
-    (right (list_all (is_used q) (flat_map aggregate_columns q.aggs)) (list_all (is_used q) (cond q.grouped [] (flat_map columns_of q.items))) (aggs_and q))
+    (right (list_all (is_used q) (flat_map columns_of_window q.windows)) (list_all (is_used q) (shown_columns q)) (windows_and q))
