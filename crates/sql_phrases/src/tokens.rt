@@ -1,6 +1,6 @@
 ghost use Rattle.std.specs.Prelude.{◌≡◌, ◌==◌, length, All};
 ghost use Rattle.sql_phrases.specs.Readings.{head_is};
-ghost use Rattle.sql_phrases.specs.Classes.{is_key, is_sign, is_back, in_set, name_classes, number_classes, text_classes, cmp_classes, signed_classes, aggregate_classes, source_classes, call_classes};
+ghost use Rattle.sql_phrases.specs.Classes.{is_key, is_sign, is_back, in_set, name_classes, number_classes, text_classes, cmp_classes, signed_classes, tally_classes, ranking_classes, window_classes, aggregate_classes, source_classes, call_classes};
 ghost use Rattle.sql_words.specs.Symbols.{SaysUtf8};
 ghost use Rattle.sql_words.specs.Words.{IsWithin};
 ghost use Rattle.sql_phrases.specs.Gives.{seen};
@@ -165,6 +165,45 @@ impl<'a> Tokens<'a> {
         match self.left {
             [token, ..] => match token.kind {
                 TokenKind::Word(Some(Key::Count | Key::Sum | Key::Min | Key::Max)) => true,
+                _ => false,
+            },
+            [] => false,
+        }
+    }
+
+    /// Whether COUNT or SUM stands at the front.
+    pub fn begins_tally(&self) -> bool
+        ensures { result ≡ head_is (in_set tally_classes) self.now }
+    {
+        match self.left {
+            [token, ..] => match token.kind {
+                TokenKind::Word(Some(Key::Count | Key::Sum)) => true,
+                _ => false,
+            },
+            [] => false,
+        }
+    }
+
+    /// Whether the name of a window function without an argument stands at the front.
+    pub fn begins_ranking(&self) -> bool
+        ensures { result ≡ head_is (in_set ranking_classes) self.now }
+    {
+        match self.left {
+            [token, ..] => match token.kind {
+                TokenKind::Word(Some(Key::RowNumber | Key::Rank)) => true,
+                _ => false,
+            },
+            [] => false,
+        }
+    }
+
+    /// Whether the name of a window function stands at the front.
+    pub fn begins_window(&self) -> bool
+        ensures { result ≡ head_is (in_set window_classes) self.now }
+    {
+        match self.left {
+            [token, ..] => match token.kind {
+                TokenKind::Word(Some(Key::RowNumber | Key::Rank | Key::Count | Key::Sum)) => true,
                 _ => false,
             },
             [] => false,
