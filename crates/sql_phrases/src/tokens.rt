@@ -162,52 +162,52 @@ impl<'a> Tokens<'a> {
     pub fn begins_aggregate(&self) -> bool
         ensures { result ≡ head_is (in_set aggregate_classes) self.now }
     {
-        match self.left {
-            [token, ..] => match token.kind {
-                TokenKind::Word(Some(Key::Count | Key::Sum | Key::Min | Key::Max)) => true,
-                _ => false,
-            },
-            [] => false,
+        if self.begins_key(Key::Count) {
+            return true;
         }
+        if self.begins_key(Key::Sum) {
+            return true;
+        }
+        if self.begins_key(Key::Min) {
+            return true;
+        }
+        self.begins_key(Key::Max)
     }
 
     /// Whether COUNT or SUM stands at the front.
     pub fn begins_tally(&self) -> bool
         ensures { result ≡ head_is (in_set tally_classes) self.now }
     {
-        match self.left {
-            [token, ..] => match token.kind {
-                TokenKind::Word(Some(Key::Count | Key::Sum)) => true,
-                _ => false,
-            },
-            [] => false,
+        if self.begins_key(Key::Count) {
+            return true;
         }
+        self.begins_key(Key::Sum)
     }
 
     /// Whether the name of a window function without an argument stands at the front.
     pub fn begins_ranking(&self) -> bool
         ensures { result ≡ head_is (in_set ranking_classes) self.now }
     {
-        match self.left {
-            [token, ..] => match token.kind {
-                TokenKind::Word(Some(Key::RowNumber | Key::Rank)) => true,
-                _ => false,
-            },
-            [] => false,
+        if self.begins_key(Key::RowNumber) {
+            return true;
         }
+        self.begins_key(Key::Rank)
     }
 
     /// Whether the name of a window function stands at the front.
     pub fn begins_window(&self) -> bool
         ensures { result ≡ head_is (in_set window_classes) self.now }
     {
-        match self.left {
-            [token, ..] => match token.kind {
-                TokenKind::Word(Some(Key::RowNumber | Key::Rank | Key::Count | Key::Sum)) => true,
-                _ => false,
-            },
-            [] => false,
+        if self.begins_key(Key::RowNumber) {
+            return true;
         }
+        if self.begins_key(Key::Rank) {
+            return true;
+        }
+        if self.begins_key(Key::Count) {
+            return true;
+        }
+        self.begins_key(Key::Sum)
     }
 
     /// Whether what goes on with the sources of a query stands at the front.
