@@ -12,6 +12,7 @@ GRAMMAR = '''
 statement = CREATE TABLE name ( columns )
 statement = CREATE PROJECTION name ( pcols ) AS SELECT names FROM name
 statement = CREATE PROJECTION name ( pcols ) AS SELECT names FROM name ORDER BY names
+statement = ALTER TABLE name ADD COLUMN column DEFAULT literal
 statement = DROP TABLE name
 statement = DROP PROJECTION name
 statement = INSERT INTO name VALUES tuples
@@ -74,13 +75,34 @@ function = SET_AHM_EPOCH ( int )
 function = DO_TM_TASK ( task )
 function = PURGE_TABLE ( spelled )
 function = REFRESH ( spelled )
+query = * FROM sources where groupby having orderby limit
 query = items FROM sources where groupby having orderby limit
-items = *
-items = list
-list = item
-list = list , item
+query = witems FROM sources where orderby limit
+items = item
+items = items , item
 item = gexpr
 item = gexpr AS name
+witems = witem
+witems = witems , witem
+witem = wtree
+witem = wtree AS name
+wtree = expr
+wtree = window
+window = wfunction OVER ( partition worder )
+wfunction = ROW_NUMBER ( )
+wfunction = RANK ( )
+wfunction = COUNT ( * )
+wfunction = COUNT ( expr )
+wfunction = SUM ( expr )
+partition =
+partition = PARTITION BY colrefs
+worder =
+worder = ORDER BY wkeys
+wkeys = wkey
+wkeys = wkeys , wkey
+wkey = colref
+wkey = colref ASC
+wkey = colref DESC
 sources = source
 sources = sources , source
 sources = sources JOIN source ON expr
@@ -221,10 +243,10 @@ def classes(token):
     return {token}
 
 
-KEYWORDS = set('''AND AS ASC AT AUTO BETWEEN BIGINT BLOCK_DICT BOOLEAN BY COMMIT COPY COUNT CREATE DATE DELETE DELTAVAL DESC DO_TM_TASK DROP ENCODING
-EPOCH EXPLAIN FALSE FROM GET_AHM_EPOCH GET_CURRENT_EPOCH GET_LAST_GOOD_EPOCH GROUP HAVING IN INNER INSERT INT INTEGER INTO IS JOIN LATEST LIMIT
-MAKE_AHM_NOW MAX MIN NOT NULL ON OR ORDER PLAIN PROJECTION PURGE_TABLE REFRESH RLE ROLLBACK SELECT SET SET_AHM_EPOCH START_REFRESH SUM TABLE
-TRUE UPDATE VALUES VARCHAR WHERE'''.split())
+KEYWORDS = set('''ADD ALTER AND AS ASC AT AUTO BETWEEN BIGINT BLOCK_DICT BOOLEAN BY COLUMN COMMIT COPY COUNT CREATE DATE DEFAULT DELETE DELTAVAL DESC DO_TM_TASK
+DROP ENCODING EPOCH EXPLAIN FALSE FROM GET_AHM_EPOCH GET_CURRENT_EPOCH GET_LAST_GOOD_EPOCH GROUP HAVING IN INNER INSERT INT INTEGER INTO IS JOIN
+LATEST LIMIT MAKE_AHM_NOW MAX MIN NOT NULL ON OR ORDER OVER PARTITION PLAIN PROJECTION PURGE_TABLE RANK REFRESH RLE ROLLBACK ROW_NUMBER SELECT
+SET SET_AHM_EPOCH START_REFRESH SUM TABLE TRUE UPDATE VALUES VARCHAR WHERE'''.split())
 
 
 def nullable():
@@ -348,6 +370,119 @@ def main():
             add(['SELECT', function, '('] + held + [')'])
         add(['SELECT', function, 'FROM', 't'])
         add(['SELECT', '(', function, '(', ')', ')'])
+    # windows: which items go together, and what may stand behind them
+    windows = """SELECT RANK ( ) OVER ( ) , COUNT ( * ) FROM t
+SELECT g , RANK ( ) OVER ( ORDER BY v DESC ) FROM s GROUP BY g
+SELECT g , RANK ( ) OVER ( ORDER BY v DESC ) FROM s WHERE v = 1 HAVING v = 1
+SELECT COUNT ( * ) , RANK ( ) OVER ( ) FROM t
+SELECT COUNT ( * ) , COUNT ( * ) OVER ( ) FROM t
+SELECT COUNT ( * ) + 1 OVER ( ) FROM t
+SELECT RANK ( ) OVER ( ) , 1 + COUNT ( * ) FROM t
+SELECT RANK ( ) OVER ( ) , ( COUNT ( a ) ) OVER ( ) FROM t
+SELECT RANK ( ) OVER ( ) , - SUM ( a ) OVER ( ) FROM t
+SELECT RANK ( ) OVER ( ) , NOT COUNT ( a ) OVER ( ) FROM t
+SELECT RANK ( ) OVER ( ) + 1 FROM t
+SELECT COUNT ( * ) OVER ( ) = 1 FROM t
+SELECT SUM ( a ) OVER ( ) OVER ( ) FROM t
+SELECT ( COUNT ( * ) ) OVER ( ) FROM t
+SELECT ( RANK ( ) OVER ( ) ) FROM t
+SELECT 1 + RANK ( ) OVER ( ) FROM t
+SELECT - RANK ( ) OVER ( ) FROM t
+SELECT NOT RANK ( ) OVER ( ) FROM t
+SELECT RANK ( ) OVER ( ) , MIN ( a ) FROM t
+SELECT MIN ( a ) OVER ( ) FROM t
+SELECT MAX ( a ) , RANK ( ) OVER ( ) FROM t
+SELECT a , b , SUM ( a ) OVER ( ) , c , a + b AS d , COUNT ( a ) OVER ( ) AS e FROM t
+SELECT a , SUM ( a ) OVER ( ) , SUM ( a ) FROM t
+SELECT a , SUM ( a ) OVER ( ) , SUM ( a ) OVER ( ) , COUNT ( * ) AS n FROM t
+SELECT SUM ( a ) , b , SUM ( a ) OVER ( ) FROM t
+SELECT SUM ( a ) * 2 , COUNT ( b ) BETWEEN 1 AND 2 , COUNT ( * ) IN ( 1 , 2 ) , SUM ( a ) - b IS NULL AND TRUE OR FALSE , COUNT ( a ) > 1 AS x FROM t GROUP BY b HAVING COUNT ( * ) > 1
+SELECT SUM ( COUNT ( * ) ) OVER ( ) FROM t
+SELECT SUM ( SUM ( a ) OVER ( ) ) OVER ( ) FROM t
+SELECT COUNT ( a BETWEEN 1 AND 2 OR b IN ( 1 ) ) OVER ( ) FROM t
+SELECT COUNT ( ) OVER ( ) FROM t
+SELECT COUNT ( * , 1 ) OVER ( ) FROM t
+SELECT SUM ( * ) OVER ( ) FROM t
+SELECT RANK ( a ) OVER ( ) FROM t
+SELECT RANK ( * ) OVER ( ) FROM t
+SELECT ROW_NUMBER ( 1 ) OVER ( ) FROM t
+SELECT RANK OVER ( ) FROM t
+SELECT RANK ( ) FROM t
+SELECT ROW_NUMBER ( ) , 1 FROM t
+SELECT RANK ( ) OVER FROM t
+SELECT RANK ( ) OVER w FROM t
+SELECT RANK ( ) AS r OVER ( ) FROM t
+SELECT RANK ( ) OVER ( PARTITION a ) FROM t
+SELECT RANK ( ) OVER ( PARTITION BY ) FROM t
+SELECT RANK ( ) OVER ( PARTITION BY a + 1 ) FROM t
+SELECT RANK ( ) OVER ( PARTITION BY 1 ) FROM t
+SELECT RANK ( ) OVER ( PARTITION BY a DESC ) FROM t
+SELECT RANK ( ) OVER ( PARTITION BY a , t . b ORDER BY t . c DESC , d ASC , e ) FROM t
+SELECT RANK ( ) OVER ( ORDER BY a PARTITION BY b ) FROM t
+SELECT RANK ( ) OVER ( ORDER BY 1 ) FROM t
+SELECT RANK ( ) OVER ( ORDER BY a + 1 ) FROM t
+SELECT RANK ( ) OVER ( ORDER BY a , ) FROM t
+SELECT RANK ( ) OVER ( ORDER BY a ) , FROM t
+SELECT RANK ( ) OVER ( ) FROM t ORDER BY 1 DESC LIMIT 3
+SELECT RANK ( ) OVER ( ) FROM t JOIN u ON COUNT ( * ) = 1
+SELECT a FROM t WHERE RANK ( ) OVER ( ) = 1
+SELECT a FROM t WHERE COUNT ( * ) OVER ( ) = 1
+SELECT a FROM t GROUP BY a HAVING COUNT ( * ) OVER ( ) = 1
+SELECT a FROM t ORDER BY RANK ( ) OVER ( )
+SELECT * , RANK ( ) OVER ( ) FROM t
+SELECT RANK ( ) OVER ( ) , * FROM t
+AT EPOCH LATEST SELECT RANK ( ) OVER ( ORDER BY a ) FROM t
+EXPLAIN SELECT COUNT ( a ) OVER ( PARTITION BY b ) AS n FROM t
+UPDATE t SET a = RANK ( ) OVER ( )
+UPDATE t SET a = COUNT ( * ) OVER ( )
+DELETE FROM t WHERE SUM ( a ) OVER ( ) = 1
+SELECT a AS rank FROM t
+SELECT over FROM t
+SELECT rank ( ) over ( partition by a order by b desc ) from t
+SELECT ranks , overs , row_numbers , partitions FROM t
+CREATE TABLE rank ( a INT )
+CREATE TABLE t ( partition INT )"""
+    for text in windows.split('\n'):
+        add(text.split())
+    # a new column
+    columns = """ALTER TABLE t ADD COLUMN a INTEGER DEFAULT 7
+ALTER TABLE t ADD COLUMN a VARCHAR ( 4 ) NOT NULL DEFAULT 'x'
+ALTER TABLE t ADD COLUMN a DATE NOT NULL DEFAULT DATE '2024-02-29'
+ALTER TABLE t ADD COLUMN a DATE DEFAULT DATE '2023-02-29'
+ALTER TABLE t ADD COLUMN a INT DEFAULT - 7
+ALTER TABLE t ADD COLUMN a INT DEFAULT - - 7
+ALTER TABLE t ADD COLUMN a INT DEFAULT ( 7 )
+ALTER TABLE t ADD COLUMN a INT DEFAULT 7 + 1
+ALTER TABLE t ADD COLUMN a INT DEFAULT b
+ALTER TABLE t ADD COLUMN a INT DEFAULT
+ALTER TABLE t ADD COLUMN a INT
+ALTER TABLE t ADD COLUMN a INT NULL DEFAULT 1
+ALTER TABLE t ADD COLUMN a INT DEFAULT 1 NOT NULL
+ALTER TABLE t ADD COLUMN a INT DEFAULT NULL , b INT DEFAULT 1
+ALTER TABLE t ADD COLUMN ( a INT ) DEFAULT 1
+ALTER TABLE t ADD COLUMN a DEFAULT 1
+ALTER TABLE t ADD a INT DEFAULT 1
+ALTER TABLE t COLUMN a INT DEFAULT 1
+ALTER TABLE t DROP COLUMN a
+ALTER TABLE t . u ADD COLUMN a INT DEFAULT 1
+ALTER PROJECTION t ADD COLUMN a INT DEFAULT 1
+ALTER t ADD COLUMN a INT DEFAULT 1
+ALTER TABLE add ADD COLUMN a INT DEFAULT 1
+ALTER TABLE t ADD COLUMN column INT DEFAULT 1
+ALTER TABLE t ADD COLUMN columns INT DEFAULT 1
+ADD COLUMN a INT DEFAULT 1
+CREATE TABLE t ( default INT )
+CREATE TABLE t ( a INT DEFAULT 1 )
+CREATE TABLE alter ( a INT )
+alter table t add column a boolean default true"""
+    for text in columns.split('\n'):
+        add(text.split())
+    for text in (windows + '\n' + columns).split('\n'):
+        tokens = text.split()
+        if cases[text] == 0:
+            for k in range(len(tokens) + 1):
+                add(tokens[:k])
+                add(tokens[:k] + [rng.choice(wrong + ['OVER', '(', 'COUNT'])] + tokens[k + 1:])
     # days: wherever a literal or a primary may stand, and with what is nearly one
     fronts = {
         'INSERT INTO t VALUES (': ')', 'INSERT INTO t VALUES ( 1 ,': ') , ( 2 )', 'SELECT': 'FROM t', 'SELECT a FROM t WHERE': '', 'SELECT a FROM t WHERE a >=': 'AND b = 1',
@@ -376,6 +511,16 @@ def main():
         cases[' '.join(text)] = 6
         text = ['SELECT', 'SUM', '('] + ['('] * n + ['1'] + [')'] * n + [')', 'FROM', 't']
         cases[' '.join(text)] = 0 if n <= 32 else 36
+        for back in (['OVER', '(', 'PARTITION', 'BY', 'a', ')'], ['+', '1']):
+            for function in ('SUM', 'COUNT'):
+                text = ['SELECT', function, '('] + ['('] * n + ['1'] + [')'] * n + [')'] + back + ['FROM', 't']
+                cases[' '.join(text)] = 0 if n <= 32 else 36
+        text = ['SELECT', 'RANK', '(', ')', 'OVER', '(', ')', ',', 'COUNT', '('] + ['('] * n + ['1'] + [')'] * n + [')', 'OVER', '(', ')', 'FROM', 't']
+        cases[' '.join(text)] = 0 if n <= 32 else 43
+        text = ['SELECT', 'RANK', '(', ')', 'OVER', '(', ')', ','] + ['('] * n + ['1'] + [')'] * n + ['FROM', 't']
+        cases[' '.join(text)] = 0 if n <= 32 else 41
+        text = ['SELECT', 'COUNT', '(', '*', ')', '+'] + ['('] * n + ['1'] + [')'] * n + ['FROM', 't']
+        cases[' '.join(text)] = 0 if n <= 32 else 39
     for text, want in sorted(cases.items()):
         print('%d %s' % (want, text))
 

@@ -8,7 +8,7 @@ floor true depth = 1000 + 40 * depth
 floor false depth = 40 * depth
 
 abbrev pub rank_of : Level → ℕ
-rank_of Level.Factors = 4
-rank_of Level.Choices = 10
-rank_of Level.Conjuncts = 18
-rank_of Level.Disjuncts = 21
+rank_of Level.Factors = 5
+rank_of Level.Choices = 14
+rank_of Level.Conjuncts = 22
+rank_of Level.Disjuncts = 26

@@ -1,6 +1,9 @@
 ghost use Rattle.sql_phrases.specs.Gives.{Gives};
 ghost use Rattle.sql_phrases.specs.Readings.{many};
-ghost use Rattle.sql_phrases.specs.Readers.{base, conjunction, over};
+ghost use Rattle.sql_words.specs.declared.token.Key.TheVariants.{And, Or};
+ghost use Rattle.sql_tree.specs.Makers.{chained};
+ghost use Rattle.sql_tree.specs.declared.tree.Tree as trees;
+ghost use Rattle.sql_phrases.specs.Readers.{base, word_rest, negation, conjunction, over};
 ghost use Rattle.sql_expr.specs.Levels.{goes_on, next_part};
 
 use crate::level::Level;
@@ -66,18 +69,18 @@ pub fn more(
     Ok(List::new(parts))
 }
 
-/// `neg {AND neg}`
+/// `{AND neg}`, behind the first part of a chain
 #[cycle(read)]
-#[tactic(auto, unfolding(sql_phrases::specs::Readings::both, sql_phrases::specs::Readings::nothing, sql_phrases::specs::Readers::conjunction, sql_phrases::specs::Readers::by_word))]
-fn conjunction(
+#[tactic(auto, unfolding(sql_phrases::specs::Readings::both, sql_phrases::specs::Readings::nothing, sql_phrases::specs::Readers::word_rest))]
+pub fn conjunction_rest(
     alloc: Global,
     tokens: &mut Tokens<'_>,
     grouped: bool,
     depth: u32,
+    first: Part,
 ) -> Result<Part, Stop>
-    ensures { Gives result tokens.new (conjunction (base grouped depth) tokens.old) }
+    ensures { Gives result tokens.new (word_rest And (negation (base grouped depth)) (chained trees.And) first tokens.old) }
 {
-    let first = negation(alloc, tokens, grouped, depth)?;
     match more(alloc, tokens, grouped, depth, Level::Conjuncts) {
         Ok(others) => Ok(first.and(alloc, others)?),
         Err(stop) => {
@@ -87,13 +90,33 @@ fn conjunction(
     }
 }
 
-/// `conj {OR conj}`
+/// `neg {AND neg}`
 #[cycle(read)]
-#[tactic(auto, unfolding(sql_phrases::specs::Readings::both, sql_phrases::specs::Readings::nothing, sql_phrases::specs::Readers::over, sql_phrases::specs::Readers::by_word))]
-pub fn over(alloc: Global, tokens: &mut Tokens<'_>, grouped: bool, depth: u32) -> Result<Part, Stop>
-    ensures { Gives result tokens.new (over (base grouped depth) tokens.old) }
+#[tactic(auto, unfolding(sql_phrases::specs::Readings::both, sql_phrases::specs::Readers::conjunction, sql_phrases::specs::Readers::by_word))]
+fn conjunction(
+    alloc: Global,
+    tokens: &mut Tokens<'_>,
+    grouped: bool,
+    depth: u32,
+) -> Result<Part, Stop>
+    ensures { Gives result tokens.new (conjunction (base grouped depth) tokens.old) }
 {
-    let first = conjunction(alloc, tokens, grouped, depth)?;
+    let first = negation(alloc, tokens, grouped, depth)?;
+    conjunction_rest(alloc, tokens, grouped, depth, first)
+}
+
+/// `{OR conj}`, behind the first part of a chain
+#[cycle(read)]
+#[tactic(auto, unfolding(sql_phrases::specs::Readings::both, sql_phrases::specs::Readings::nothing, sql_phrases::specs::Readers::word_rest))]
+pub fn over_rest(
+    alloc: Global,
+    tokens: &mut Tokens<'_>,
+    grouped: bool,
+    depth: u32,
+    first: Part,
+) -> Result<Part, Stop>
+    ensures { Gives result tokens.new (word_rest Or (conjunction (base grouped depth)) (chained trees.Or) first tokens.old) }
+{
     match more(alloc, tokens, grouped, depth, Level::Disjuncts) {
         Ok(others) => Ok(first.or(alloc, others)?),
         Err(stop) => {
@@ -101,4 +124,14 @@ pub fn over(alloc: Global, tokens: &mut Tokens<'_>, grouped: bool, depth: u32) -
             Err(stop)
         }
     }
+}
+
+/// `conj {OR conj}`
+#[cycle(read)]
+#[tactic(auto, unfolding(sql_phrases::specs::Readings::both, sql_phrases::specs::Readers::over, sql_phrases::specs::Readers::by_word))]
+pub fn over(alloc: Global, tokens: &mut Tokens<'_>, grouped: bool, depth: u32) -> Result<Part, Stop>
+    ensures { Gives result tokens.new (over (base grouped depth) tokens.old) }
+{
+    let first = conjunction(alloc, tokens, grouped, depth)?;
+    over_rest(alloc, tokens, grouped, depth, first)
 }

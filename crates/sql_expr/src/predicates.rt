@@ -179,7 +179,7 @@ fn ranged(
 /// `[cmp sum | IS [NOT] NULL | BETWEEN sum AND sum | IN ( sum {, sum} )]`, behind its part
 #[cycle(read)]
 #[tactic(auto, unfolding(sql_phrases::specs::Readings::choose, sql_phrases::specs::Readers::tail))]
-fn tail(
+pub fn tail(
     alloc: Global,
     tokens: &mut Tokens<'_>,
     grouped: bool,

@@ -1,7 +1,10 @@
 ghost use Rattle.sql_phrases.specs.Gives.{Gives};
 ghost use Rattle.sql_phrases.specs.Readings.{many};
 ghost use Rattle.sql_phrases.specs.Classes.{in_set, signed_classes};
-ghost use Rattle.sql_phrases.specs.Readers.{base, unary, product, signed, sum};
+ghost use Rattle.sql_words.specs.declared.token.Sign.TheVariants.{Star};
+ghost use Rattle.sql_tree.specs.Makers.{chained};
+ghost use Rattle.sql_tree.specs.declared.tree.Tree as trees;
+ghost use Rattle.sql_phrases.specs.Readers.{base, glyph_rest, unary, product, signed, sum_rest, sum};
 
 use crate::chains::more;
 use crate::level::Level;
@@ -31,13 +34,18 @@ pub fn unary(
     primary(alloc, tokens, grouped, depth)
 }
 
-/// `unary {* unary}`
+/// `{* unary}`, behind the first part of a chain
 #[cycle(read)]
-#[tactic(auto, unfolding(sql_phrases::specs::Readings::both, sql_phrases::specs::Readings::nothing, sql_phrases::specs::Readers::product, sql_phrases::specs::Readers::by_glyph))]
-fn product(alloc: Global, tokens: &mut Tokens<'_>, grouped: bool, depth: u32) -> Result<Part, Stop>
-    ensures { Gives result tokens.new (product (base grouped depth) tokens.old) }
+#[tactic(auto, unfolding(sql_phrases::specs::Readings::both, sql_phrases::specs::Readings::nothing, sql_phrases::specs::Readers::glyph_rest))]
+pub fn product_rest(
+    alloc: Global,
+    tokens: &mut Tokens<'_>,
+    grouped: bool,
+    depth: u32,
+    first: Part,
+) -> Result<Part, Stop>
+    ensures { Gives result tokens.new (glyph_rest Star (unary (base grouped depth)) (chained trees.Product) first tokens.old) }
 {
-    let first = unary(alloc, tokens, grouped, depth)?;
     match more(alloc, tokens, grouped, depth, Level::Factors) {
         Ok(others) => Ok(first.times(alloc, others)?),
         Err(stop) => {
@@ -45,6 +53,16 @@ fn product(alloc: Global, tokens: &mut Tokens<'_>, grouped: bool, depth: u32) ->
             Err(stop)
         }
     }
+}
+
+/// `unary {* unary}`
+#[cycle(read)]
+#[tactic(auto, unfolding(sql_phrases::specs::Readings::both, sql_phrases::specs::Readers::product, sql_phrases::specs::Readers::by_glyph))]
+fn product(alloc: Global, tokens: &mut Tokens<'_>, grouped: bool, depth: u32) -> Result<Part, Stop>
+    ensures { Gives result tokens.new (product (base grouped depth) tokens.old) }
+{
+    let first = unary(alloc, tokens, grouped, depth)?;
+    product_rest(alloc, tokens, grouped, depth, first)
 }
 
 /// `(+ | -) product`
@@ -84,13 +102,18 @@ fn addends(
     Ok(List::new(addends))
 }
 
-/// `product {(+ | -) product}`
+/// `{(+ | -) product}`, behind the first part of a sum
 #[cycle(read)]
-#[tactic(auto, unfolding(sql_phrases::specs::Readings::both, sql_phrases::specs::Readings::nothing, sql_phrases::specs::Readers::sum))]
-pub fn sum(alloc: Global, tokens: &mut Tokens<'_>, grouped: bool, depth: u32) -> Result<Part, Stop>
-    ensures { Gives result tokens.new (sum (base grouped depth) tokens.old) }
+#[tactic(auto, unfolding(sql_phrases::specs::Readings::both, sql_phrases::specs::Readings::nothing, sql_phrases::specs::Readers::sum_rest))]
+pub fn sum_rest(
+    alloc: Global,
+    tokens: &mut Tokens<'_>,
+    grouped: bool,
+    depth: u32,
+    first: Part,
+) -> Result<Part, Stop>
+    ensures { Gives result tokens.new (sum_rest (base grouped depth) first tokens.old) }
 {
-    let first = product(alloc, tokens, grouped, depth)?;
     match addends(alloc, tokens, grouped, depth) {
         Ok(others) => Ok(first.plus(alloc, others)?),
         Err(stop) => {
@@ -98,4 +121,14 @@ pub fn sum(alloc: Global, tokens: &mut Tokens<'_>, grouped: bool, depth: u32) ->
             Err(stop)
         }
     }
+}
+
+/// `product {(+ | -) product}`
+#[cycle(read)]
+#[tactic(auto, unfolding(sql_phrases::specs::Readings::both, sql_phrases::specs::Readers::sum))]
+pub fn sum(alloc: Global, tokens: &mut Tokens<'_>, grouped: bool, depth: u32) -> Result<Part, Stop>
+    ensures { Gives result tokens.new (sum (base grouped depth) tokens.old) }
+{
+    let first = product(alloc, tokens, grouped, depth)?;
+    sum_rest(alloc, tokens, grouped, depth, first)
 }

@@ -1,8 +1,8 @@
 -- What is spelled is read again, where nothing that could go on stands behind it.
 use Rattle.std.proofs.Common.{◌≡◌, inl, inr, Bool, true, false, if◌then◌else◌, List, [], ◌∷◌, ◌++◌, Option, sym, ◌∙◌, ap, append_assoc}
-use Rattle.sql_tree.specs.Phrases.{One, Mark, Nothing, Then, Either, Many}
-use Rattle.sql_phrases.specs.Readings.{Read, Shortens, after, picked, one, nothing, both, head_is, choose, stop, refuse, marked, mark, turn, many}
-use Rattle.sql_phrases.proofs.Repeats.{many_is}
+use Rattle.sql_tree.specs.Phrases.{One, Mark, Nothing, Then, Either, Many, Turns}
+use Rattle.sql_phrases.specs.Readings.{Read, Shortens, after, picked, one, nothing, both, head_is, choose, stop, refuse, marked, mark, turn, many, turns}
+use Rattle.sql_phrases.proofs.Repeats.{many_is, turns_is}
 
 -- no element that `more` holds of stands at the front
 abbrev pub Ends : {T : Type 0} → (T → Bool) → List T → Type 0
@@ -49,22 +49,30 @@ pub again_mark : {T V : Type 0} {A : List T → V → Type 0} {a : List T → Re
 again_mark {a = a} t p more hit k = record { reads = λ front v rest (b, e, h) n. ap (λ z. mark p a (z ++ rest)) e ∙ again_mark_at t p a hit (b ++ rest) ∙ k.reads b v rest h n }
 
 -- a turn that goes on
-turn_goes : {T V : Type 0} (p : T → Bool) (a : List T → Read T V) (m : List T → Read T (List V)) (ts mid : List T) (v : V) (vs : List V) (rest : List T) → head_is p ts ≡ true → a ts ≡ Read.Took v mid → m mid ≡ Read.Took vs rest → turn p a m ts ≡ Read.Took (v ∷ vs) rest
+turn_goes : {T V : Type 0} (p : T → Bool) (a : List T → Read T V) (m : V → List T → Read T (List V)) (ts mid : List T) (v : V) (vs : List V) (rest : List T) → head_is p ts ≡ true → a ts ≡ Read.Took v mid → m v mid ≡ Read.Took vs rest → turn p a m ts ≡ Read.Took (v ∷ vs) rest
 unfolding turn choose both nothing
-turn_goes p a m ts mid v vs rest h e k = ap (λ z. if z then after (a ts) (λ w r. after (m r) (λ ws l. Read.Took (w ∷ ws) l)) else Read.Took [] ts) h ∙ ap (λ q. after q (λ w r. after (m r) (λ ws l. Read.Took (w ∷ ws) l))) e ∙ ap (λ q. after q (λ ws l. Read.Took (v ∷ ws) l)) k
+turn_goes p a m ts mid v vs rest h e k = ap (λ z. if z then after (a ts) (λ w r. after (m w r) (λ ws l. Read.Took (w ∷ ws) l)) else Read.Took [] ts) h ∙ ap (λ q. after q (λ w r. after (m w r) (λ ws l. Read.Took (w ∷ ws) l))) e ∙ ap (λ q. after q (λ ws l. Read.Took (v ∷ ws) l)) k
 
 -- a turn that ends
-pub turn_ends : {T V : Type 0} (p : T → Bool) (a : List T → Read T V) (m : List T → Read T (List V)) (ts : List T) → head_is p ts ≡ false → turn p a m ts ≡ Read.Took [] ts
+pub turn_ends : {T V : Type 0} (p : T → Bool) (a : List T → Read T V) (m : V → List T → Read T (List V)) (ts : List T) → head_is p ts ≡ false → turn p a m ts ≡ Read.Took [] ts
 unfolding turn choose nothing
-turn_ends p a m ts h = ap (λ z. if z then both a (λ v. both m (λ vs. nothing (v ∷ vs))) ts else Read.Took [] ts) h
+turn_ends p a m ts h = ap (λ z. if z then both a (λ v. both (m v) (λ vs. nothing (v ∷ vs))) ts else Read.Took [] ts) h
 
 pub again_many : {T V : Type 0} {A : List T → V → Type 0} {a : List T → Read T V} (p ma more : T → Bool) → Shortens a → Again A ma a → ((front : List T) (v : V) (rest : List T) → A front v → head_is p (front ++ rest) ≡ true) → ((rest : List T) → Ends more rest → head_is p rest ≡ false) → ((front : List T) (vs : List V) (rest : List T) → Many A front vs → Ends more rest → Ends ma (front ++ rest)) → Again (Many A) more (many p a)
 again_many {T = T} {V = V} {A = A} {a = a} p ma more shorter k stands no_more apart = record { reads = λ front v rest h n. go v front rest h n }
   where
     go : (vs : List V) (front : List T) (rest : List T) → Many A front vs → Ends more rest → many p a (front ++ rest) ≡ Read.Took vs rest
-    go [] front rest h n = ap (λ z. many p a (z ++ rest)) h ∙ many_is p a shorter rest ∙ turn_ends p a (many p a) rest (no_more rest n)
+    go [] front rest h n = ap (λ z. many p a (z ++ rest)) h ∙ many_is p a shorter rest ∙ turn_ends p a (λ v. many p a) rest (no_more rest n)
     go (v ∷ vs) front rest (f, g, e, h, hs) n =
-        ap (λ z. many p a (z ++ rest)) e ∙ ap (many p a) (append_assoc f g rest) ∙ many_is p a shorter (f ++ (g ++ rest)) ∙ turn_goes p a (many p a) (f ++ (g ++ rest)) (g ++ rest) v vs rest (stands f v (g ++ rest) h) (k.reads f v (g ++ rest) h (apart g vs rest hs n)) (go vs g rest hs n)
+        ap (λ z. many p a (z ++ rest)) e ∙ ap (many p a) (append_assoc f g rest) ∙ many_is p a shorter (f ++ (g ++ rest)) ∙ turn_goes p a (λ v. many p a) (f ++ (g ++ rest)) (g ++ rest) v vs rest (stands f v (g ++ rest) h) (k.reads f v (g ++ rest) h (apart g vs rest hs n)) (go vs g rest hs n)
+
+pub again_turns : {T S V : Type 0} {A : S → List T → V → Type 0} {a : S → List T → Read T V} (p ma more : T → Bool) (next : S → V → S) → ((s : S) → Shortens (a s)) → ((s : S) → Again (A s) ma (a s)) → ((s : S) (front : List T) (v : V) (rest : List T) → A s front v → head_is p (front ++ rest) ≡ true) → ((rest : List T) → Ends more rest → head_is p rest ≡ false) → ((s : S) (front : List T) (vs : List V) (rest : List T) → Turns A next s front vs → Ends more rest → Ends ma (front ++ rest)) → (s : S) → Again (Turns A next s) more (turns p a next s)
+again_turns {T = T} {S = S} {V = V} {A = A} {a = a} p ma more next shorter k stands no_more apart s = record { reads = λ front v rest h n. go v s front rest h n }
+  where
+    go : (vs : List V) (s : S) (front : List T) (rest : List T) → Turns A next s front vs → Ends more rest → turns p a next s (front ++ rest) ≡ Read.Took vs rest
+    go [] s front rest h n = ap (λ z. turns p a next s (z ++ rest)) h ∙ turns_is p a next shorter s rest ∙ turn_ends p (a s) (λ v. turns p a next (next s v)) rest (no_more rest n)
+    go (v ∷ vs) s front rest (f, g, e, h, hs) n =
+        ap (λ z. turns p a next s (z ++ rest)) e ∙ ap (turns p a next s) (append_assoc f g rest) ∙ turns_is p a next shorter s (f ++ (g ++ rest)) ∙ turn_goes p (a s) (λ w. turns p a next (next s w)) (f ++ (g ++ rest)) (g ++ rest) v vs rest (stands s f v (g ++ rest) h) ((k s).reads f v (g ++ rest) h (apart (next s v) g vs rest hs n)) (go vs (next s v) g rest hs n)
 
 -- what is spelled alike has one value
 pub again_one_value : {T V : Type 0} (L : List T → V → Type 0) (more : T → Bool) (read : List T → Read T V) → Again L more read → (ts : List T) (s t : V) → L ts s → L ts t → s ≡ t

@@ -5,18 +5,20 @@ use Rattle.sql_words.specs.declared.token.Key.{Key}
 use Rattle.sql_words.specs.declared.token.Sign.{Sign}
 use Rattle.sql_words.specs.Symbols.{Symbol}
 use Rattle.sql_tree.specs.declared.part.Part.{Part}
+use Rattle.sql_tree.specs.declared.part.Tally.{Tally}
 use Rattle.sql_tree.specs.declared.tree.AggKind.{AggKind}
 use Rattle.sql_tree.specs.declared.tree.ColRef.{ColRef}
 use Rattle.sql_tree.specs.declared.tree.Tree
-use Rattle.sql_tree.specs.Makers.{constant, column, negated, denied, is_null, compared, between, one_of, chained, addend, summed, count_all, aggregated}
-use Rattle.sql_tree.specs.Expressions.{NamedConstant, DateConstant, Constant, Literal, Qualified, Reference, Atom, Unary, Product, Signed, Sum, Compared, NullTest, Between, Among, Ranged, Tail, Predicate, Negation, Conjunction, Over, Argument, Counted, Aggregate, Primary, Leaf, Grouped, Base, Expr, GroupedExpr}
+use Rattle.sql_tree.specs.Makers.{constant, column, negated, denied, is_null, compared, between, one_of, chained, addend, summed, aggregated, as_aggregate}
+use Rattle.sql_tree.specs.Expressions.{NamedConstant, DateConstant, Constant, Literal, Qualified, Reference, Atom, Unary, Product, Signed, Sum, Compared, NullTest, Between, Among, Ranged, Tail, Predicate, Negation, Conjunction, Over, Counted, Tallied, Argument, Aggregate, Primary, Leaf, Grouped, Base, Expr, GroupedExpr}
+use Rattle.sql_tree.specs.Phrases.{Nothing, Then, Many}
 use Rattle.sql_phrases.specs.Readings.{Read}
-use Rattle.sql_phrases.specs.Classes.{Class, is_key, in_set, name_classes, number_classes, text_classes, cmp_classes, signed_classes, aggregate_classes}
-use Rattle.sql_phrases.specs.Readers.{named_constant, date_constant, a_constant, literal, qualified, reference, atom, unary, product, signed, sum, comparison, null_test, betweens, among, ranged, tail, predicate, negation, conjunction, over, argument, counted, aggregate, primary, leaf, grouped, base, expr, grouped_expr}
+use Rattle.sql_phrases.specs.Classes.{Class, is_key, in_set, name_classes, number_classes, text_classes, cmp_classes, signed_classes, aggregate_classes, tally_classes}
+use Rattle.sql_phrases.specs.Readers.{named_constant, date_constant, a_constant, literal, qualified, reference, atom, unary, product, signed, sum_rest, sum, comparison, null_test, betweens, among, ranged, tail, predicate, negation, conjunction, over, over_from, counted, summing, tallied, argument, aggregate, primary, leaf, grouped, base, expr, grouped_expr}
 use Rattle.sql_phrases.proofs.Goods.{Good, key_tells, good_nothing, good_key, good_sign, good_then, good_made, good_many, good_refuse, good_wider}
-use Rattle.sql_phrases.proofs.Shapes.{good_at_key, good_at_sign, good_at_set, good_inside, good_by_word, good_by_glyph}
+use Rattle.sql_phrases.proofs.Shapes.{Rest, good_at_key, good_at_sign, good_at_set, good_inside, good_word_rest, good_glyph_rest, good_by_word, good_by_glyph}
 use Rattle.sql_phrases.proofs.Picks.{good_name, good_text, good_date, good_number, good_cmp}
-use Rattle.sql_phrases.proofs.Sets.{of_keys, constant_first, literal_first, atom_first, leaf_first, base_first, sum_first, over_first, dot, product_more, sum_more, ranged_first, tail_first, predicate_more, conjunction_more, over_more}
+use Rattle.sql_phrases.proofs.Sets.{of_keys, constant_first, literal_first, atom_first, leaf_first, base_first, sum_first, over_first, dot, product_more, sum_more, ranged_first, tail_first, predicate_more, conjunction_more, over_more, rest_first}
 
 pub good_named_constant : Good NamedConstant named_constant (of_keys (Key.True ∷ (Key.False ∷ (Key.Null ∷ [])))) false []
 unfolding named_constant
@@ -66,9 +68,17 @@ pub good_signed : {P : List Symbol → Part → Type 0} {p : List Symbol → Rea
 unfolding signed
 good_signed b = good_wider signed_classes false product_more refl refl refl (good_at_sign Sign.Plus refl (good_sign Sign.Plus (good_made (addend false) (good_product b))) (good_sign Sign.Minus (good_made (addend true) (good_product b))))
 
+-- behind the first product x of a sum
+abbrev pub SumRest : (List Symbol → Part → Type 0) → Part → List Symbol → Part → Type 0
+SumRest P x = Then (Many (Signed P)) (λ ys. Nothing (summed x ys))
+
+pub good_sum_rest : {P : List Symbol → Part → Type 0} {p : List Symbol → Read Symbol Part} → Based P p → (x : Part) → Good (SumRest P x) (sum_rest p x) signed_classes true sum_more
+unfolding sum_rest
+good_sum_rest b x = good_wider signed_classes true sum_more refl refl refl (good_made (summed x) (good_many (in_set signed_classes) signed_classes (λ t. refl) refl refl (good_signed b)))
+
 pub good_sum : {P : List Symbol → Part → Type 0} {p : List Symbol → Read Symbol Part} → Based P p → Good (Sum P) (sum p) sum_first false sum_more
 unfolding sum
-good_sum b = good_wider sum_first false sum_more refl refl refl (good_then refl (good_product b) (λ x. good_made (summed x) (good_many (in_set signed_classes) signed_classes (λ t. refl) refl refl (good_signed b))))
+good_sum b = good_wider sum_first false sum_more refl refl refl (good_then refl (good_product b) (good_sum_rest b))
 
 pub good_comparison : {P : List Symbol → Part → Type 0} {p : List Symbol → Read Symbol Part} → Based P p → (x : Part) → Good (Compared P x) (comparison p x) cmp_classes false sum_more
 unfolding comparison
@@ -111,22 +121,34 @@ pub good_over : {P : List Symbol → Part → Type 0} {p : List Symbol → Read 
 unfolding over
 good_over b = good_wider over_first false over_more refl refl refl (good_by_word Key.Or (chained Tree.Or) refl (good_conjunction b))
 
+-- behind x, the first unary of an expression
+abbrev pub OverFrom : (List Symbol → Part → Type 0) → Part → List Symbol → Part → Type 0
+OverFrom P x = Then (Rest (Symbol.Mark Sign.Star) (Unary P) (chained Tree.Product) x) (λ y. Then (SumRest P y) (λ z. Then (Tail P z) (λ w. Then (Rest (Symbol.Keyword Key.And) (Negation P) (chained Tree.And) w) (Rest (Symbol.Keyword Key.Or) (Conjunction P) (chained Tree.Or)))))
+
+pub good_over_from : {P : List Symbol → Part → Type 0} {p : List Symbol → Read Symbol Part} → Based P p → (x : Part) → Good (OverFrom P x) (over_from p x) rest_first true over_more
+unfolding over_from
+good_over_from b x = good_wider rest_first true over_more refl refl refl (good_then refl (good_glyph_rest Sign.Star (chained Tree.Product) refl (good_unary b) x) (λ y. good_then refl (good_sum_rest b y) (λ z. good_then refl (good_tail b z) (λ w. good_then refl (good_word_rest Key.And (chained Tree.And) refl (good_negation b) w) (good_word_rest Key.Or (chained Tree.Or) refl (good_conjunction b))))))
+
 -- aggregates, over an expression
 
 abbrev pub Whole : (List Symbol → Part → Type 0) → (List Symbol → Read Symbol Part) → Type 0
 Whole E e = Good E e over_first false over_more
 
+pub good_counted : {E : List Symbol → Part → Type 0} {e : List Symbol → Read Symbol Part} → Whole E e → Good (Counted E) (counted e) (Class.OfSign Sign.Open ∷ []) false []
+unfolding counted
+good_counted g = good_inside refl (good_at_sign Sign.Star refl (good_sign Sign.Star (good_nothing Tally.All)) (good_made (λ x. Tally.Count x) g))
+
+pub good_tallied : {E : List Symbol → Part → Type 0} {e : List Symbol → Read Symbol Part} → Whole E e → Good (Tallied E) (tallied e) tally_classes false []
+unfolding tallied summing
+good_tallied g = good_at_key Key.Count refl (good_key Key.Count (good_counted g)) (good_key Key.Sum (good_made (λ x. Tally.Sum x) (good_inside refl g)))
+
 pub good_argument : {E : List Symbol → Part → Type 0} {e : List Symbol → Read Symbol Part} (kind : AggKind) → Whole E e → Good (Argument kind E) (argument kind e) (Class.OfSign Sign.Open ∷ []) false []
 unfolding argument
 good_argument kind g = good_made (aggregated kind) (good_inside refl g)
 
-pub good_counted : {E : List Symbol → Part → Type 0} {e : List Symbol → Read Symbol Part} → Whole E e → Good (Counted E) (counted e) (Class.OfSign Sign.Open ∷ []) false []
-unfolding counted
-good_counted g = good_inside refl (good_at_sign Sign.Star refl (good_sign Sign.Star (good_nothing count_all)) (good_made (aggregated AggKind.Count) g))
-
 pub good_aggregate : {E : List Symbol → Part → Type 0} {e : List Symbol → Read Symbol Part} → Whole E e → Good (Aggregate E) (aggregate e) aggregate_classes false []
 unfolding aggregate
-good_aggregate g = good_at_key Key.Count refl (good_key Key.Count (good_counted g)) (good_at_key Key.Sum refl (good_key Key.Sum (good_argument AggKind.Sum g)) (good_at_key Key.Min refl (good_key Key.Min (good_argument AggKind.Min g)) (good_key Key.Max (good_argument AggKind.Max g))))
+good_aggregate g = good_at_set tally_classes refl refl (good_made as_aggregate (good_tallied g)) (good_at_key Key.Min refl (good_key Key.Min (good_argument AggKind.Min g)) (good_key Key.Max (good_argument AggKind.Max g)))
 
 -- primaries, and whole expressions
 

@@ -14,9 +14,9 @@ use Rattle.sql_tree.specs.declared.statement.NewPart.{NewPart}
 use Rattle.sql_tree.specs.declared.statement.Setting.{Setting}
 use Rattle.sql_tree.specs.declared.statement.Statement.{Statement}
 use Rattle.sql_tree.specs.declared.tree.Tree.{Tree}
-use Rattle.sql_tree.specs.Spells.{Kind, NotNull, NewColumns, CreatesTable, EncodingName, Encoded, NewParts, SortedBy, CreatesProjection, Creates, Drops, Tuple, Inserts, Deletes, Sets, Updates, Copies, Bare, SetsAhm, Tasks, Purges, Refreshes, Calls, Selects, Epochs, SelectsAt, Explains, Sessions, Controls, Spells}
+use Rattle.sql_tree.specs.Spells.{Kind, NotNull, NewColumns, CreatesTable, EncodingName, Encoded, NewParts, SortedBy, CreatesProjection, Creates, Alters, Drops, Tuple, Inserts, Deletes, Sets, Updates, Copies, Bare, SetsAhm, Tasks, Purges, Refreshes, Calls, Selects, Epochs, SelectsAt, Explains, Sessions, Controls, Spells}
 use Rattle.sql_phrases.specs.Classes.{Class, in_set, name_classes, number_classes, call_classes}
-use Rattle.sql_phrases.specs.Readers.{kind, not_null, new_column, creates_table, encoding_name, encoded, new_part, sorted_by, creates_projection, creates, drops, tuple, inserts, deletes, sets, updates, copies, bare, sets_ahm, tasks, purges, refreshes, calls, selects, epochs, selects_at, explains, sessions, controls, reads}
+use Rattle.sql_phrases.specs.Readers.{kind, not_null, new_column, creates_table, encoding_name, encoded, new_part, sorted_by, creates_projection, creates, alters, drops, tuple, inserts, deletes, sets, updates, copies, bare, sets_ahm, tasks, purges, refreshes, calls, selects, epochs, selects_at, explains, sessions, controls, reads}
 use Rattle.sql_phrases.proofs.Agains.{again_one_value}
 use Rattle.sql_phrases.proofs.Goods.{Good, good_nothing, good_key, good_sign, good_back, good_then, good_made, good_wider}
 use Rattle.sql_phrases.proofs.Shapes.{good_at_key, good_at_back, good_at_set, good_inside, good_listed}
@@ -70,6 +70,12 @@ good_creates_projection = good_key Key.Projection (good_then refl good_name (λ 
 pub good_creates : Good Creates creates (of_keys (Key.Create ∷ [])) false sorted_more
 unfolding creates
 good_creates = good_key Key.Create (good_at_key Key.Table refl good_creates_table good_creates_projection)
+
+pub good_alters : Good Alters alters (of_keys (Key.Alter ∷ [])) false []
+unfolding alters
+good_alters = good_key Key.Alter (good_key Key.Table (good_then refl good_name (λ t. good_key Key.Add (good_key Key.Column (good_then refl good_new_column (λ c. good_key Key.Default (
+    let with_default : Wide → Statement = λ d. Statement.AddColumn (record { table = t; column = c; default = d }) in
+    good_made with_default good_literal)))))))
 
 pub good_drops : Good Drops drops (of_keys (Key.Drop ∷ [])) false []
 unfolding drops
@@ -157,7 +163,7 @@ good_controls = good_at_key Key.Commit refl (good_key Key.Commit (good_nothing S
 
 pub good_reads : Good Spells reads statement_first false query_more
 unfolding reads
-good_reads = good_wider statement_first false query_more refl refl refl (good_at_key Key.Create refl good_creates (good_at_key Key.Drop refl good_drops (good_at_key Key.Insert refl good_inserts (good_at_key Key.Delete refl good_deletes (good_at_key Key.Update refl good_updates (good_at_key Key.Copy refl good_copies (good_at_key Key.Select refl good_selects (good_at_key Key.At refl good_selects_at (good_at_key Key.Explain refl good_explains good_controls)))))))))
+good_reads = good_wider statement_first false query_more refl refl refl (good_at_key Key.Create refl good_creates (good_at_key Key.Alter refl good_alters (good_at_key Key.Drop refl good_drops (good_at_key Key.Insert refl good_inserts (good_at_key Key.Delete refl good_deletes (good_at_key Key.Update refl good_updates (good_at_key Key.Copy refl good_copies (good_at_key Key.Select refl good_selects (good_at_key Key.At refl good_selects_at (good_at_key Key.Explain refl good_explains good_controls))))))))))
 
 -- no symbols spell two statements
 pub spelled_once : (ts : List Symbol) (s t : Statement) → Spells ts s → Spells ts t → s ≡ t

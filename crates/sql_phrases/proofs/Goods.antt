@@ -12,14 +12,14 @@ use Rattle.sql_words.specs.contracts.token.KeyPartialEq.TheImpl as keys
 use Rattle.sql_words.specs.contracts.token.SignPartialEq.TheImpl as signs
 use Rattle.sql_words.specs.contracts.token.BackPartialEq.TheImpl as backs
 use Rattle.sql_words.specs.Symbols.{Symbol}
-use Rattle.sql_tree.specs.Phrases.{One, Nothing, Then, Either, Many}
+use Rattle.sql_tree.specs.Phrases.{One, Nothing, Then, Either, Many, Turns}
 use Rattle.sql_tree.specs.Symbols.{Word, Glyph, Command}
-use Rattle.sql_phrases.specs.Readings.{Read, Shortens, one, nothing, both, head_is, choose, refuse, many}
+use Rattle.sql_phrases.specs.Readings.{Read, Shortens, one, nothing, both, head_is, choose, refuse, many, turns}
 use Rattle.sql_phrases.specs.Classes.{Class, class_of, is_key, is_sign, is_back, same_class, has, in_set, disjoint, subset}
 use Rattle.sql_phrases.specs.Readers.{word, glyph, command}
 use Rattle.sql_phrases.proofs.Judges.{Takes, Judged, Judge, widen, judge_nothing, judge_one, judge_both, judge_choose, judge_refuse, judge_mark}
-use Rattle.sql_phrases.proofs.Repeats.{judge_many}
-use Rattle.sql_phrases.proofs.Agains.{Ends, Again, again_one, again_nothing, again_both, again_choose, again_refuse, again_mark, again_many}
+use Rattle.sql_phrases.proofs.Repeats.{judge_many, judge_turns}
+use Rattle.sql_phrases.proofs.Agains.{Ends, Again, again_one, again_nothing, again_both, again_choose, again_refuse, again_mark, again_many, again_turns}
 
 pub key_same : (j k : Key) → keys.ghosts.eq j k ≡ true → j ≡ k
 key_same j k h = same_true the_key.the_type (search rules) _ _ h
@@ -329,6 +329,21 @@ good_many {fa = fa} {ma = ma} p cs tells s d g = record {
   begins = λ front vs h. many_front fa g.begins vs front h;
 }
 
+turns_front : {S V : Type 0} {A : S → List Symbol → V → Type 0} (fa : List Class) (next : S → V → S) → ((s : S) (front : List Symbol) (v : V) → A s front v → Begins fa false front) → (vs : List V) (s : S) (front : List Symbol) → Turns A next s front vs → Begins fa true front
+turns_front fa next begins [] s front e = subst (Begins fa true) (sym e) refl
+turns_front fa next begins (v ∷ vs) s front (f, g, e, h, k) = subst (Begins fa true) (sym e) (many_begins fa f g (begins s f v h))
+
+-- the same in a state, which changes neither with which symbols one begins nor which go on
+pub good_turns : {S V : Type 0} {A : S → List Symbol → V → Type 0} {a : S → List Symbol → Read Symbol V} {fa ma : List Class} (p : Symbol → Bool) (cs : List Class) → ((t : Symbol) → p t ≡ in_set cs t) → subset fa cs ≡ true → disjoint fa ma ≡ true → (next : S → V → S) → ((s : S) → Good (A s) (a s) fa false ma) → (s : S) → Good (Turns A next s) (turns p a next s) fa true (ma ++ cs)
+good_turns {fa = fa} {ma = ma} p cs tells s d next g state = record {
+  judge = judge_turns p next (λ z. good_shortens (g z)) (λ z. (g z).judge) state;
+  again = again_turns p (in_set ma) (in_set (ma ++ cs)) next (λ z. good_shortens (g z)) (λ z. (g z).again)
+      (λ z front v rest h. either_yes p cs fa tells s front rest ((g z).begins front v h))
+      (λ rest n. many_no p ma cs tells rest n)
+      (λ z front vs rest h n. many_apart fa ma cs d front rest (turns_front fa next (λ y f v k. (g y).begins f v k) vs z front h) n) state;
+  begins = λ front vs h. turns_front fa next (λ y f v k. (g y).begins f v k) vs state front h;
+}
+
 refuse_no : (p : Symbol → Bool) (cs fa ma : List Class) (ea : Bool) → ((t : Symbol) → p t ≡ in_set cs t) → disjoint fa cs ≡ true → (front rest : List Symbol) → Begins fa ea front → Ends (in_set (ma ++ cs)) rest → head_is p (front ++ rest) ≡ false
 refuse_no p cs fa ma ea tells d [] [] h n = refl
 refuse_no p cs fa ma ea tells d [] (t ∷ ts) h n = tells t ∙ out_right ma cs (class_of t) n
@@ -368,3 +383,63 @@ good_wider {fa = fa} {ma = ma} {ea = ea} f e m s h n g = record {
   again = record { reads = λ front v rest k w. g.again.reads front v rest k (ends_within ma m n rest w) };
   begins = λ front v k. begins_wider fa f ea e s h front (g.begins front v k);
 }
+
+prefer_left : {V : Type 0} (A : List Symbol → V → Type 0) (a b : List Symbol → Read Symbol V) (p : Symbol → Bool) (ma mb : List Class) → Again A (in_set ma) a → (front : List Symbol) (v : V) (rest : List Symbol) → A front v → head_is p (front ++ rest) ≡ true → Ends (in_set (ma ++ mb)) rest → choose p a b (front ++ rest) ≡ Read.Took v rest
+unfolding choose
+prefer_left A a b p ma mb k front v rest h e n = ap (λ z. if z then a (front ++ rest) else b (front ++ rest)) e ∙ k.reads front v rest h (ends_left ma mb rest n)
+
+prefer_right : {V : Type 0} (A B : List Symbol → V → Type 0) (a b : List Symbol → Read Symbol V) (p : Symbol → Bool) (ma mb : List Class) → Again A (in_set ma) a → Again B (in_set mb) b → ((front : List Symbol) (v : V) → B front v → head_is p front ≡ true → A front v) → (t : Symbol) (front : List Symbol) (v : V) (rest : List Symbol) → B (t ∷ front) v → Ends (in_set (ma ++ mb)) rest → (flag : Bool) → p t ≡ flag → choose p a b ((t ∷ front) ++ rest) ≡ Read.Took v rest
+unfolding choose
+prefer_right A B a b p ma mb ka kb also t front v rest h n true e = prefer_left A a b p ma mb ka (t ∷ front) v rest (also (t ∷ front) v h e) e n
+prefer_right A B a b p ma mb ka kb also t front v rest h n false e = ap (λ z. if z then a (t ∷ (front ++ rest)) else b (t ∷ (front ++ rest))) e ∙ kb.reads (t ∷ front) v rest h (ends_right ma mb rest n)
+
+prefer_reads : {V : Type 0} (A B : List Symbol → V → Type 0) (a b : List Symbol → Read Symbol V) (p : Symbol → Bool) (fb ma mb : List Class) → Again A (in_set ma) a → Again B (in_set mb) b → ((front : List Symbol) (v : V) → A front v → (rest : List Symbol) → head_is p (front ++ rest) ≡ true) → ((front : List Symbol) (v : V) → B front v → Begins fb false front) → ((front : List Symbol) (v : V) → B front v → head_is p front ≡ true → A front v) → (front : List Symbol) (v : V) (rest : List Symbol) → Either A B front v → Ends (in_set (ma ++ mb)) rest → choose p a b (front ++ rest) ≡ Read.Took v rest
+prefer_reads A B a b p fb ma mb ka kb stands begins also front v rest (inl h) n = prefer_left A a b p ma mb ka front v rest h (stands front v h rest) n
+prefer_reads A B a b p fb ma mb ka kb stands begins also [] v rest (inr h) n = let none = begins [] v h in absurd cc
+prefer_reads A B a b p fb ma mb ka kb stands begins also (t ∷ front) v rest (inr h) n = prefer_right A B a b p ma mb ka kb also t front v rest h n (p t) refl
+
+-- the test p tells of the first of two; what the second spells from such a symbol on, the first spells too
+pub good_prefer : {V : Type 0} {A B : List Symbol → V → Type 0} {a b : List Symbol → Read Symbol V} {fa ma fb mb : List Class} (p : Symbol → Bool) (cs : List Class) → ((t : Symbol) → p t ≡ in_set cs t) → subset fa cs ≡ true → Good A a fa false ma → Good B b fb false mb → ((front : List Symbol) (v : V) → B front v → head_is p front ≡ true → A front v) → Good (Either A B) (choose p a b) (fa ++ fb) false (ma ++ mb)
+good_prefer {A = A} {B = B} {a = a} {b = b} {fa = fa} {ma = ma} {fb = fb} {mb = mb} p cs tells s g h also = record {
+  judge = judge_choose p g.judge h.judge;
+  again = record { reads = prefer_reads A B a b p fb ma mb g.again h.again (λ front v k rest. either_yes p cs fa tells s front rest (g.begins front v k)) h.begins also };
+  begins = either_begins fa fb false g.begins h.begins;
+}
+
+-- what stands at the head of a list, by sets of classes
+
+-- a symbol of one set is none of another
+pub head_apart : (p : Symbol → Bool) (ds cs : List Class) → ((t : Symbol) → p t ≡ in_set ds t) → disjoint cs ds ≡ true → (ts : List Symbol) → head_is (in_set cs) ts ≡ true → head_is p ts ≡ false
+head_apart p ds cs tells d [] h = refl
+head_apart p ds cs tells d (t ∷ ts) h = tells t ∙ apart cs ds d (class_of t) h
+
+-- a symbol of the lesser set is one of the greater
+pub head_within : (cs ds : List Class) → subset cs ds ≡ true → (ts : List Symbol) → head_is (in_set cs) ts ≡ true → head_is (in_set ds) ts ≡ true
+head_within cs ds s [] h = h
+head_within cs ds s (t ∷ ts) h = within cs ds s (class_of t) h
+
+pub begins_head : (cs : List Class) (front : List Symbol) → Begins cs false front → head_is (in_set cs) front ≡ true
+begins_head cs [] b = b
+begins_head cs (t ∷ ts) b = b
+
+clash : (fa cs : List Class) → disjoint fa cs ≡ true → (t : Symbol) (front ts : List Symbol) → in_set fa t ≡ true → ts ≡ t ∷ front → head_is (in_set cs) ts ≡ true → ⊥
+clash fa cs d t front ts b e h =
+    let out : in_set cs t ≡ false = apart fa cs d (class_of t) b in
+    let there : in_set cs t ≡ true = ap (head_is (in_set cs)) (sym e) ∙ h in
+    cc
+
+never_taken : (fa cs : List Class) → disjoint fa cs ≡ true → (front rest ts : List Symbol) → Begins fa false front → ts ≡ front ++ rest → head_is (in_set cs) ts ≡ true → ⊥
+never_taken fa cs d [] rest ts b e h = cc
+never_taken fa cs d (t ∷ front) rest ts b e h = clash fa cs d t (front ++ rest) ts b e h
+
+at_once : (fa cs : List Class) → disjoint fa cs ≡ true → (front more rest ts : List Symbol) → Begins fa false (front ++ more) → ts ≡ front ++ rest → head_is (in_set cs) ts ≡ true → rest ≡ ts
+at_once fa cs d [] more rest ts b e h = sym e
+at_once fa cs d (t ∷ front) more rest ts b e h = absurd (clash fa cs d t (front ++ rest) ts b e h)
+
+stops_so : {V : Type 0} (A : List Symbol → V → Type 0) (a : List Symbol → Read Symbol V) (fa cs : List Class) → disjoint fa cs ≡ true → ((front : List Symbol) (v : V) → A front v → Begins fa false front) → (ts : List Symbol) → head_is (in_set cs) ts ≡ true → (q : Read Symbol V) → Judged A a ts q → q ≡ Read.Stopped ts
+stops_so A a fa cs d begins ts h (Read.Took v rest) k = absurd (never_taken fa cs d k.front rest ts (begins k.front v k.spelled) k.is h)
+stops_so A a fa cs d begins ts h (Read.Stopped rest) k = ap Read.Stopped (at_once fa cs d k.front k.opens.more rest ts (begins (k.front ++ k.opens.more) k.opens.value k.opens.spelled) k.is h)
+
+-- a reader stops at once at a symbol with which nothing begins that it reads
+pub good_stops : {V : Type 0} {A : List Symbol → V → Type 0} {a : List Symbol → Read Symbol V} {fa ma : List Class} (cs : List Class) → Good A a fa false ma → disjoint fa cs ≡ true → (ts : List Symbol) → head_is (in_set cs) ts ≡ true → a ts ≡ Read.Stopped ts
+good_stops {A = A} {a = a} {fa = fa} cs g d ts h = stops_so A a fa cs d g.begins ts h (a ts) (g.judge.each ts)

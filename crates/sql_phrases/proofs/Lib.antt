@@ -9,5 +9,6 @@ pub mod Rolling
 pub mod Sets
 pub mod Picks
 pub mod GoodExpressions
+pub mod Heads
 pub mod GoodQueries
 pub mod GoodStatements

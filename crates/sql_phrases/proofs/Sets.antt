@@ -3,7 +3,7 @@ use Rattle.std.proofs.Common.{List, [], ◌∷◌, ◌++◌, map}
 use Rattle.sql_words.specs.declared.token.Key.{Key}
 use Rattle.sql_words.specs.declared.token.Sign.{Sign}
 use Rattle.sql_words.specs.declared.token.Back.{Back}
-use Rattle.sql_phrases.specs.Classes.{Class, cmp_classes, signed_classes, aggregate_classes, source_classes}
+use Rattle.sql_phrases.specs.Classes.{Class, cmp_classes, signed_classes, aggregate_classes, ranking_classes, source_classes}
 
 abbrev pub of_keys : List Key → List Class
 of_keys ks = map Class.OfKey ks
@@ -60,16 +60,28 @@ conjunction_more = Class.OfKey Key.And ∷ predicate_more
 abbrev pub over_more : List Class
 over_more = Class.OfKey Key.Or ∷ conjunction_more
 
+-- behind the first unary of an expression
+abbrev pub rest_first : List Class
+rest_first = Class.OfSign Sign.Star ∷ (signed_classes ++ (tail_first ++ of_keys (Key.And ∷ (Key.Or ∷ []))))
+
 -- queries
 
 abbrev pub item_more : List Class
 item_more = Class.OfKey Key.As ∷ over_more
 
+-- of an item of a query
+abbrev pub tree_first : List Class
+tree_first = ranking_classes ++ over_first
+
+-- OVER goes on with a COUNT or SUM
+abbrev pub tree_more : List Class
+tree_more = Class.OfKey Key.Over ∷ over_more
+
 abbrev pub select_first : List Class
-select_first = Class.OfSign Sign.Star ∷ over_first
+select_first = Class.OfSign Sign.Star ∷ tree_first
 
 abbrev pub select_more : List Class
-select_more = Class.OfSign Sign.Comma ∷ item_more
+select_more = Class.OfSign Sign.Comma ∷ (Class.OfKey Key.As ∷ tree_more)
 
 abbrev pub sources_more : List Class
 sources_more = source_classes ++ item_more
@@ -88,6 +100,13 @@ key_first = Class.OfNumber ∷ (Class.OfName ∷ [])
 
 abbrev pub key_more : List Class
 key_more = of_keys (Key.Asc ∷ (Key.Desc ∷ []))
+
+abbrev pub partition_more : List Class
+partition_more = Class.OfKey Key.Partition ∷ (Class.OfSign Sign.Comma ∷ dot)
+
+-- of a key of a window's order
+abbrev pub row_more : List Class
+row_more = dot ++ key_more
 
 abbrev pub order_more : List Class
 order_more = Class.OfKey Key.Order ∷ (Class.OfSign Sign.Comma ∷ key_more)
@@ -111,4 +130,4 @@ abbrev pub control_first : List Class
 control_first = Class.OfKey Key.Commit ∷ (Class.OfKey Key.Rollback ∷ (Class.OfBack Back.Session ∷ (Class.OfBack Back.Step ∷ [])))
 
 abbrev pub statement_first : List Class
-statement_first = of_keys (Key.Create ∷ (Key.Drop ∷ (Key.Insert ∷ (Key.Delete ∷ (Key.Update ∷ (Key.Copy ∷ (Key.Select ∷ (Key.At ∷ (Key.Explain ∷ []))))))))) ++ control_first
+statement_first = of_keys (Key.Create ∷ (Key.Alter ∷ (Key.Drop ∷ (Key.Insert ∷ (Key.Delete ∷ (Key.Update ∷ (Key.Copy ∷ (Key.Select ∷ (Key.At ∷ (Key.Explain ∷ [])))))))))) ++ control_first

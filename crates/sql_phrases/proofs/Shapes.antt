@@ -4,11 +4,11 @@ use Rattle.sql_words.specs.declared.token.Key.{Key}
 use Rattle.sql_words.specs.declared.token.Sign.{Sign}
 use Rattle.sql_words.specs.declared.token.Back.{Back}
 use Rattle.sql_words.specs.Symbols.{Symbol}
-use Rattle.sql_tree.specs.Phrases.{Either, Chain}
+use Rattle.sql_tree.specs.Phrases.{Mark, Nothing, Then, Either, Many, Chain}
 use Rattle.sql_tree.specs.Symbols.{Inside, Listed}
 use Rattle.sql_phrases.specs.Readings.{Read, choose}
 use Rattle.sql_phrases.specs.Classes.{Class, is_key, is_sign, is_back, in_set, disjoint, subset}
-use Rattle.sql_phrases.specs.Readers.{inside, by_word, by_glyph, listed}
+use Rattle.sql_phrases.specs.Readers.{inside, word_rest, glyph_rest, by_word, by_glyph, listed}
 use Rattle.sql_phrases.proofs.Goods.{Good, key_hits, sign_hits, back_hits, key_tells, sign_tells, back_tells, good_nothing, good_key, good_sign, good_then, good_made, empty_more, good_either, good_many}
 
 key_self : (k : Key) → subset (Class.OfKey k ∷ []) (Class.OfKey k ∷ []) ≡ true
@@ -40,13 +40,25 @@ pub good_inside : {V : Type 0} {A : List Symbol → V → Type 0} {a : List Symb
 unfolding inside
 good_inside d g = good_sign Sign.Open (good_then d g (λ x. good_sign Sign.Close (good_nothing x)))
 
+-- what stands behind the first part of a chain
+abbrev pub Rest : {X V : Type 0} → Symbol → (List Symbol → X → Type 0) → (X → List X → V) → X → List Symbol → V → Type 0
+Rest t A f x = Then (Many (Mark t A)) (λ xs. Nothing (f x xs))
+
+pub good_word_rest : {X V : Type 0} {A : List Symbol → X → Type 0} {a : List Symbol → Read Symbol X} {fa ma : List Class} (k : Key) (f : X → List X → V) → disjoint (Class.OfKey k ∷ []) ma ≡ true → Good A a fa false ma → (x : X) → Good (Rest (Symbol.Keyword k) A f x) (word_rest k a f x) (Class.OfKey k ∷ []) true ((ma ++ (Class.OfKey k ∷ [])) ++ [])
+unfolding word_rest
+good_word_rest k f d g x = good_made (f x) (good_many (is_key k) (Class.OfKey k ∷ []) (key_tells k) (key_self k) d (good_key k g))
+
+pub good_glyph_rest : {X V : Type 0} {A : List Symbol → X → Type 0} {a : List Symbol → Read Symbol X} {fa ma : List Class} (s : Sign) (f : X → List X → V) → disjoint (Class.OfSign s ∷ []) ma ≡ true → Good A a fa false ma → (x : X) → Good (Rest (Symbol.Mark s) A f x) (glyph_rest s a f x) (Class.OfSign s ∷ []) true ((ma ++ (Class.OfSign s ∷ [])) ++ [])
+unfolding glyph_rest
+good_glyph_rest s f d g x = good_made (f x) (good_many (is_sign s) (Class.OfSign s ∷ []) (sign_tells s) (sign_self s) d (good_sign s g))
+
 pub good_by_word : {X V : Type 0} {A : List Symbol → X → Type 0} {a : List Symbol → Read Symbol X} {fa ma : List Class} (k : Key) (f : X → List X → V) → disjoint (Class.OfKey k ∷ []) ma ≡ true → Good A a fa false ma → Good (Chain (Symbol.Keyword k) A f) (by_word k a f) fa false (ma ++ ((ma ++ (Class.OfKey k ∷ [])) ++ []))
 unfolding by_word
-good_by_word k f d g = good_then d g (λ x. good_made (f x) (good_many (is_key k) (Class.OfKey k ∷ []) (key_tells k) (key_self k) d (good_key k g)))
+good_by_word k f d g = good_then d g (good_word_rest k f d g)
 
 pub good_by_glyph : {X V : Type 0} {A : List Symbol → X → Type 0} {a : List Symbol → Read Symbol X} {fa ma : List Class} (s : Sign) (f : X → List X → V) → disjoint (Class.OfSign s ∷ []) ma ≡ true → Good A a fa false ma → Good (Chain (Symbol.Mark s) A f) (by_glyph s a f) fa false (ma ++ ((ma ++ (Class.OfSign s ∷ [])) ++ []))
 unfolding by_glyph
-good_by_glyph s f d g = good_then d g (λ x. good_made (f x) (good_many (is_sign s) (Class.OfSign s ∷ []) (sign_tells s) (sign_self s) d (good_sign s g)))
+good_by_glyph s f d g = good_then d g (good_glyph_rest s f d g)
 
 pub good_listed : {V : Type 0} {A : List Symbol → V → Type 0} {a : List Symbol → Read Symbol V} {fa ma : List Class} → disjoint (Class.OfSign Sign.Comma ∷ []) ma ≡ true → Good A a fa false ma → Good (Listed A) (listed a) fa false (ma ++ ((ma ++ (Class.OfSign Sign.Comma ∷ [])) ++ []))
 unfolding listed

@@ -102,6 +102,18 @@ signed_classes = Class.OfSign Sign.Plus ∷ (Class.OfSign Sign.Minus ∷ [])
 abbrev pub aggregate_classes : List Class
 aggregate_classes = Class.OfKey Key.Count ∷ (Class.OfKey Key.Sum ∷ (Class.OfKey Key.Min ∷ (Class.OfKey Key.Max ∷ [])))
 
+-- what begins a COUNT or SUM
+abbrev pub tally_classes : List Class
+tally_classes = Class.OfKey Key.Count ∷ (Class.OfKey Key.Sum ∷ [])
+
+-- what begins a window function that has no argument
+abbrev pub ranking_classes : List Class
+ranking_classes = Class.OfKey Key.RowNumber ∷ (Class.OfKey Key.Rank ∷ [])
+
+-- what begins a window function
+abbrev pub window_classes : List Class
+window_classes = Class.OfKey Key.RowNumber ∷ (Class.OfKey Key.Rank ∷ (Class.OfKey Key.Count ∷ (Class.OfKey Key.Sum ∷ [])))
+
 -- what goes on with the list of sources
 abbrev pub source_classes : List Class
 source_classes = Class.OfSign Sign.Comma ∷ (Class.OfKey Key.Inner ∷ (Class.OfKey Key.Join ∷ []))

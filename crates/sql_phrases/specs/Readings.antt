@@ -57,17 +57,25 @@ the p t = marked (p t)
 unfoldable pub mark : {T V : Type 0} → (T → Bool) → (List T → Read T V) → List T → Read T V
 mark p a = both (one (the p)) (λ u. a)
 
--- one turn of a repetition: a, and behind it what `again` takes; nothing where p doesn't hold of the first element
-unfoldable pub turn : {T V : Type 0} → (T → Bool) → (List T → Read T V) → (List T → Read T (List V)) → List T → Read T (List V)
-turn p a again = choose p (both a (λ v. both again (λ vs. nothing (v ∷ vs)))) (nothing [])
+-- one turn of a repetition: a, and behind it what `again` takes for a's value; nothing where p doesn't hold of the first element
+unfoldable pub turn : {T V : Type 0} → (T → Bool) → (List T → Read T V) → (V → List T → Read T (List V)) → List T → Read T (List V)
+turn p a again = choose p (both a (λ v. both (again v) (λ vs. nothing (v ∷ vs)))) (nothing [])
 
 unfoldable pub many_within : {T V : Type 0} → ℕ → (T → Bool) → (List T → Read T V) → List T → Read T (List V)
 many_within zero p a = nothing []
-many_within (suc n) p a = turn p a (many_within n p a)
+many_within (suc n) p a = turn p a (λ v. many_within n p a)
 
 -- a again and again, as long as p holds of the first element
 unfoldable pub many : {T V : Type 0} → (T → Bool) → (List T → Read T V) → List T → Read T (List V)
 many p a ts = many_within (length ts) p a ts
+
+unfoldable pub turns_within : {T S V : Type 0} → ℕ → (T → Bool) → (S → List T → Read T V) → (S → V → S) → S → List T → Read T (List V)
+turns_within zero p a next s = nothing []
+turns_within (suc n) p a next s = turn p (a s) (λ v. turns_within n p a next (next s v))
+
+-- a again and again, as long as p holds of the first element, in a state that each value changes by `next`
+unfoldable pub turns : {T S V : Type 0} → (T → Bool) → (S → List T → Read T V) → (S → V → S) → S → List T → Read T (List V)
+turns p a next s ts = turns_within (length ts) p a next s ts
 
 -- what is taken, with these values before it
 abbrev pub joined : {T V : Type 0} → List V → Read T (List V) → Read T (List V)

@@ -1,6 +1,6 @@
 ghost use Rattle.std.specs.Prelude.{◌≡◌, ◌==◌, length, All};
 ghost use Rattle.sql_phrases.specs.Readings.{head_is};
-ghost use Rattle.sql_phrases.specs.Classes.{is_key, is_sign, is_back, in_set, name_classes, number_classes, text_classes, cmp_classes, signed_classes, aggregate_classes, source_classes, call_classes};
+ghost use Rattle.sql_phrases.specs.Classes.{is_key, is_sign, is_back, in_set, name_classes, number_classes, text_classes, cmp_classes, signed_classes, tally_classes, ranking_classes, window_classes, aggregate_classes, source_classes, call_classes};
 ghost use Rattle.sql_words.specs.Symbols.{SaysUtf8};
 ghost use Rattle.sql_words.specs.Words.{IsWithin};
 ghost use Rattle.sql_phrases.specs.Gives.{seen};
@@ -162,13 +162,52 @@ impl<'a> Tokens<'a> {
     pub fn begins_aggregate(&self) -> bool
         ensures { result ≡ head_is (in_set aggregate_classes) self.now }
     {
-        match self.left {
-            [token, ..] => match token.kind {
-                TokenKind::Word(Some(Key::Count | Key::Sum | Key::Min | Key::Max)) => true,
-                _ => false,
-            },
-            [] => false,
+        if self.begins_key(Key::Count) {
+            return true;
         }
+        if self.begins_key(Key::Sum) {
+            return true;
+        }
+        if self.begins_key(Key::Min) {
+            return true;
+        }
+        self.begins_key(Key::Max)
+    }
+
+    /// Whether COUNT or SUM stands at the front.
+    pub fn begins_tally(&self) -> bool
+        ensures { result ≡ head_is (in_set tally_classes) self.now }
+    {
+        if self.begins_key(Key::Count) {
+            return true;
+        }
+        self.begins_key(Key::Sum)
+    }
+
+    /// Whether the name of a window function without an argument stands at the front.
+    pub fn begins_ranking(&self) -> bool
+        ensures { result ≡ head_is (in_set ranking_classes) self.now }
+    {
+        if self.begins_key(Key::RowNumber) {
+            return true;
+        }
+        self.begins_key(Key::Rank)
+    }
+
+    /// Whether the name of a window function stands at the front.
+    pub fn begins_window(&self) -> bool
+        ensures { result ≡ head_is (in_set window_classes) self.now }
+    {
+        if self.begins_key(Key::RowNumber) {
+            return true;
+        }
+        if self.begins_key(Key::Rank) {
+            return true;
+        }
+        if self.begins_key(Key::Count) {
+            return true;
+        }
+        self.begins_key(Key::Sum)
     }
 
     /// Whether what goes on with the sources of a query stands at the front.

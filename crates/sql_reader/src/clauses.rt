@@ -35,7 +35,7 @@ pub fn where_clause(alloc: Global, tokens: &mut Tokens<'_>) -> Result<Option<Tre
 }
 
 /// `name [. name]`
-struct Reference;
+pub struct Reference;
 
 impl Spelled for Reference {
     ghost use Rattle.sql_phrases.specs.Readers.{reference};
@@ -53,11 +53,18 @@ impl Spelled for Reference {
     }
 }
 
-/// `[GROUP BY colref {, colref}]`
+/// `[GROUP BY colref {, colref}]`, which doesn't stand in a query with windows
 #[tactic(auto, unfolding(sql_phrases::specs::Readings::choose, sql_phrases::specs::Readings::mark, sql_phrases::specs::Readings::both, sql_phrases::specs::Readings::nothing, sql_phrases::specs::Readers::group_by))]
-pub fn group_by(alloc: Global, tokens: &mut Tokens<'_>) -> Result<List<ColRef>, Stop>
-    ensures { Gives result tokens.new (group_by tokens.old) }
+pub fn group_by(
+    alloc: Global,
+    tokens: &mut Tokens<'_>,
+    windowed: bool,
+) -> Result<List<ColRef>, Stop>
+    ensures { Gives result tokens.new (group_by windowed tokens.old) }
 {
+    if windowed {
+        return Ok(List::new(Vec::new(alloc)));
+    }
     if !tokens.begins_key(Key::Group) {
         return Ok(List::new(Vec::new(alloc)));
     }
@@ -66,11 +73,18 @@ pub fn group_by(alloc: Global, tokens: &mut Tokens<'_>) -> Result<List<ColRef>, 
     listed::<Reference>(alloc, tokens)
 }
 
-/// `[HAVING gexpr]`
+/// `[HAVING gexpr]`, which doesn't stand in a query with windows
 #[tactic(auto, unfolding(sql_phrases::specs::Readings::choose, sql_phrases::specs::Readings::mark, sql_phrases::specs::Readings::both, sql_phrases::specs::Readings::nothing, sql_phrases::specs::Readers::having))]
-pub fn having(alloc: Global, tokens: &mut Tokens<'_>) -> Result<Option<Tree>, Stop>
-    ensures { Gives result tokens.new (having tokens.old) }
+pub fn having(
+    alloc: Global,
+    tokens: &mut Tokens<'_>,
+    windowed: bool,
+) -> Result<Option<Tree>, Stop>
+    ensures { Gives result tokens.new (having windowed tokens.old) }
 {
+    if windowed {
+        return Ok(None);
+    }
     if !tokens.begins_key(Key::Having) {
         return Ok(None);
     }
@@ -94,7 +108,7 @@ fn key_name(alloc: Global, tokens: &mut Tokens<'_>) -> Result<KeyRef, Stop>
 
 /// `[ASC | DESC]`, whether it is DESC
 #[tactic(auto, unfolding(sql_phrases::specs::Readings::choose, sql_phrases::specs::Readings::mark, sql_phrases::specs::Readings::both, sql_phrases::specs::Readings::nothing, sql_phrases::specs::Readers::descending))]
-fn descending(tokens: &mut Tokens<'_>) -> Result<bool, Stop>
+pub fn descending(tokens: &mut Tokens<'_>) -> Result<bool, Stop>
     ensures { Gives result tokens.new (descending tokens.old) }
 {
     if tokens.begins_key(Key::Asc) {

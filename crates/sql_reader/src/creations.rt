@@ -67,7 +67,7 @@ fn not_null(tokens: &mut Tokens<'_>) -> Result<bool, Stop>
 }
 
 /// `name type [NOT NULL]`
-struct ColumnForm;
+pub struct ColumnForm;
 
 impl Spelled for ColumnForm {
     ghost use Rattle.sql_phrases.specs.Readers.{new_column};

@@ -7,14 +7,17 @@
 //! Where a reader stops it drops what it holds by name: a drop left to the exits is proved at each of them anew.
 #![tactic(auto)]
 
+mod alterations;
 mod calls;
 mod changes;
 mod clauses;
 mod creations;
+mod items;
 mod parentheses;
 mod queries;
 mod reader;
 mod sources;
 mod statements;
+mod windows;
 
 pub use reader::{ReadFault, one_reading, read};

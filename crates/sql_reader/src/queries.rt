@@ -1,56 +1,16 @@
 ghost use Rattle.sql_phrases.specs.Gives.{Gives};
-ghost use Rattle.sql_phrases.specs.Readers.{select_item, select_list, queries, selects, epochs, selects_at, explains};
+ghost use Rattle.sql_phrases.specs.Readers.{queries, selects, epochs, selects_at, explains};
 ghost use Rattle.sql_reader.specs.Parts.{keeps, shapes};
 
 use crate::calls::calls;
-use crate::clauses::{alias, group_by, having, limit, order_by, where_clause};
+use crate::clauses::{group_by, having, limit, order_by, where_clause};
+use crate::items::select_list;
 use crate::sources::sources;
 use col_value::List;
-use sql_expr::grouped_expr;
-use sql_phrases::{Spelled, Stop, Tokens, listed};
-use sql_tree::{At, ColRef, Item, Items, Query, SortKey, Source, Statement, Tree};
-use sql_words::{Key, Sign};
+use sql_phrases::{Stop, Tokens};
+use sql_tree::{At, ColRef, Query, SortKey, Source, Statement, Tree};
+use sql_words::Key;
 use std::alloc::Global;
-
-/// `gexpr [AS name]`
-struct SelectItem;
-
-impl Spelled for SelectItem {
-    ghost use Rattle.sql_phrases.specs.Readers.{select_item};
-    ghost use Rattle.sql_phrases.proofs.Goods.{good_shortens};
-    ghost use Rattle.sql_phrases.proofs.GoodQueries.{good_select_item};
-
-    type Value = Item;
-
-    ghost reads = { select_item };
-
-    ghost shortens = { good_shortens good_select_item };
-
-    #[tactic(auto, unfolding(sql_phrases::specs::Readings::both, sql_phrases::specs::Readings::nothing, sql_phrases::specs::Readers::select_item))]
-    fn read(alloc: Global, tokens: &mut Tokens<'_>) -> Result<Item, Stop> {
-        let tree = grouped_expr(alloc, tokens)?;
-        match alias(alloc, tokens) {
-            Ok(alias) => Ok(Item { tree, alias }),
-            Err(stop) => {
-                drop(tree);
-                Err(stop)
-            }
-        }
-    }
-}
-
-/// `* | item {, item}`
-#[tactic(auto, unfolding(sql_phrases::specs::Readings::choose, sql_phrases::specs::Readings::mark, sql_phrases::specs::Readings::both, sql_phrases::specs::Readings::nothing, sql_phrases::specs::Readers::select_list))]
-fn select_list(alloc: Global, tokens: &mut Tokens<'_>) -> Result<Items, Stop>
-    ensures { Gives result tokens.new (select_list tokens.old) }
-{
-    if tokens.begins_sign(Sign::Star) {
-        tokens.sign(Sign::Star)?;
-        return Ok(Items::Star);
-    }
-    let items = listed::<SelectItem>(alloc, tokens)?;
-    Ok(Items::Listed(items))
-}
 
 /// The rows that a query keeps.
 #[derive(Drop)]
@@ -86,11 +46,11 @@ pub struct Shape {
 
 /// `[GROUP BY ..] [HAVING ..] [ORDER BY ..] [LIMIT ..]`
 #[tactic(auto, unfolding(sql_phrases::specs::Readings::both, sql_phrases::specs::Readings::nothing, crate::specs::Parts::shapes))]
-fn shapes(alloc: Global, tokens: &mut Tokens<'_>) -> Result<Shape, Stop>
-    ensures { Gives result tokens.new (shapes tokens.old) }
+fn shapes(alloc: Global, tokens: &mut Tokens<'_>, windowed: bool) -> Result<Shape, Stop>
+    ensures { Gives result tokens.new (shapes windowed tokens.old) }
 {
-    let group = group_by(alloc, tokens)?;
-    let having = match having(alloc, tokens) {
+    let group = group_by(alloc, tokens, windowed)?;
+    let having = match having(alloc, tokens, windowed) {
         Ok(having) => having,
         Err(stop) => {
             drop(group);
@@ -134,7 +94,7 @@ fn query(alloc: Global, tokens: &mut Tokens<'_>) -> Result<Query, Stop>
             return Err(stop);
         }
     };
-    match shapes(alloc, tokens) {
+    match shapes(alloc, tokens, items.is_windowed()) {
         Ok(shape) => Ok(Query {
             items,
             sources: kept.sources,

@@ -1,6 +1,7 @@
 ghost use Rattle.sql_phrases.specs.Gives.{Gives};
 ghost use Rattle.sql_phrases.specs.Readers.{sessions, controls, reads};
 
+use crate::alterations::alters;
 use crate::changes::{copies, deletes, inserts, updates};
 use crate::creations::{creates, drops};
 use crate::queries::{explains, selects, selects_at};
@@ -46,6 +47,9 @@ pub fn statement(alloc: Global, tokens: &mut Tokens<'_>) -> Result<Statement, St
 {
     if tokens.begins_key(Key::Create) {
         return creates(alloc, tokens);
+    }
+    if tokens.begins_key(Key::Alter) {
+        return alters(alloc, tokens);
     }
     if tokens.begins_key(Key::Drop) {
         return drops(alloc, tokens);

@@ -72,9 +72,13 @@ SelectItem m = Then (ItemTrees m) (λ e. Then Alias (λ a. Nothing (record { tre
 abbrev pub MoreItems : Item → Spelling (List Item)
 MoreItems i = Turns (λ m. Glyph Sign.Comma (SelectItem m)) after_item (after_item ListMode.Free i)
 
+-- item {, item}
+abbrev pub ItemList : Spelling (List Item)
+ItemList = Then (SelectItem ListMode.Free) (λ i. Then (MoreItems i) (λ is. Nothing (i ∷ is)))
+
 -- * | item {, item}
 abbrev pub SelectList : Spelling Items
-SelectList = Either (Glyph Sign.Star (Nothing Items.Star)) (Then (SelectItem ListMode.Free) (λ i. Then (MoreItems i) (λ is. Nothing (Items.Listed (i ∷ is)))))
+SelectList = Either (Glyph Sign.Star (Nothing Items.Star)) (Then ItemList (λ is. Nothing (Items.Listed is)))
 
 -- source = name [AS name]
 abbrev pub FromItem : Spelling Source
