@@ -10,7 +10,7 @@ use Rattle.query_laws.specs.Scopes.{is_shown}
 use Rattle.query_order.specs.Enough.{count_up_to, IsEnough, AreFew}
 use Rattle.sql_bound.specs.declared.query.BoundQuery.{BoundQuery}
 use Rattle.sql_bound.specs.Bounds.{column_bound}
-use Rattle.sql_bound.specs.Outputs.{kept}
+use Rattle.sql_bound.specs.Outputs.{kept, seen_rows}
 use Rattle.sql_bound.specs.Values.{Scope, of_row, value_of}
 use Rattle.query_run.specs.declared.collected.Collected.{Collected}
 
@@ -23,12 +23,22 @@ abbrev pub IsBar : List (ℕ × Bool) → Option ℕ → List (List Wide) → Li
 IsBar order None rows bar = ⊥
 IsBar order (Some n) rows bar = n ≤ count_up_to order bar rows
 
--- Output rows of some tuples, enough for what is printed of all and few where there is a limit, or else the groups of the tuples; and how
--- many tuples there are.
+-- the query is over tuples, without windows or with some
+pub record IsPlain (q : BoundQuery) : Type 0 where
+  pub rows : q.grouped ≡ false
+  pub alone : q.windows ≡ []
+
+pub record IsWindowed (q : BoundQuery) : Type 0 where
+  pub rows : q.grouped ≡ false
+  pub windows : length q.windows ≡ 0 → ⊥
+
+-- Output rows of some tuples, enough for what is printed of all and few where there is a limit, or else the tuples as windows see them, or
+-- the groups of the tuples; and how many tuples there are.
 pub record HoldsOutput (q : BoundQuery) (tuples : List (List Value)) (c : Collected) : Type 0 where
   pub taken : c.taken ≡ length tuples
   pub few : c.taken ≤ column_bound
-  pub rows : q.grouped ≡ false → IsEnough q.order q.limit (map (items_in q) (map of_row tuples)) c.rows.items
+  pub seen : IsWindowed q → c.seen.items ≡ seen_rows q tuples
+  pub rows : IsPlain q → IsEnough q.order q.limit (map (items_in q) (map of_row tuples)) c.rows.items
   pub cut : AreFew q.limit c.rows.items
   pub bar : IfSome c.bar (IsBar q.order q.limit c.rows.items)
   pub groups : q.grouped ≡ true → HoldsGroups q tuples c.groups

@@ -8,7 +8,8 @@ ghost use Rattle.query_order.specs.Enough.{AreFew};
 ghost use Rattle.query_run.specs.Outputs.{HoldsOutput, IsAdded};
 
 use crate::bar::{bar_of, is_barred};
-use col_value::{Value, WideRow};
+use crate::seen::seen_row;
+use col_value::{Row, Value, WideRow};
 use exec_group::Groups;
 use expr_value::items_of;
 use query_order::order_rows;
@@ -18,12 +19,13 @@ use std::alloc::{AllocError, Global};
 /// The most rows that a count counts, 2^63 - 1.
 const MOST: u64 = 9223372036854775807;
 
-/// Output rows of a query without groups, those that can still be printed, with a bar behind which none can, or else its groups, and of
-/// how many tuples.
+/// Output rows of a query without groups and windows, those that can still be printed, with a bar behind which none can, or else the tuples
+/// that its windows see, or its groups, and of how many tuples.
 #[derive(Drop)]
 pub struct Collected {
     pub rows: Vec<WideRow>,
     pub bar: Option<WideRow>,
+    pub seen: Vec<Row>,
     pub groups: Groups,
     pub taken: u64,
 }
@@ -36,6 +38,7 @@ impl Collected {
         Ok(Collected {
             rows: Vec::new(alloc),
             bar: None,
+            seen: Vec::new(alloc),
             groups: Groups::new(alloc, query)?,
             taken: 0,
         })
@@ -58,6 +61,10 @@ impl Collected {
         self.taken += 1;
         if query.grouped {
             return self.groups.push(alloc, query, tuple);
+        }
+        if !query.windows.as_slice().is_empty() {
+            self.seen.push(seen_row(alloc, query, tuple)?)?;
+            return Ok(());
         }
         if is_barred(query, &self.bar, tuple) {
             return Ok(());

@@ -6,6 +6,7 @@
 //! where it isn't true no row is joined to the tuple (`false_refuses`). Each tuple that is kept goes at once to its group, or becomes
 //! an output row, of which few more are held than a LIMIT asks for; one that stands behind as many by the keys of ORDER BY isn't even
 //! made.
+//! The tuples of a query with windows are held in the columns that it uses, and the windows' values stand beside them at the end.
 //! A `Run` is the same where the rows of the first FROM item come one by one, and are not held: `HasTaken` in `specs/Runs.antt` says
 //! what came.
 #![tactic(auto)]
@@ -19,8 +20,10 @@ mod output;
 mod printing;
 mod ready;
 mod run;
+mod seen;
 mod side;
 mod walk;
+mod windows;
 
 pub use fault::QueryFault;
 pub use laws::false_refuses;

@@ -14,13 +14,14 @@ ghost use Rattle.query_run.specs.Outputs.{HasCollected, items_in, scope_of, scop
 
 use crate::collected::Collected;
 use crate::fault::QueryFault;
+use crate::windows::of_windows;
 use col_value::{Value, Wide, WideRow};
 use exec_group::{GroupFault, Grouped};
 use expr_value::{Sight, is_true, items_at};
 use sql_bound::BoundQuery;
 use std::alloc::{AllocError, Global};
 
-/// Enough of the output rows of what was collected, and a fault where a SUM passes what a result holds in some group.
+/// Enough of the output rows of what was collected, and a fault where a SUM passes what a result holds in some group or partition.
 pub fn output(
     alloc: Global,
     query: &BoundQuery,
@@ -32,9 +33,14 @@ pub fn output(
     ensures in_range { OnOk result ((inputs : List (List (List Value))) → HasCollected query.now inputs collected → IsSumTooGreat query.now inputs → ⊥) }
     ensures great { IsErrOf result QueryFault.SumOutOfRange → (inputs : List (List (List Value))) → HasCollected query.now inputs collected → IsSumTooGreat query.now inputs }
 {
-    let Collected { rows, groups, .. } = collected;
+    let Collected {
+        rows, seen, groups, ..
+    } = collected;
     if !query.grouped {
-        return Ok(rows);
+        if query.windows.as_slice().is_empty() {
+            return Ok(rows);
+        }
+        return of_windows(alloc, query, seen.as_slice());
     }
     match groups.finish(alloc) {
         Ok(grouped) => Ok(of_groups(alloc, query, &grouped)?),
