@@ -28,6 +28,7 @@ statement_stays a (Statement.DropProjection name) x quiet is = is
 statement_stays a (Statement.Insert i) x quiet is = is
 statement_stays a (Statement.Delete d) x quiet is = is
 statement_stays a (Statement.Update u) x quiet is = is
+statement_stays a (Statement.AddColumn c) x quiet is = is
 statement_stays a (Statement.Copy table file) x quiet is = is
 statement_stays a Statement.Commit x quiet is = is
 statement_stays a Statement.Rollback x quiet is = is

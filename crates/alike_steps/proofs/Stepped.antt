@@ -181,6 +181,7 @@ module _ (a b : State) (alike : AreAlikeStates a b) (sound : IsSound a) where
   refused one files (Statement.Insert i) why also spent quiet first second = first ∙ insert_same a b alike sound.database.mark i ∙ sym second
   refused one files (Statement.Delete d) why also spent quiet first second = first ∙ delete_same a b alike sound.database.mark d ∙ sym second
   refused one files (Statement.Update u) why also spent quiet first second = first ∙ update_same a b alike sound.database.mark one.settings u ∙ sym second
+  refused one files (Statement.AddColumn c) why also spent quiet first second = absurd first
   refused one files (Statement.Copy table file) why also spent quiet first second =
       copy_refused table (table_found table a.database.tables) (table_found table b.database.tables) (files file) why also (named table) first second
   refused one files Statement.Commit why also spent quiet first second = first ∙ commit_alike a b alike.sessions alike.current alike.database.last ∙ sym second
@@ -209,6 +210,7 @@ module _ (a b : State) (alike : AreAlikeStates a b) (sound : IsSound a) where
   printed one files (Statement.Insert i) p q free first second = first ∙ sym second
   printed one files (Statement.Delete d) p q free first second = first ∙ ap (λ (n : ℕ). counted_line (codes "DELETE ") n) (delete_counts a b alike sound.database.mark d) ∙ sym second
   printed one files (Statement.Update u) p q free first second = first ∙ ap (λ (n : ℕ). counted_line (codes "UPDATE ") n) (update_counts a b alike sound.database.mark u) ∙ sym second
+  printed one files (Statement.AddColumn c) p q free first second = absurd first
   printed one files (Statement.Copy table file) p q free first second =
       copy_printed (table_found table a.database.tables) (table_found table b.database.tables) (files file) p q (named table) first second
   printed one files Statement.Commit p q free first second = first ∙ commit_texts a b alike ∙ sym second
@@ -231,6 +233,7 @@ module _ (a b : State) (alike : AreAlikeStates a b) (sound : IsSound a) where
       left_alike (on_table d.table (rows_deleted d a) a) (on_table d.table (rows_deleted d b) b) x y first second (deleted_alike a b alike sound.database.mark d)
   left files (Statement.Update u) x y other first second =
       left_alike (on_table u.table (rows_updated u a) a) (on_table u.table (rows_updated u b) b) x y first second (updated_alike a b alike sound.database.mark u)
+  left files (Statement.AddColumn c) x y other first second = absurd first
   left files (Statement.Copy table file) x y other first second =
       copy_left (table_found table a.database.tables) (table_found table b.database.tables) (files file) x y (named table) first second
   left files Statement.Commit x y other first second = left_alike (changes_committed a) (changes_committed b) x y first second (committed_zip a b alike (can_commit a sound))

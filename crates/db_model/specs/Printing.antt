@@ -85,6 +85,7 @@ Prints state files (Statement.DropProjection name) text = text ≡ codes "DROP P
 Prints state files (Statement.Insert i) text = text ≡ insert_line (length i.rows)
 Prints state files (Statement.Delete d) text = text ≡ counted_line (codes "DELETE ") (on_found (table_found d.table state.database.tables) (deleted_count d state))
 Prints state files (Statement.Update u) text = text ≡ counted_line (codes "UPDATE ") (on_found (table_found u.table state.database.tables) (λ e. length (updated_old u state e)))
+Prints state files (Statement.AddColumn a) text = ⊥
 Prints state files (Statement.Copy table file) text = CopyPrints state (table_found table state.database.tables) (files file) text
 Prints state files Statement.Commit text = text ≡ commit_text state
 Prints state files Statement.Rollback text = text ≡ codes "ROLLBACK\n"

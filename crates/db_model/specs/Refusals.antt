@@ -192,6 +192,7 @@ Refuses state files (Statement.DropProjection name) why = why ≡ projection_dro
 Refuses state files (Statement.Insert i) why = why ≡ rows_inserted_refusal state i
 Refuses state files (Statement.Delete d) why = why ≡ rows_deleted_refusal state d
 Refuses state files (Statement.Update u) why = why ≡ rows_updated_refusal state u
+Refuses state files (Statement.AddColumn a) why = ⊥
 Refuses state files (Statement.Copy table file) why = CopyRefuses state table (table_found table state.database.tables) (files file) why
 Refuses state files Statement.Commit why = why ≡ commit_refusal state
 Refuses state files Statement.Rollback why = why ≡ None

@@ -55,6 +55,18 @@ impl<'a> Sight<'a> {
         }
     }
 
+    /// A row, and the values of windows beside it.
+    pub fn of_tuple(row: &'a [Value], windows: &'a [Wide]) -> Sight<'a>
+        ensures { result ≡ record { row = row.now; keys = []; aggs = windows.now } }
+    {
+        Sight {
+            first: 0,
+            row,
+            keys: &[],
+            aggs: windows,
+        }
+    }
+
     /// A group, and no row.
     pub fn of_group(keys: &'a [Value], aggs: &'a [Wide]) -> Sight<'a>
         ensures { result ≡ record { row = []; keys = keys.now; aggs = aggs.now } }

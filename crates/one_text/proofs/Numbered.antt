@@ -121,6 +121,7 @@ module _ (a : State) (n k p : ℕ) where
   refused_other files (Statement.Insert i) why spent quiet is = is
   refused_other files (Statement.Delete d) why spent quiet is = is
   refused_other files (Statement.Update u) why spent quiet is = is
+  refused_other files (Statement.AddColumn c) why spent quiet is = is
   refused_other files (Statement.Copy table file) why spent quiet is = copy_other table (table_found table a.database.tables) (files file) why is
   refused_other files Statement.Commit why spent quiet is = is
   refused_other files Statement.Rollback why spent quiet is = is
@@ -167,6 +168,7 @@ module _ (a : State) (n k p : ℕ) where
   prints_other files (Statement.Insert i) text prints = prints
   prints_other files (Statement.Delete d) text prints = prints
   prints_other files (Statement.Update u) text prints = prints
+  prints_other files (Statement.AddColumn c) text prints = prints
   prints_other files (Statement.Copy table file) text prints = copy_prints (table_found table a.database.tables) (files file) text prints
   prints_other files Statement.Commit text prints = prints
   prints_other files Statement.Rollback text prints = prints
@@ -245,6 +247,7 @@ left_same a n k p files (Statement.DropProjection name) x y quiet first second =
 left_same a n k p files (Statement.Insert i) x y quiet first second = same_states _ _ x y first second (record { database = refl; sessions = refl; current = refl; asked = refl })
 left_same a n k p files (Statement.Delete d) x y quiet first second = same_states _ _ x y first second (deleted_same a n k p d (table_found d.table a.database.tables))
 left_same a n k p files (Statement.Update u) x y quiet first second = same_states _ _ x y first second (updated_same a n k p u (table_found u.table a.database.tables))
+left_same a n k p files (Statement.AddColumn c) x y quiet first second = absurd first
 left_same a n k p files (Statement.Copy table file) x y quiet first second = copy_left a n k p (table_found table a.database.tables) (files file) x y first second
 left_same a n k p files Statement.Commit x y quiet first second = same_states (changes_committed a) (changes_committed (renumbered a n k p)) x y first second (committed_same a n k p)
 left_same a n k p files Statement.Rollback x y quiet first second = same_states _ _ x y first second (record { database = refl; sessions = refl; current = refl; asked = refl })
@@ -275,6 +278,7 @@ refused_stays a (Statement.DropProjection name) x quiet is = is
 refused_stays a (Statement.Insert i) x quiet is = is
 refused_stays a (Statement.Delete d) x quiet is = is
 refused_stays a (Statement.Update u) x quiet is = is
+refused_stays a (Statement.AddColumn c) x quiet is = is
 refused_stays a (Statement.Copy table file) x quiet is = is
 refused_stays a Statement.Commit x quiet is = is
 refused_stays a Statement.Rollback x quiet is = is
@@ -337,6 +341,7 @@ left_grows a files (Statement.DropProjection name) x quiet is = is.drawn.from
 left_grows a files (Statement.Insert i) x quiet is = stays a x _ is refl
 left_grows a files (Statement.Delete d) x quiet is = stays a x _ is (deleted_next d a (table_found d.table a.database.tables))
 left_grows a files (Statement.Update u) x quiet is = stays a x _ is (updated_next u a (table_found u.table a.database.tables))
+left_grows a files (Statement.AddColumn c) x quiet is = absurd is
 left_grows a files (Statement.Copy table file) x quiet is = copy_grows a (table_found table a.database.tables) (files file) x is
 left_grows a files Statement.Commit x quiet is = stays a x (changes_committed a) is (committed_next a)
 left_grows a files Statement.Rollback x quiet is = stays a x _ is refl

@@ -67,6 +67,7 @@ printed_once one state files (Statement.DropProjection name) p q first second = 
 printed_once one state files (Statement.Insert i) p q first second = first ∙ sym second
 printed_once one state files (Statement.Delete d) p q first second = first ∙ sym second
 printed_once one state files (Statement.Update u) p q first second = first ∙ sym second
+printed_once one state files (Statement.AddColumn a) p q first second = absurd first
 printed_once one state files (Statement.Copy table file) p q first second = copy_printed state (table_found table state.database.tables) (files file) p q first second
 printed_once one state files Statement.Commit p q first second = first ∙ sym second
 printed_once one state files Statement.Rollback p q first second = first ∙ sym second
@@ -135,6 +136,7 @@ refused_once state files (Statement.DropProjection name) why also first second f
 refused_once state files (Statement.Insert i) why also first second fate = first ∙ sym second
 refused_once state files (Statement.Delete d) why also first second fate = first ∙ sym second
 refused_once state files (Statement.Update u) why also first second fate = first ∙ sym second
+refused_once state files (Statement.AddColumn a) why also first second fate = absurd first
 refused_once state files (Statement.Copy table file) why also first second fate = copy_refused state table (table_found table state.database.tables) (files file) why also first second
 refused_once state files Statement.Commit why also first second fate = first ∙ sym second
 refused_once state files Statement.Rollback why also first second fate = first ∙ sym second

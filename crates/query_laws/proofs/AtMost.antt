@@ -93,7 +93,7 @@ argument_at_most : (arg : Option Expr) (rows : List (List Value)) → All IsRow 
 argument_at_most None rows p = λ k d h. absurd (omega arith)
 argument_at_most (Some e) rows p = values_at_most e rows p
 
-aggregate_at_most : (a : Aggregate) (rows : List (List Value)) → All IsRow rows → length rows ≤ column_bound → (IsGreatSum rows a → ⊥) → bound_of_value (aggregate_over rows a) ≤ bound_of_aggregate a
+pub aggregate_at_most : (a : Aggregate) (rows : List (List Value)) → All IsRow rows → length rows ≤ column_bound → (IsGreatSum rows a → ⊥) → bound_of_value (aggregate_over rows a) ≤ bound_of_aggregate a
 aggregate_at_most a rows p l s =
     at_most a.kind (length rows) (option_map_or (bound_of []) a.arg 0) (values_over a.arg rows) l (values_count a.arg rows) (argument_at_most a.arg rows p)
     (λ e. elim (cases_lt result_bound (size_of (values_over a.arg rows))) [ inl great ↦ absurd (s (e, great)) | inr small ↦ small ])

@@ -190,16 +190,17 @@ plain_only : {P : Type 0} (q : BoundQuery) → q.grouped ≡ false → q.grouped
 plain_only q plain grouped = cc
 
 -- a tuple whose output row stands behind the bar
-pub held_barred : (q : BoundQuery) (tuple : List Value) (old new : Collected) → q.grouped ≡ false → new.rows.items ≡ old.rows.items → new.bar ≡ old.bar → new.taken ≡ old.taken + 1 → new.taken ≤ column_bound
+pub held_barred : (q : BoundQuery) (tuple : List Value) (old new : Collected) → IsPlain q → new.rows.items ≡ old.rows.items → new.bar ≡ old.bar → new.taken ≡ old.taken + 1 → new.taken < column_bound
     → IsSomeAnd old.bar (λ bar. is_lt (printed_cmp q.order bar (items_in q (of_row tuple))) ≡ true) → (rows : List (List Value)) → HoldsOutput q rows old → HoldsOutput q (rows ++ tuple ∷ []) new
 held_barred q tuple old new plain same bar_same one few behind rows held = record {
   taken = taken_more q rows tuple old new one held;
   few = few;
+  seen = λ is. absurd (is.windows (ap length plain.alone));
   rows = λ is. subst (IsEnough q.order q.limit (map (items_in q) (map of_row (rows ++ tuple ∷ [])))) (sym same)
       (subst (λ (all : Rows). IsEnough q.order q.limit all old.rows.items) (put_out_more q rows tuple) (by old.bar behind held.bar (held.rows is)));
   cut = subst (AreFew q.limit) (sym same) held.cut;
   bar = subst (λ (bar : Option (List Wide)). IfSome bar (IsBar q.order q.limit new.rows.items)) (sym bar_same) (subst (λ (kept : Rows). IfSome old.bar (IsBar q.order q.limit kept)) (sym same) held.bar);
-  groups = λ is. plain_only q plain is;
+  groups = λ is. plain_only q plain.rows is;
 }
   where
     made : Rows
@@ -211,14 +212,32 @@ held_barred q tuple old new plain same bar_same one few behind rows held = recor
     by (Some b) behind is enough = row_barred q.order q.limit made old.rows.items b (items_in q (of_row tuple)) is behind enough
 
 -- a tuple whose output row is added
-pub held_added : (q : BoundQuery) (tuple : List Value) (row : List Wide) (old new : Collected) → q.grouped ≡ false → row ≡ items_in q (of_row tuple) → new.taken ≡ old.taken + 1 → new.taken ≤ column_bound
+pub held_added : (q : BoundQuery) (tuple : List Value) (row : List Wide) (old new : Collected) → IsPlain q → row ≡ items_in q (of_row tuple) → new.taken ≡ old.taken + 1 → new.taken < column_bound
     → IsAdded q row old.rows.items new.rows.items old.bar new.bar → (rows : List (List Value)) → HoldsOutput q rows old → HoldsOutput q (rows ++ tuple ∷ []) new
 held_added q tuple row old new plain made one few added rows held = record {
   taken = taken_more q rows tuple old new one held;
   few = few;
+  seen = λ is. absurd (is.windows (ap length plain.alone));
   rows = λ is. subst (λ (all : Rows). IsEnough q.order q.limit all new.rows.items) (ap (λ (r : List Wide). map (items_in q) (map of_row rows) ++ r ∷ []) made ∙ put_out_more q rows tuple)
       (added.enough (map (items_in q) (map of_row rows)) (held.rows is));
   cut = added.few;
   bar = added.barred held.bar;
-  groups = λ is. plain_only q plain is;
+  groups = λ is. plain_only q plain.rows is;
 }
+
+-- a tuple that windows see
+pub held_seen : (q : BoundQuery) (tuple : List Value) (row : List Value) (old new : Collected) → IsWindowed q → row ≡ blanked (is_used q) 0 tuple → new.seen.items ≡ old.seen.items ++ row ∷ [] → new.rows ≡ old.rows → new.bar ≡ old.bar → new.taken ≡ old.taken + 1
+    → new.taken < column_bound → (rows : List (List Value)) → HoldsOutput q rows old → HoldsOutput q (rows ++ tuple ∷ []) new
+held_seen q tuple row old new windowed made more same bar_same one few rows held = record {
+  taken = taken_more q rows tuple old new one held;
+  few = few;
+  seen = λ is.
+      more ∙ ap₂ (λ (front : List (List Value)) (last : List Value). front ++ last ∷ []) (held.seen is) made ∙ sym (map-append (blanked (is_used q) 0) rows (tuple ∷ []));
+  rows = λ is. absurd (windowed.windows (ap length is.alone));
+  cut = subst (λ kept. AreFew q.limit kept.items) (sym same) held.cut;
+  bar = ap₂-bar (sym bar_same) (sym same) held.bar;
+  groups = λ is. plain_only q windowed.rows is;
+}
+  where
+    ap₂-bar : old.bar ≡ new.bar → old.rows ≡ new.rows → IfSome old.bar (IsBar q.order q.limit old.rows.items) → IfSome new.bar (IsBar q.order q.limit new.rows.items)
+    ap₂-bar e f h = subst (λ (bar : Option (List Wide)). IfSome bar (IsBar q.order q.limit new.rows.items)) e (subst (λ kept. IfSome old.bar (IsBar q.order q.limit kept.items)) f h)

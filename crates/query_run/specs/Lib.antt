@@ -2,3 +2,4 @@ pub mod Outputs
 pub mod Ready
 pub mod Sides
 pub mod Runs
+pub mod Windows

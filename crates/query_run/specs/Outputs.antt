@@ -36,7 +36,7 @@ pub record IsWindowed (q : BoundQuery) : Type 0 where
 -- the groups of the tuples; and how many tuples there are.
 pub record HoldsOutput (q : BoundQuery) (tuples : List (List Value)) (c : Collected) : Type 0 where
   pub taken : c.taken ≡ length tuples
-  pub few : c.taken ≤ column_bound
+  pub few : c.taken < column_bound
   pub seen : IsWindowed q → c.seen.items ≡ seen_rows q tuples
   pub rows : IsPlain q → IsEnough q.order q.limit (map (items_in q) (map of_row tuples)) c.rows.items
   pub cut : AreFew q.limit c.rows.items

@@ -11,7 +11,7 @@ ghost use Rattle.expr_value.specs.Worths.{wide_of};
 ghost use Rattle.query_laws.specs.Bounded.{IsBoundedQuery};
 ghost use Rattle.sql_bound.specs.Printed.{key_cmp, printed_cmp, IsPrinted};
 ghost use Rattle.sql_bound.specs.Values.{of_row};
-ghost use Rattle.query_run.specs.Outputs.{items_in, IsBar};
+ghost use Rattle.query_run.specs.Outputs.{items_in, IsBar, IsPlain};
 
 use col_value::{Value, WideRow};
 use expr_value::{Sight, Worth, value_of};
@@ -58,7 +58,7 @@ fn value_in(row: &WideRow, column: usize) -> Worth<'_>
 /// The same of the output row that a tuple makes.
 fn value_made<'a>(query: &'a BoundQuery, tuple: &'a [Value], column: usize) -> Worth<'a>
     requires bounded { IsBoundedQuery query.now }
-    requires plain { query.now.grouped ≡ false }
+    requires plain { IsPlain query.now }
     requires tuple { IsRow tuple.now }
     ensures { wide_of result ≡ slice_index_or (items_in query.now (of_row tuple.now)) column Null }
 {
@@ -77,7 +77,7 @@ fn order_by(
     descending: bool,
 ) -> Ordering
     requires bounded { IsBoundedQuery query.now }
-    requires plain { query.now.grouped ≡ false }
+    requires plain { IsPlain query.now }
     requires tuple { IsRow tuple.now }
     ensures { result ≡ key_cmp (column, descending) row.now (items_in query.now (of_row tuple.now)) }
 {
@@ -88,7 +88,7 @@ fn order_by(
 /// Whether an output row stands before that of a tuple by the keys of ORDER BY. The tuple's isn't made.
 fn is_before(query: &BoundQuery, row: &WideRow, tuple: &[Value]) -> bool
     requires bounded { IsBoundedQuery query.now }
-    requires plain { query.now.grouped ≡ false }
+    requires plain { IsPlain query.now }
     requires tuple { IsRow tuple.now }
     ensures { result ≡ true → is_lt (printed_cmp query.now.order row.now (items_in query.now (of_row tuple.now))) ≡ true }
 {
@@ -105,7 +105,7 @@ fn is_before(query: &BoundQuery, row: &WideRow, tuple: &[Value]) -> bool
 /// Whether the bar stands before the output row of a tuple by the keys of ORDER BY.
 pub fn is_barred(query: &BoundQuery, bar: &Option<WideRow>, tuple: &[Value]) -> bool
     requires bounded { IsBoundedQuery query.now }
-    requires plain { query.now.grouped ≡ false }
+    requires plain { IsPlain query.now }
     requires tuple { IsRow tuple.now }
     ensures { result ≡ true → IsSomeAnd bar.now (λ row. is_lt (printed_cmp query.now.order row (items_in query.now (of_row tuple.now))) ≡ true) }
 {

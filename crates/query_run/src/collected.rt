@@ -16,8 +16,8 @@ use query_order::order_rows;
 use sql_bound::BoundQuery;
 use std::alloc::{AllocError, Global};
 
-/// The most rows that a count counts, 2^63 - 1.
-const MOST: u64 = 9223372036854775807;
+/// So many rows that a count counts them, and a number of a row behind all others, 2^63 - 2.
+const MOST: u64 = 9223372036854775806;
 
 /// Output rows of a query without groups and windows, those that can still be printed, with a bar behind which none can, or else the tuples
 /// that its windows see, or its groups, and of how many tuples.
@@ -44,7 +44,7 @@ impl Collected {
         })
     }
 
-    /// Takes a tuple that is kept. More than 2^63 - 1 tuples find no memory.
+    /// Takes a tuple that is kept. More than 2^63 - 2 tuples find no memory.
     pub fn take(
         &mut self,
         alloc: Global,

@@ -302,6 +302,7 @@ early_same bare state (Statement.DropProjection name) is = undone_same bare stat
 early_same bare state (Statement.Insert i) is = inserted_same bare state i is
 early_same bare state (Statement.Delete d) is = deleted_same bare state d is
 early_same bare state (Statement.Update u) is = updated_same bare state u is
+early_same bare state (Statement.AddColumn a) is = refl
 early_same bare state (Statement.Copy table file) is =
     ap₂ (λ (o p : Option Refusal). first_of o p) (unknown_same table bare state is) (locked_same bare state table false is)
 early_same bare state Statement.Commit is = committed_same bare state is

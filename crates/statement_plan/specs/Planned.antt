@@ -42,6 +42,7 @@ is_planned (Statement.DropProjection name) = true
 is_planned (Statement.Insert i) = true
 is_planned (Statement.Delete d) = true
 is_planned (Statement.Update u) = true
+is_planned (Statement.AddColumn a) = false
 is_planned (Statement.Copy table file) = true
 is_planned Statement.Commit = true
 is_planned Statement.Rollback = true
@@ -89,6 +90,7 @@ is_settled_call f = false
 
 abbrev pub is_settled : Statement → Bool
 is_settled (Statement.Update u) = false
+is_settled (Statement.AddColumn a) = false
 is_settled (Statement.Copy table file) = false
 is_settled (Statement.Select at q) = false
 is_settled (Statement.Call f) = is_settled_call f

@@ -52,6 +52,7 @@ pub fn make_plan(alloc: Global, frame: &Frame<'_>, statement: &Statement) -> Res
             Ok(place) => Ok(Plan::Copy(place)),
             Err(fault) => Err(fault),
         },
+        Statement::AddColumn(_) => unreachable!(),
         Statement::Commit => match frame.committing() {
             Some(refusal) => Err(BindFault::Refused(refusal)),
             None => Ok(Plan::Commit),

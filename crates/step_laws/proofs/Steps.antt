@@ -76,6 +76,7 @@ answered fit state files (Statement.Delete d) new named free same (sound, none) 
     subst IsSettled (sym same) (deleted_state state d none (sym free) sound, none_of_delete state d (table_found d.table state.database.tables) none)
 answered fit state files (Statement.Update u) new named free same (sound, none) =
     subst IsSettled (sym same) (updated_state state u none (sym free) sound, none_of_update state u (table_found u.table state.database.tables) none)
+answered fit state files (Statement.AddColumn a) new named free never is = absurd never
 answered fit state files (Statement.Copy table file) new named free leaves is = copied fit state table (files file) new free leaves is
 answered fit state files Statement.Commit new named free same (sound, none) = subst IsSettled (sym same) (committed_state state none sound, none_committed state none)
 answered fit state files Statement.Rollback new named free same (sound, none) = subst IsSettled (sym same) (dropped_changes state none sound, none)
@@ -111,6 +112,7 @@ refused state (Statement.DropProjection name) new same is = settled_same state n
 refused state (Statement.Insert i) new same is = settled_same state new same is
 refused state (Statement.Delete d) new same is = settled_same state new same is
 refused state (Statement.Update u) new same is = settled_same state new same is
+refused state (Statement.AddColumn a) new same is = settled_same state new same is
 refused state (Statement.Copy table file) new same is = settled_same state new same is
 refused state Statement.Commit new same is = settled_same state new same is
 refused state Statement.Rollback new same is = settled_same state new same is

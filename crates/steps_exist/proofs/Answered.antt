@@ -186,6 +186,7 @@ answered old files (Statement.Delete d) line names =
 answered old files (Statement.Update u) line names =
     told old files (Statement.Update u) (rows_updated_refusal old u) refl refl (counted_line (codes "UPDATE ") (on_found (table_found u.table old.database.tables) (λ e. length (updated_old u old e)))) refl
     (on_table u.table (rows_updated u old) old) refl
+answered old files (Statement.AddColumn a) line names = absurd (cc)
 answered old files (Statement.Copy table file) line names = copied old files table file
 answered old files Statement.Commit line names = told old files Statement.Commit (commit_refusal old) refl refl (commit_text old) refl (changes_committed old) refl
 answered old files Statement.Rollback line names = told old files Statement.Rollback None refl refl (codes "ROLLBACK\n") refl (changes_dropped old) refl
@@ -217,6 +218,7 @@ all_stays old (Statement.DropProjection name) = refl
 all_stays old (Statement.Insert i) = refl
 all_stays old (Statement.Delete d) = refl
 all_stays old (Statement.Update u) = refl
+all_stays old (Statement.AddColumn a) = refl
 all_stays old (Statement.Copy table file) = refl
 all_stays old Statement.Commit = refl
 all_stays old Statement.Rollback = refl

@@ -33,6 +33,7 @@ no_answer old files (Statement.DropProjection name) why none refuses = cc
 no_answer old files (Statement.Insert i) why none refuses = cc
 no_answer old files (Statement.Delete d) why none refuses = cc
 no_answer old files (Statement.Update u) why none refuses = cc
+no_answer old files (Statement.AddColumn a) why none refuses = refuses
 no_answer old files (Statement.Copy table file) why none refuses = cc
 no_answer old files Statement.Commit why none refuses = cc
 no_answer old files Statement.Rollback why none refuses = cc

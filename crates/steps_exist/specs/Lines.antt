@@ -16,9 +16,10 @@ has_line_of_call (Function.Purge table) = false
 has_line_of_call (Function.Refresh table) = false
 has_line_of_call Function.StartRefresh = false
 
--- of all other statements there is one
+-- ALTER TABLE has none yet; of all other statements there is one
 abbrev pub has_line : Statement → Bool
 has_line (Statement.Call f) = has_line_of_call f
+has_line (Statement.AddColumn a) = false
 has_line s = true
 
 -- each form that is served has its line

@@ -83,6 +83,7 @@ stays state (Statement.DropProjection name) = refl
 stays state (Statement.Insert i) = refl
 stays state (Statement.Delete d) = refl
 stays state (Statement.Update u) = refl
+stays state (Statement.AddColumn a) = refl
 stays state (Statement.Copy table file) = refl
 stays state Statement.Commit = refl
 stays state Statement.Rollback = refl

@@ -40,6 +40,7 @@ planned (Statement.DropProjection name) is = refl
 planned (Statement.Insert i) is = refl
 planned (Statement.Delete d) is = refl
 planned (Statement.Update u) is = refl
+planned (Statement.AddColumn a) is = is
 planned (Statement.Copy table file) is = refl
 planned Statement.Commit is = refl
 planned Statement.Rollback is = refl

@@ -23,6 +23,7 @@ is_served (Statement.DropProjection name) = true
 is_served (Statement.Insert i) = true
 is_served (Statement.Delete d) = true
 is_served (Statement.Update u) = true
+is_served (Statement.AddColumn a) = false
 is_served (Statement.Copy table file) = true
 is_served Statement.Commit = true
 is_served Statement.Rollback = true
