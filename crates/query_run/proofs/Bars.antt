@@ -1,5 +1,5 @@
 -- The bar, behind which no output row is printed.
-use Rattle.std.proofs.Common.{◌≡◌, ℕ, ◌+◌, ◌-◌, ◌<◌, ◌≤◌, ◌++◌, Bool, true, false, cond, List, [], ◌∷◌, length, get_or, map, Option, Some, None, refl, sym, ap, ◌∙◌, arith, subst, inl, inr}
+use Rattle.std.proofs.Common.{◌≡◌, ℕ, ◌+◌, ◌-◌, ◌<◌, ◌≤◌, ◌++◌, Bool, true, false, cond, List, [], ◌∷◌, length, get_or, map, Option, Some, None, refl, sym, ap, ap₂, ◌∙◌, arith, subst, inl, inr}
 use Rattle.std.specs.Prelude.{◌⊎◌, count_by, IsSomeAnd, nat_lt}
 use Rattle.std.specs.List.{All, slice_get}
 use Rattle.std.specs.List.Sorted.{IsPermutation}
@@ -19,13 +19,14 @@ use Rattle.col_value.specs.declared.value.Value.{Value}
 use Rattle.col_value.specs.declared.wide.Wide.{Wide}
 use Rattle.sql_bound.specs.declared.query.BoundQuery.{BoundQuery}
 use Rattle.sql_bound.specs.Bounds.{column_bound}
+use Rattle.sql_bound.specs.Used.{blanked, is_used}
 use Rattle.sql_bound.specs.Printed.{printed_cmp, IsPrinted}
 use Rattle.sql_bound.specs.Values.{of_row}
 use Rattle.query_order.proofs.OneList.{printed_total}
 use Rattle.query_order.proofs.Enough.{enough_front, enough_more}
 use Rattle.query_order.proofs.Ordered.{Rises, rises_take}
 use Rattle.query_order.specs.Enough.{count_up_to, AreFew, IsEnough}
-use Rattle.query_run.specs.Outputs.{items_in, HoldsOutput, IsAdded, IsBar}
+use Rattle.query_run.specs.Outputs.{items_in, HoldsOutput, IsAdded, IsBar, IsPlain, IsWindowed}
 use Rattle.query_run.specs.declared.collected.Collected.{Collected}
 
 abbrev Rows : Type 0

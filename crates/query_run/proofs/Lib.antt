@@ -6,3 +6,5 @@ pub mod Walked
 pub mod Scopes
 pub mod Taken
 pub mod Bars
+pub mod Beside
+pub mod Columns

@@ -1,21 +1,27 @@
 -- What is collected, and the groups as their expressions see them.
-use Rattle.std.proofs.Common.{◌≡◌, ℕ, zero, suc, ◌+◌, ◌<◌, ◌≤◌, ◌++◌, Bool, true, false, cond, if◌then◌else◌, List, [], ◌∷◌, length, get_or, drop, map, filter, refl, sym, ap, ap₂, ◌∙◌, arith, append_assoc, subst, add-one, drop-cons}
-use Rattle.std.proofs.lemmas.List.{drop_all, map-append}
-use Rattle.std.proofs.lemmas.List.Elements.{All-get_or, All-contains_itself, filter-append}
+use Rattle.std.proofs.Common.{◌≡◌, ℕ, zero, suc, ◌+◌, ◌<◌, ◌≤◌, ◌++◌, Bool, true, false, cond, if◌then◌else◌, List, [], ◌∷◌, length, get_or, drop, map, filter, refl, sym, ap, ap₂, ◌∙◌, arith, inl, inr, append_assoc, subst, add-one, drop-cons}
+use Rattle.std.proofs.lemmas.List.{drop_all, length-map, map-append}
+use Rattle.std.proofs.lemmas.List.Elements.{All-cons, All-get_or, All-contains_itself, All-head, All-nil, All-tail, filter-append}
+use Rattle.std.specs.Prelude.{zip}
 use Rattle.std.specs.List.{All, Contains}
-use Rattle.col_value.specs.Order.{IsRow}
+use Rattle.col_value.specs.Order.{IsRow, IsValue}
 use Rattle.col_value.specs.declared.value.Value.{Value}
+use Rattle.col_value.specs.declared.value.Value.TheVariants.{Null}
 use Rattle.col_value.specs.declared.wide.Wide.{Wide}
 use Rattle.exec_group.specs.Groups.{AreGroups, HasGreatSum}
 use Rattle.exec_group.specs.declared.groups.Grouped.{Grouped}
 use Rattle.query_laws.proofs.AtMost.{group_fits, group_is_row, members_are_rows}
 use Rattle.query_laws.specs.Scopes.{IsGroupOf, is_shown}
 use Rattle.sql_bound.specs.declared.query.BoundQuery.{BoundQuery}
-use Rattle.sql_bound.specs.Bounds.{column_bound}
-use Rattle.sql_bound.specs.Outputs.{aggregate_over, group_keys, group_scope, group_scopes, keys_of, kept, members, output, same_keys}
+use Rattle.query_laws.specs.Bounded.{bound_beside, IsBoundedQuery}
+use Rattle.sql_bound.specs.declared.query.BoundWindow.{BoundWindow}
+use Rattle.sql_bound.specs.Bounds.{bound_of_aggregate, column_bound, is_narrow}
+use Rattle.sql_bound.specs.Outputs.{aggregate_over, group_keys, group_scope, group_scopes, keys_of, kept, members, output, same_keys, seen_rows, tuple_scopes, window_scopes, IsSumTooGreat}
+use Rattle.sql_bound.specs.Used.{blanked, is_used}
 use Rattle.sql_bound.specs.Values.{Scope, of_row}
 use Rattle.query_order.specs.Enough.{IsEnough}
-use Rattle.query_run.specs.Outputs.{HoldsOutput, items_in, scope_of, scopes_of, shown}
+use Rattle.query_run.specs.Outputs.{HoldsOutput, items_in, scope_of, scopes_of, shown, IsPlain, IsWindowed}
+use Rattle.query_run.specs.Windows.{HasGreatWindow}
 use Rattle.query_run.specs.declared.collected.Collected.{Collected}
 
 pub next_scope : (keys : List (List Value)) (aggs : List (List Wide)) (i : ℕ) (k : List Value) (a : List Wide) → i < length keys → k ≡ get_or keys i k → i < length aggs → a ≡ get_or aggs i a
@@ -58,8 +64,8 @@ groups_behind q keys aggs i k a h is g are fit =
     let here : All (IsGroupOf q) (scope_of k a ∷ scopes_of (drop (i + 1) keys) (drop (i + 1) aggs)) = subst (All (IsGroupOf q)) (next_scope keys aggs i k a h is g are) fit in
     λ j d l. here (suc j) d (omega arith)
 
-pub held_few : (q : BoundQuery) (rows : List (List Value)) (c : Collected) → HoldsOutput q rows c → length rows ≤ column_bound
-held_few q rows c held = subst (λ (n : ℕ). n ≤ column_bound) held.taken held.few
+pub held_few : (q : BoundQuery) (rows : List (List Value)) (c : Collected) → HoldsOutput q rows c → length rows < column_bound
+held_few q rows c held = subst (λ (n : ℕ). n < column_bound) held.taken held.few
 
 made_scopes : {X : Type 0} (keys : X → List Value) (aggs : X → List Wide) (xs : List X) → scopes_of (map keys xs) (map aggs xs) ≡ map (λ x. scope_of (keys x) (aggs x)) xs
 made_scopes keys aggs [] = refl
@@ -114,9 +120,86 @@ module _ (q : BoundQuery) (rows : List (List Value)) (g : Grouped) (are : AreGro
 pub groups_put_out : (q : BoundQuery) (inputs : List (List (List Value))) (g : Grouped) → q.grouped ≡ true → AreGroups q (kept q inputs) g → shown q (scopes_of g.keys g.aggs) ≡ output q inputs
 groups_put_out q inputs g grouped are =
     ap (shown q) (scopes_are q (kept q inputs) g are)
-    ∙ ap (λ (t : Bool). map (items_in q) (if t then group_scopes q (kept q inputs) else map of_row (kept q inputs))) (sym grouped)
+    ∙ ap (λ (t : Bool). map (items_in q) (if t then group_scopes q (kept q inputs) else tuple_scopes q.windows q (kept q inputs))) (sym grouped)
 
-pub rows_put_out : (q : BoundQuery) (inputs : List (List (List Value))) (c : Collected) → q.grouped ≡ false → HoldsOutput q (kept q inputs) c → IsEnough q.order q.limit (output q inputs) c.rows.items
+not_grouped : (q : BoundQuery) (inputs : List (List (List Value))) → q.grouped ≡ false → map (items_in q) (tuple_scopes q.windows q (kept q inputs)) ≡ output q inputs
+not_grouped q inputs rows = ap (λ (t : Bool). map (items_in q) (if t then group_scopes q (kept q inputs) else tuple_scopes q.windows q (kept q inputs))) (sym rows)
+
+pub rows_put_out : (q : BoundQuery) (inputs : List (List (List Value))) (c : Collected) → IsPlain q → HoldsOutput q (kept q inputs) c → IsEnough q.order q.limit (output q inputs) c.rows.items
 rows_put_out q inputs c plain held =
     subst (λ (l : List (List Wide)). IsEnough q.order q.limit l c.rows.items)
-    (ap (λ (t : Bool). map (items_in q) (if t then group_scopes q (kept q inputs) else map of_row (kept q inputs))) (sym plain)) (held.rows plain)
+    (ap (λ (ws : List BoundWindow). map (items_in q) (tuple_scopes ws q (kept q inputs))) (sym plain.alone) ∙ not_grouped q inputs plain.rows) (held.rows plain)
+
+-- ---- windows
+
+with_windows : (ws : List BoundWindow) (q : BoundQuery) (rows : List (List Value)) → (length ws ≡ 0 → ⊥) → tuple_scopes ws q rows ≡ window_scopes q (seen_rows q rows)
+with_windows [] q rows some = absurd (some refl)
+with_windows (w ∷ ws) q rows some = refl
+
+-- the tuples as windows see them are put out
+pub windows_put_out : (q : BoundQuery) (inputs : List (List (List Value))) (c : Collected) → IsWindowed q → HoldsOutput q (kept q inputs) c → map (items_in q) (window_scopes q c.seen.items) ≡ output q inputs
+windows_put_out q inputs c is held =
+    ap (λ (seen : List (List Value)). map (items_in q) (window_scopes q seen)) (held.seen is)
+    ∙ ap (map (items_in q)) (sym (with_windows q.windows q (kept q inputs) is.windows)) ∙ not_grouped q inputs is.rows
+
+blanked_row : (test : ℕ → Bool) (first : ℕ) (row : List Value) → IsRow row → IsRow (blanked test first row)
+blanked_row test first [] is = All-nil IsValue
+blanked_row test first (v ∷ row) is =
+    All-cons IsValue (if test first then v else Null) (blanked test (first + 1) row)
+    (elim (test first) as (λ b. IsValue (if b then v else Null)) [ true ↦ All-head IsValue v row is | false ↦ tt ])
+    (blanked_row test (first + 1) row (All-tail IsValue v row is))
+
+-- they are rows, and few
+pub seen_are_rows : (q : BoundQuery) (inputs : List (List (List Value))) (c : Collected) → IsWindowed q → All IsRow (kept q inputs) → HoldsOutput q (kept q inputs) c → All IsRow c.seen.items
+seen_are_rows q inputs c is rows held =
+    subst (All IsRow) (sym (held.seen is)) (all_blanked (kept q inputs) rows)
+  where
+    all_blanked : (rs : List (List Value)) → All IsRow rs → All IsRow (map (blanked (is_used q) 0) rs)
+    all_blanked [] all = All-nil IsRow
+    all_blanked (r ∷ rs) all = All-cons IsRow (blanked (is_used q) 0 r) (map (blanked (is_used q) 0) rs) (blanked_row (is_used q) 0 r (All-head IsRow r rs all)) (all_blanked rs (All-tail IsRow r rs all))
+
+pub seen_few : (q : BoundQuery) (inputs : List (List (List Value))) (c : Collected) → IsWindowed q → HoldsOutput q (kept q inputs) c → length c.seen.items < column_bound
+seen_few q inputs c is held =
+    let long : length c.seen.items ≡ length (kept q inputs) = ap length (held.seen is) ∙ length-map (kept q inputs) (blanked (is_used q) 0) in
+    omega (arith, held_few q (kept q inputs) c held)
+
+-- ---- sums that are too great
+
+group_or_not : {P : Type 0} (q : BoundQuery) → q.grouped ≡ false → q.grouped ≡ true → P
+group_or_not q plain grouped = cc
+
+pub groups_great : (q : BoundQuery) (inputs : List (List (List Value))) → q.grouped ≡ true → HasGreatSum q (kept q inputs) → IsSumTooGreat q inputs
+groups_great q inputs grouped great = inl (grouped, great)
+
+pub groups_fit : (q : BoundQuery) (inputs : List (List (List Value))) → q.grouped ≡ true → IsSumTooGreat q inputs → HasGreatSum q (kept q inputs)
+groups_fit q inputs grouped (inl great) = great.1
+groups_fit q inputs grouped (inr great) = group_or_not q great.0 grouped
+
+pub windows_great : (q : BoundQuery) (inputs : List (List (List Value))) (c : Collected) → IsWindowed q → HoldsOutput q (kept q inputs) c → HasGreatWindow q c.seen.items → IsSumTooGreat q inputs
+windows_great q inputs c is held great = here (subst (HasGreatWindow q) (held.seen is) great)
+  where
+    here : HasGreatWindow q (seen_rows q (kept q inputs)) → IsSumTooGreat q inputs
+    here (p, there, row, inside, sum) = inr (is.rows, p, row, there, inside, sum)
+
+pub windows_fit : (q : BoundQuery) (inputs : List (List (List Value))) (c : Collected) → IsWindowed q → HoldsOutput q (kept q inputs) c → IsSumTooGreat q inputs → HasGreatWindow q c.seen.items
+windows_fit q inputs c is held (inl great) = group_or_not q is.rows great.0
+windows_fit q inputs c is held (inr (plain, p, row, there, inside, sum)) = subst (HasGreatWindow q) (sym (held.seen is)) (p, there, row, inside, sum)
+
+-- without groups and windows no sum is
+pub plain_fits : (q : BoundQuery) (inputs : List (List (List Value))) → IsPlain q → IsSumTooGreat q inputs → ⊥
+plain_fits q inputs is (inl great) = group_or_not q is.rows great.0
+plain_fits q inputs is (inr (plain, p, row, there, inside, sum)) = none (subst (λ (ws : List BoundWindow). Contains (zip ws q.aggs) p) is.alone there)
+  where
+    none : Contains [] p → ⊥
+    none (k, lt, same) = absurd (omega arith)
+
+-- ---- static bounds
+
+pub plain_narrow : (q : BoundQuery) → IsBoundedQuery q → IsPlain q → All (λ e. is_narrow [] e ≡ true) q.items
+plain_narrow q bounded is =
+    subst (λ (bounds : List ℕ). All (λ e. is_narrow bounds e ≡ true) q.items)
+    (ap (λ (t : Bool). if t then map bound_of_aggregate q.aggs else map bound_beside (zip q.windows q.aggs)) is.rows ∙ ap (λ (ws : List BoundWindow). map bound_beside (zip ws q.aggs)) is.alone) bounded.items
+
+pub beside_narrow : (q : BoundQuery) → IsBoundedQuery q → q.grouped ≡ false → All (λ e. is_narrow (map bound_beside (zip q.windows q.aggs)) e ≡ true) q.items
+beside_narrow q bounded plain =
+    subst (λ (bounds : List ℕ). All (λ e. is_narrow bounds e ≡ true) q.items) (ap (λ (t : Bool). if t then map bound_of_aggregate q.aggs else map bound_beside (zip q.windows q.aggs)) plain) bounded.items
