@@ -4,7 +4,7 @@ ghost use Rattle.sql_binding.specs.Changes.{naming_query, setting_items, item_of
 
 use crate::whole_table::query_over;
 use col_value::{List, Name};
-use sql_tree::{ColRef, Item, Items, Query, Setting, Tree, Update};
+use sql_tree::{ColRef, Item, ItemTree, Items, Query, Setting, Tree, Update};
 use std::alloc::{AllocError, Global};
 
 /// The query that names what an UPDATE names: for each setting its column, and then what it is set to.
@@ -37,7 +37,10 @@ fn push_setting(alloc: Global, setting: &Setting, out: &mut Vec<Item>) -> Result
 fn item_of(tree: Tree) -> Item
     ensures { result ≡ item_of tree }
 {
-    Item { tree, alias: None }
+    Item {
+        tree: ItemTree::Plain(tree),
+        alias: None,
+    }
 }
 
 /// The column of this name, without a qualifier.

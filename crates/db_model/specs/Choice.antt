@@ -12,6 +12,7 @@ use Rattle.sql_bound.specs.declared.expr.Expr.TheOpen.{Expr-F, BoundTerm-F}
 use Rattle.sql_bound.specs.declared.expr.Expr.TheFolds.{fold-Expr}
 use Rattle.sql_bound.specs.declared.query.FromItem.{FromItem}
 use Rattle.sql_bound.specs.declared.query.BoundQuery.{BoundQuery}
+use Rattle.sql_bound.specs.Used.{used_columns}
 use Rattle.db_model.specs.Database.{Shape, has_columns}
 
 -- of columns of all FROM items those of one, by their places in its table

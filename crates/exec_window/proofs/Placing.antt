@@ -289,7 +289,6 @@ module _ (w : BoundWindow) (a : Aggregate) (rows : List (List Value)) (s : List 
               last false h = h
 
           found : Place t.1 rows → Contains rows t.1
-          unfolding Place
           found (us, vs, is) = subst (λ (xs : List (List Value)). Contains xs t.1) (sym is) (Contains-append_right us (t.1 ∷ vs) t.1 (Contains-get_or (t.1 ∷ vs) 0 t.1 (omega arith)))
   some_great pre o (t ∷ js) e st h (inr later) =
       let early = first_early w a s places_apart pre t js h in

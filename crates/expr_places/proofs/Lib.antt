@@ -1,3 +1,3 @@
 pub mod Same
 pub mod Looks
-pub mod Used
+pub mod UsedColumns

@@ -131,7 +131,7 @@ fn query_looks_away(query: &BoundQuery, column: usize) -> bool
 }
 
 /// Whether the query uses the column at a place among those of all FROM items.
-#[tactic(auto, using(crate::proofs::Used::used_or_away))]
+#[tactic(auto, using(crate::proofs::UsedColumns::used_or_away))]
 pub fn is_used(query: &BoundQuery, column: usize) -> bool
     ensures { result ≡ is_used query.now column }
 {

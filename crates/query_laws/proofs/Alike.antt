@@ -77,12 +77,11 @@ pub any_alike : {X : Type 0} (p : X → Bool) (xs ys : List X) → Alike xs ys �
 any_alike p xs ys a = any_counted p xs ∙ ap (nat_lt 0) (a.sums (λ x. cond (p x) 1 0)) ∙ sym (any_counted p ys)
 
 -- where an element stands in a list
-pub Place : {X : Type 0} → X → List X → Type 0
+abbrev pub Place : {X : Type 0} → X → List X → Type 0
 Place {X} x ys = (us : List X) × (vs : List X) × (ys ≡ us ++ x ∷ vs)
 
 module _ {X : Type 0} (same : X → X → Bool) (exact : (a b : X) → same a b ≡ true → a ≡ b) (itself : (a : X) → same a a ≡ true) where
   pub place : (x : X) (ys : List X) → list_any (same x) ys ≡ true → Place x ys
-  unfolding Place
   place x [] e = cc
   place x (y ∷ ys) e =
       elim (same x y) as (λ b. same x y ≡ b → (b || list_any (same x) ys) ≡ true → (us : List X) × (vs : List X) × (y ∷ ys ≡ us ++ x ∷ vs)) [
@@ -97,7 +96,6 @@ module _ {X : Type 0} (same : X → X → Bool) (exact : (a b : X) → same a b 
 
   -- such lists are each other's permutation
   pub alike_permutes : (xs ys : List X) → Alike xs ys → IsPermutation xs ys
-  unfolding Place
   alike_permutes [] [] a = IsPermutation-refl []
   alike_permutes [] (y ∷ ys) a = absurd (omega (arith, alike_length [] (y ∷ ys) a))
   alike_permutes (x ∷ xs) ys a =

@@ -15,7 +15,7 @@ counts_more p xs x = omega (arith, sum_by-append (λ z. cond (p z) 1 0) xs (x �
 
 module _ {X : Type 0} (same : X → X → Bool) (exact : (a b : X) → same a b ≡ true → a ≡ b) (itself : (a : X) → same a a ≡ true) where
   -- behind some elements
-  pub numbered : List X → List X → List (X × ℕ)
+  abbrev pub numbered : List X → List X → List (X × ℕ)
   numbered before [] = []
   numbered before (x ∷ xs) = (x, count_by (same x) before) ∷ numbered (before ++ x ∷ []) xs
 
@@ -23,7 +23,7 @@ module _ {X : Type 0} (same : X → X → Bool) (exact : (a b : X) → same a b 
   CountAlike e f = (z : X) → count_by (same z) e ≡ count_by (same z) f
 
   alike_numbered : (e f xs : List X) → CountAlike e f → numbered e xs ≡ numbered f xs
-  unfolding numbered CountAlike
+  unfolding CountAlike
   alike_numbered e f [] h = refl
   alike_numbered e f (x ∷ xs) h =
       ap₂ (λ (n : ℕ) (rest : List (X × ℕ)). (x, n) ∷ rest) (h x)
@@ -37,7 +37,7 @@ module _ {X : Type 0} (same : X → X → Bool) (exact : (a b : X) → same a b 
       ] refl
 
   swapped : (f : X × ℕ → ℕ) (e : List X) (x u : X) (rest : List X) → sum_by f (numbered e (u ∷ (x ∷ rest))) ≡ sum_by f (numbered e (x ∷ (u ∷ rest)))
-  unfolding numbered CountAlike
+  unfolding CountAlike
   swapped f e x u rest =
       elim (same x u) as (λ b. same x u ≡ b → sum_by f (numbered e (u ∷ (x ∷ rest))) ≡ sum_by f (numbered e (x ∷ (u ∷ rest)))) [
         | true ↦ λ h. ap₂ (λ (a b : X). sum_by f (numbered e (a ∷ (b ∷ rest)))) (sym (exact x u h)) (exact x u h)
@@ -61,7 +61,6 @@ module _ {X : Type 0} (same : X → X → Bool) (exact : (a b : X) → same a b 
 
   -- an element moved to the front
   fronted : (f : X × ℕ → ℕ) (e : List X) (x : X) (us vs : List X) → sum_by f (numbered e (us ++ (x ∷ vs))) ≡ sum_by f (numbered e (x ∷ (us ++ vs)))
-  unfolding numbered
   fronted f e x [] vs = refl
   fronted f e x (u ∷ us) vs =
       let a = sum_by-cons f (u, count_by (same u) e) (numbered (e ++ u ∷ []) (us ++ (x ∷ vs))) in
@@ -71,7 +70,6 @@ module _ {X : Type 0} (same : X → X → Bool) (exact : (a b : X) → same a b 
       d ∙ swapped f e x u (us ++ vs)
 
   numbered_sums : (f : X × ℕ → ℕ) (e xs ys : List X) → Alike xs ys → sum_by f (numbered e xs) ≡ sum_by f (numbered e ys)
-  unfolding numbered Place
   numbered_sums f e [] [] a = refl
   numbered_sums f e [] (y ∷ ys) a = absurd (omega (arith, alike_length [] (y ∷ ys) a))
   numbered_sums f e (x ∷ xs) ys a =

@@ -1,7 +1,7 @@
 -- The orders by which a window looks at tuples.
 use Rattle.std.proofs.Common.{◌≡◌, ℕ, Bool, true, false, List, [], ◌∷◌, refl, sym, ap, ap₂, ◌∙◌, subst}
 use Rattle.std.proofs.lemmas.Cmp.{back_total, nat_cmp_total, on_total, then_total, tied_itself}
-use Rattle.std.specs.FinMap.{IsTotalOrder}
+use Rattle.std.specs.Cmp.{IsTotalOrder}
 use Rattle.std.specs.Ordering.{flip_args, is_eq, is_le, is_lt, nat_cmp, on, ordering_reverse, then_cmp}
 use Rattle.std.specs.Prelude.{◌&&◌, if◌then◌else◌}
 use Rattle.std.specs.List.{slice_index_or}

@@ -6,7 +6,7 @@ use Rattle.std.specs.Ordering.{is_eq, is_lt, nat_cmp, ordering_then, then_cmp}
 use Rattle.std.specs.declared.cmp.Ordering.{Ordering}
 use Rattle.std.proofs.lemmas.Bool.Decides.{nat_tests}
 use Rattle.std.proofs.lemmas.Cmp.{tied_back, tied_itself}
-use Rattle.std.proofs.lemmas.List.{append_assoc, append-nil}
+use Rattle.std.proofs.lemmas.List.{append_assoc, append-nil, length-append}
 use Rattle.col_value.specs.Laws.{row_total}
 use Rattle.col_value.specs.Order.{row_cmp}
 use Rattle.col_value.specs.declared.value.Value.{Value}
@@ -51,7 +51,8 @@ module _ (w : BoundWindow) (t other : ℕ × Row) where
       let left : is_numbered_before w t other ≡ nat_lt other.0 t.0 = ap₂ (λ (a : Bool) (o : Ordering). a && is_lt o) part all ∙ nat_less other.0 t.0 in
       let first : row_before w t.1 other.1 ≡ false = ap₂ (λ (a : Bool) (o : Ordering). a && is_lt o) part (ap₂ ordering_then tied row) in
       let second : like_before t other ≡ nat_lt other.0 t.0 = ap (λ (a : Bool). a && nat_lt other.0 t.0) same in
-      ap one_if left ∙ sym (ap₂ (λ (a b : Bool). one_if a + one_if b) first second)
+      let before : one_if (row_before w t.1 other.1) ≡ 0 = ap one_if first in
+      omega (arith, ap one_if left, before, ap one_if second)
 
   other_rows : same_keys t.1 other.1 ≡ false → one_if (is_numbered_before w t other) ≡ one_if (row_before w t.1 other.1) + one_if (like_before t other)
   other_rows unlike =
@@ -128,8 +129,9 @@ value_here : (before : List Row) (row : Row) (rest : List Row) (p : BoundWindow 
 unfolding value_at
 value_here before row rest p =
     let rows = before ++ row ∷ rest in
+    let ahead : length before ≡ 0 + length before = omega arith in
     let number : count_by (is_numbered_before p.0 (length before, row)) (enumerate_from 0 rows) ≡ count_by (row_before p.0 row) rows + count_by (same_keys row) before =
-    split_from p.0 (length before, row) 0 rows ∙ ap (λ (n : ℕ). count_by (row_before p.0 row) rows + n) (likes_before row 0 before (row ∷ rest)) in
+    split_from p.0 (length before, row) 0 rows ∙ ap (λ (n : ℕ). count_by (row_before p.0 row) rows + n) (ap (λ (m : ℕ). count_by (like_before (m, row)) (enumerate_from 0 rows)) ahead ∙ likes_before row 0 before (row ∷ rest)) in
     ap (λ (n : ℕ). window_over p.0.kind n (count_by (stands_before p.0 row) rows) (aggregate_over (filter (in_frame p.0 row) rows) p.1)) number
 
 scope_here : (q : BoundQuery) (before : List Row) (row : Row) (rest : List Row)
@@ -142,21 +144,16 @@ scope_here q before row rest =
 
 scopes_from : (q : BoundQuery) (before rest : List Row)
     → map (window_scope q (before ++ rest)) (enumerate_from (length before) rest) ≡ map (scope_at q (before ++ rest)) (numbered same_keys same_equal same_itself before rest)
-unfolding numbered
 scopes_from q before [] = refl
 scopes_from q before (row ∷ rest) =
     let rows = before ++ row ∷ rest in
     let joined : (before ++ row ∷ []) ++ rest ≡ rows = append_assoc before (row ∷ []) rest in
-    let place : length (before ++ row ∷ []) ≡ length before + 1 = length_more before row in
+    let place : length (before ++ row ∷ []) ≡ length before + 1 = omega (arith, length-append before (row ∷ [])) in
     let later : map (window_scope q rows) (enumerate_from (length before + 1) rest) ≡ map (scope_at q rows) (numbered same_keys same_equal same_itself (before ++ row ∷ []) rest) =
     ap (λ (n : ℕ). map (window_scope q rows) (enumerate_from n rest)) (sym place)
     ∙ subst (λ (all : List Row). map (window_scope q all) (enumerate_from (length (before ++ row ∷ [])) rest) ≡ map (scope_at q all) (numbered same_keys same_equal same_itself (before ++ row ∷ []) rest)) joined
     (scopes_from q (before ++ row ∷ []) rest) in
     ap₂ (λ (s : Scope) (ss : List Scope). s ∷ ss) (scope_here q before row rest) later
-  where
-    length_more : (xs : List Row) (x : Row) → length (xs ++ x ∷ []) ≡ length xs + 1
-    length_more [] x = refl
-    length_more (y ∷ xs) x = ap suc (length_more xs x)
 
 value_same : (rows others : List Row) → Alike rows others → (x : Row × ℕ) (p : BoundWindow × Aggregate) → value_at rows x p ≡ value_at others x p
 unfolding value_at

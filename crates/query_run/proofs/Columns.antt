@@ -35,16 +35,14 @@ module _ (ws : List BoundWindow) (as : List Aggregate) (i : ℕ) where
   pairs_gone h = omega (arith, length-zip ws as)
 
 -- no partition's sum is too great in a column
-pub Fits : List (List Value) → BoundWindow × Aggregate → Type 0
+abbrev pub Fits : List (List Value) → BoundWindow × Aggregate → Type 0
 Fits rows p = HasGreatPartition p.0 p.1 rows → ⊥
 
 pub fit_more : (rows : List (List Value)) (ps : List (BoundWindow × Aggregate)) (i : ℕ) (p : BoundWindow × Aggregate) → i < length ps → p ≡ get_or ps i p → (HasGreatPartition p.0 p.1 rows → ⊥) → All (Fits rows) (take i ps) → All (Fits rows) (take (i + 1) ps)
-unfolding Fits
 fit_more rows ps i p h at fits before =
     subst (All (λ z. HasGreatPartition z.0 z.1 rows → ⊥)) (ap (λ (z : BoundWindow × Aggregate). take i ps ++ z ∷ []) at ∙ sym (take_more ps i p h)) (All-push (λ z. HasGreatPartition z.0 z.1 rows → ⊥) (take i ps) p before fits)
 
 pub all_fit : (q : BoundQuery) (rows : List (List Value)) (i : ℕ) → length (zip q.windows q.aggs) ≤ i → All (Fits rows) (take i (zip q.windows q.aggs)) → HasGreatWindow q rows → ⊥
-unfolding Fits
 all_fit q rows i h fits (p, (k, lt, same), great) =
     let all : All (λ z. HasGreatPartition z.0 z.1 rows → ⊥) (zip q.windows q.aggs) = subst (All (λ z. HasGreatPartition z.0 z.1 rows → ⊥)) (take_all (zip q.windows q.aggs) i h) fits in
     subst (λ (z : BoundWindow × Aggregate). HasGreatPartition z.0 z.1 rows → ⊥) same (all k p lt) great

@@ -66,7 +66,7 @@ fn item_row(
 
 /// How many windows the item is.
 fn windows_in(tree: &ItemTree) -> usize
-    ensures { result ≡ length (windows_in tree.now) }
+    ensures many { result ≡ length (windows_in tree.now) }
     ensures one { result ≤ 1 }
 {
     match tree {
