@@ -15,7 +15,8 @@ mod tree;
 
 pub use part::{Addend, Part, Tally};
 pub use query::{
-    At, Item, ItemTree, Items, KeyRef, ListMode, Query, SortKey, Source, Window, WindowKey, WindowKind,
+    At, Item, ItemTree, Items, KeyRef, ListMode, Query, SortKey, Source, Window, WindowKey,
+    WindowKind,
 };
 pub use refusal::{Refusal, Which};
 pub use statement::{

@@ -2,9 +2,7 @@ ghost use Rattle.std.specs.Prelude.{◌≡◌, false, [], ◌∷◌, map, IfOk};
 ghost use Rattle.std.specs.List.{list_any};
 ghost use Rattle.sql_tree.specs.Makers.{constant, column, negated, denied, is_null, compared, between, equals, one_of, chained, addend, term, summed, aggregated, count_all, as_aggregate, over_all, as_window, over_parts};
 
-use crate::{
-    Addend, AggKind, Cmp, ColRef, Part, Tally, Term, Tree, Window, WindowKey, WindowKind,
-};
+use crate::{Addend, AggKind, Cmp, ColRef, Part, Tally, Term, Tree, Window, WindowKey, WindowKind};
 use col_value::{Boxed, List, Wide};
 use std::alloc::{AllocError, Global};
 
