@@ -214,38 +214,43 @@ impl<'a> Tokens<'a> {
     pub fn begins_source(&self) -> bool
         ensures { result ≡ head_is (in_set source_classes) self.now }
     {
-        match self.left {
-            [token, ..] => match token.kind {
-                TokenKind::Sign(Sign::Comma) | TokenKind::Word(Some(Key::Inner | Key::Join)) =>
-                    true,
-                _ => false,
-            },
-            [] => false,
+        if self.begins_sign(Sign::Comma) {
+            return true;
         }
+        if self.begins_key(Key::Inner) {
+            return true;
+        }
+        self.begins_key(Key::Join)
     }
 
     /// Whether the name of a function stands at the front.
     pub fn begins_call(&self) -> bool
         ensures { result ≡ head_is (in_set call_classes) self.now }
     {
-        match self.left {
-            [token, ..] => match token.kind {
-                TokenKind::Word(
-                    Some(
-                        Key::GetLastGoodEpoch
-                        | Key::GetAhmEpoch
-                        | Key::GetCurrentEpoch
-                        | Key::MakeAhmNow
-                        | Key::StartRefresh
-                        | Key::SetAhmEpoch
-                        | Key::DoTmTask
-                        | Key::PurgeTable
-                        | Key::Refresh,
-                    ),
-                ) => true,
-                _ => false,
-            },
-            [] => false,
+        if self.begins_key(Key::GetLastGoodEpoch) {
+            return true;
         }
+        if self.begins_key(Key::GetAhmEpoch) {
+            return true;
+        }
+        if self.begins_key(Key::GetCurrentEpoch) {
+            return true;
+        }
+        if self.begins_key(Key::MakeAhmNow) {
+            return true;
+        }
+        if self.begins_key(Key::StartRefresh) {
+            return true;
+        }
+        if self.begins_key(Key::SetAhmEpoch) {
+            return true;
+        }
+        if self.begins_key(Key::DoTmTask) {
+            return true;
+        }
+        if self.begins_key(Key::PurgeTable) {
+            return true;
+        }
+        self.begins_key(Key::Refresh)
     }
 }

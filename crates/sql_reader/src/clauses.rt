@@ -75,11 +75,7 @@ pub fn group_by(
 
 /// `[HAVING gexpr]`, which doesn't stand in a query with windows
 #[tactic(auto, unfolding(sql_phrases::specs::Readings::choose, sql_phrases::specs::Readings::mark, sql_phrases::specs::Readings::both, sql_phrases::specs::Readings::nothing, sql_phrases::specs::Readers::having))]
-pub fn having(
-    alloc: Global,
-    tokens: &mut Tokens<'_>,
-    windowed: bool,
-) -> Result<Option<Tree>, Stop>
+pub fn having(alloc: Global, tokens: &mut Tokens<'_>, windowed: bool) -> Result<Option<Tree>, Stop>
     ensures { Gives result tokens.new (having windowed tokens.old) }
 {
     if windowed {
