@@ -157,7 +157,7 @@ def read_as(kind, data):
         entry = PositionIndex(data, 2).entries[0]
         return entry.least, entry.greatest
     if kind.startswith('delete'):
-        return DeleteVector(data, Container(1, 3, 1, 1, 0, 9, 2)).epochs
+        return DeleteVector(data, Container(1, 3, 1, 1, 0, 9, 2, 1)).epochs
     part, at = (vint_at if kind == 'vint' else value_at)(data, 0)
     is_same(f'{kind} {data.hex()}: its end', len(data), at)
     return part
