@@ -16,3 +16,4 @@ mod span;
 mod valid;
 
 pub use catalogue::{Catalogue, Container, ProjColumn, Projection, Table};
+pub use copies::copy_proj_columns;

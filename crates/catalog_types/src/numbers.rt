@@ -1,6 +1,6 @@
 //! The numbers of a store's files: that none stands twice, and how many there are.
 
-ghost use Rattle.std.specs.Prelude.{◌≡◌, ◌↔◌, ◌+◌, ◌-◌, ◌^◌, length, IsTrue, IfSome, MatchOption, min, ◌++◌, sum_by};
+ghost use Rattle.std.specs.Prelude.{◌≡◌, ◌↔◌, ◌+◌, ◌-◌, ◌^◌, IsTrue, IfSome, MatchOption, min, ◌++◌, sum_by};
 ghost use Rattle.std.specs.List.{All, flat_map};
 ghost use Rattle.catalog_types.specs.Lists.{Pairwise, Ahead};
 ghost use Rattle.catalog_types.specs.Numbers.{files, span_of, IsClear, container_spans, projection_spans, table_spans, AreApart, HasNumbersOnce, container_count, number_count, store_count};
@@ -14,13 +14,13 @@ fn is_apart(a: Span, b: Span) -> bool
     a.end <= b.first || b.end <= a.first
 }
 
-fn files(columns: usize, k: &Container) -> Span
-    ensures { result ≡ files columns k.now }
+fn files(k: &Container) -> Span
+    ensures { result ≡ files k.now }
 {
     let first = u128::from(k.base);
     Span {
         first,
-        end: first + 2 * (columns as u128 + 1),
+        end: first + 2 * (u128::from(k.stored) + 1),
     }
 }
 
@@ -43,30 +43,28 @@ fn clear_of_mark(s: Span, marks: Option<u64>) -> bool
     }
 }
 
-fn clear_of_container(s: Span, columns: usize, k: &Container) -> bool
-    ensures { IsTrue result ↔ IsClear s columns k.now }
+fn clear_of_container(s: Span, k: &Container) -> bool
+    ensures { IsTrue result ↔ IsClear s k.now }
 {
-    is_apart(s, files(columns, k)) && clear_of_mark(s, k.marks)
+    is_apart(s, files(k)) && clear_of_mark(s, k.marks)
 }
 
-fn clear_of_containers(s: Span, columns: usize, containers: &[Container]) -> bool
-    ensures { IsTrue result ↔ All (IsClear s columns) containers.now }
+fn clear_of_containers(s: Span, containers: &[Container]) -> bool
+    ensures { IsTrue result ↔ All (IsClear s) containers.now }
 {
-    containers.iter().all(|k| clear_of_container(s, columns, k))
+    containers.iter().all(|k| clear_of_container(s, k))
 }
 
 fn clear_of_projections(s: Span, projections: &[Projection]) -> bool
-    ensures { IsTrue result ↔ All (λ p. All (IsClear s (length p.columns)) p.containers) projections.now }
+    ensures { IsTrue result ↔ All (λ p. All (IsClear s) p.containers) projections.now }
 {
-    projections.iter().all(|p| clear_of_containers(
-        s,
-        p.columns.as_slice().len(),
-        p.containers.as_slice(),
-    ))
+    projections
+        .iter()
+        .all(|p| clear_of_containers(s, p.containers.as_slice()))
 }
 
 fn clear_of_tables(s: Span, tables: &[Table]) -> bool
-    ensures { IsTrue result ↔ All (λ t. All (λ p. All (IsClear s (length p.columns)) p.containers) t.projections) tables.now }
+    ensures { IsTrue result ↔ All (λ t. All (λ p. All (IsClear s) p.containers) t.projections) tables.now }
 {
     tables
         .iter()
@@ -75,76 +73,56 @@ fn clear_of_tables(s: Span, tables: &[Table]) -> bool
 
 fn clear_of_each(
     s: Span,
-    columns: usize,
     containers: &[Container],
     projections: &[Projection],
     tables: &[Table],
 ) -> bool
-    ensures { IsTrue result ↔ (All (IsClear s columns) containers.now × (All (λ p. All (IsClear s (length p.columns)) p.containers) projections.now × All (λ t. All (λ p. All (IsClear s (length p.columns)) p.containers) t.projections) tables.now)) }
+    ensures { IsTrue result ↔ (All (IsClear s) containers.now × (All (λ p. All (IsClear s) p.containers) projections.now × All (λ t. All (λ p. All (IsClear s) p.containers) t.projections) tables.now)) }
 {
-    clear_of_containers(s, columns, containers)
+    clear_of_containers(s, containers)
         && (clear_of_projections(s, projections) && clear_of_tables(s, tables))
 }
 
 /// Whether no number of these containers, projections and tables is in the span.
-fn is_clear(
-    s: Span,
-    columns: usize,
-    containers: &[Container],
-    projections: &[Projection],
-    tables: &[Table],
-) -> bool
-    ensures { IsTrue result ↔ All (AreApart s) (flat_map (container_spans columns) containers.now ++ (flat_map projection_spans projections.now ++ flat_map table_spans tables.now)) }
+fn is_clear(s: Span, containers: &[Container], projections: &[Projection], tables: &[Table]) -> bool
+    ensures { IsTrue result ↔ All (AreApart s) (flat_map container_spans containers.now ++ (flat_map projection_spans projections.now ++ flat_map table_spans tables.now)) }
 {
-    clear_of_each(s, columns, containers, projections, tables)
+    clear_of_each(s, containers, projections, tables)
 }
 
 fn container_parts(
-    columns: usize,
     k: &Container,
     containers: &[Container],
     projections: &[Projection],
     tables: &[Table],
 ) -> bool
-    ensures { let rest = flat_map (container_spans columns) containers.now ++ (flat_map projection_spans projections.now ++ flat_map table_spans tables.now) in IsTrue result ↔ (IfSome k.now.marks (λ m. AreApart (files columns k.now) (span_of m) × All (AreApart (span_of m)) rest) × All (AreApart (files columns k.now)) rest) }
+    ensures { let rest = flat_map container_spans containers.now ++ (flat_map projection_spans projections.now ++ flat_map table_spans tables.now) in IsTrue result ↔ (IfSome k.now.marks (λ m. AreApart (files k.now) (span_of m) × All (AreApart (span_of m)) rest) × All (AreApart (files k.now)) rest) }
 {
-    let own = files(columns, k);
+    let own = files(k);
     let marked = match k.marks {
         None => true,
         Some(m) => is_apart(own, span_of(m))
-            && is_clear(span_of(m), columns, containers, projections, tables),
+            && is_clear(span_of(m), containers, projections, tables),
     };
-    marked && is_clear(own, columns, containers, projections, tables)
+    marked && is_clear(own, containers, projections, tables)
 }
 
 fn container_ahead(
-    columns: usize,
     k: &Container,
     containers: &[Container],
     projections: &[Projection],
     tables: &[Table],
 ) -> bool
-    ensures { IsTrue result ↔ Ahead AreApart (container_spans columns k.now) (flat_map (container_spans columns) containers.now ++ (flat_map projection_spans projections.now ++ flat_map table_spans tables.now)) }
+    ensures { IsTrue result ↔ Ahead AreApart (container_spans k.now) (flat_map container_spans containers.now ++ (flat_map projection_spans projections.now ++ flat_map table_spans tables.now)) }
 {
-    container_parts(columns, k, containers, projections, tables)
+    container_parts(k, containers, projections, tables)
 }
 
-fn containers_ahead(
-    columns: usize,
-    containers: &[Container],
-    projections: &[Projection],
-    tables: &[Table],
-) -> bool
-    ensures { IsTrue result ↔ Ahead AreApart (flat_map (container_spans columns) containers.now) (flat_map projection_spans projections.now ++ flat_map table_spans tables.now) }
+fn containers_ahead(containers: &[Container], projections: &[Projection], tables: &[Table]) -> bool
+    ensures { IsTrue result ↔ Ahead AreApart (flat_map container_spans containers.now) (flat_map projection_spans projections.now ++ flat_map table_spans tables.now) }
 {
     for (i, k) in containers.iter().enumerate() {
-        if !container_ahead(
-            columns,
-            k,
-            containers.split_at(i + 1).1,
-            projections,
-            tables,
-        ) {
+        if !container_ahead(k, containers.split_at(i + 1).1, projections, tables) {
             return false;
         }
     }
@@ -154,12 +132,7 @@ fn containers_ahead(
 fn projection_ahead(p: &Projection, projections: &[Projection], tables: &[Table]) -> bool
     ensures { IsTrue result ↔ Ahead AreApart (projection_spans p.now) (flat_map projection_spans projections.now ++ flat_map table_spans tables.now) }
 {
-    containers_ahead(
-        p.columns.as_slice().len(),
-        p.containers.as_slice(),
-        projections,
-        tables,
-    )
+    containers_ahead(p.containers.as_slice(), projections, tables)
 }
 
 fn projections_ahead(projections: &[Projection], tables: &[Table]) -> bool
@@ -191,10 +164,10 @@ pub fn has_numbers_once(tables: &[Table]) -> bool
     true
 }
 
-fn container_count(columns: usize, k: &Container) -> u128
-    ensures { result ≡ container_count columns k.now }
+fn container_count(k: &Container) -> u128
+    ensures { result ≡ container_count k.now }
 {
-    let files = 2 * (columns as u128 + 1);
+    let files = 2 * (u128::from(k.stored) + 1);
     match k.marks {
         None => files,
         Some(_) => files + 1,
@@ -204,10 +177,9 @@ fn container_count(columns: usize, k: &Container) -> u128
 fn projection_count(p: &Projection) -> u128
     ensures { result ≡ min (number_count p.now) (2 ^ 128 - 1) }
 {
-    let columns = p.columns.as_slice().len();
     let mut count: u128 = 0;
     for k in p.containers.as_slice() {
-        count = count.saturating_add(container_count(columns, k));
+        count = count.saturating_add(container_count(k));
     }
     count
 }
