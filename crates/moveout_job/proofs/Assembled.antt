@@ -15,7 +15,7 @@ use Rattle.col_value.specs.declared.row.Stamped.{Stamped}
 use Rattle.catalog_types.specs.declared.catalogue.Container.{Container}
 use Rattle.catalog_types.specs.declared.catalogue.Projection.{Projection}
 use Rattle.catalog_types.specs.Numbers.{file_count}
-use Rattle.ros_container.specs.Encodings.{encodings_of}
+use Rattle.ros_container.specs.Encodings.{written_as, written_of}
 use Rattle.stored_rows.specs.Held.{Holds}
 use Rattle.stored_rows.specs.Stored.{Projected}
 use Rattle.proj_store.specs.Sound.{HasFileNumbers, HasVectorNumber, IsLoadable}
@@ -78,7 +78,7 @@ loads last next mid after old new js made is loadable each numbers =
       sort = loadable.sort;
     })
 
-remarked_below : (columns next mid : ℕ) (k j : Container) → next ≤ mid → IsRemarked next mid k j → IsBelow columns next k → IsBelow columns mid j
+remarked_below : (columns next mid : ℕ) (k j : Container) → next ≤ mid → IsRemarked next mid k j → IsBelow next k → IsBelow mid j
 remarked_below columns next mid k j le is low = record { files = let same = is.base in let files = low.files in omega (arith, same, files, le); vector = by is.marks }
   where
     up : (o : Option ℕ) → IfSome o (λ n. n < next) → IfSome o (λ n. n < mid)
@@ -93,7 +93,7 @@ remarked_below columns next mid k j le is low = record { files = let same = is.b
     by (inl same) = subst (λ (o : Option ℕ). IfSome o (λ n. n < mid)) (sym same) (up k.marks low.vector)
     by (inr drawn) = of j.marks drawn
 
-made_below : (columns mid after : ℕ) (k : Container) → IsNumbered columns mid after k → IsBelow columns after k
+made_below : (columns mid after : ℕ) (k : Container) → IsNumbered columns mid after k → IsBelow after k
 made_below columns mid after k is = record { files = by k.marks is.ends; vector = of k.marks is.vector is.ends }
   where
     by : (o : Option ℕ) → after ≡ mid + (file_count columns + option_map_or (λ _. 1) o 0) → k.base + file_count columns ≤ after
@@ -108,7 +108,7 @@ pub numbers_rise : (columns mid after : ℕ) (made : Option Container) → AreNu
 numbers_rise columns mid after None are = omega (arith, are)
 numbers_rise columns mid after (Some k) are = let e = are.ends in omega (arith, e)
 
-made_all_below : (columns mid after : ℕ) (made : Option Container) → AreNumbered columns mid after made → IfSome made (IsBelow columns after)
+made_all_below : (columns mid after : ℕ) (made : Option Container) → AreNumbered columns mid after made → IfSome made (IsBelow after)
 made_all_below columns mid after None are = tt
 made_all_below columns mid after (Some k) are = made_below columns mid after k are
 
@@ -117,19 +117,19 @@ pub lists_below : (last next mid after : ℕ) (old new : Projection) (js : List 
 lists_below last next mid after old new js made is le each numbers below =
     let rise = numbers_rise (length old.columns) mid after made numbers in
     subst (IsListedBelow after) (sym is)
-    (all_listed (IsBelow (length old.columns) after) js made
-    (zip_all (IsRemarked next mid) (IsBelow (length old.columns) next) (IsBelow (length old.columns) after)
+    (all_listed (IsBelow after) js made
+    (zip_all (IsRemarked next mid) (IsBelow next) (IsBelow after)
     (λ k j same low. wider_below (length old.columns) mid after j rise (remarked_below (length old.columns) next mid k j le same low)) old.containers js each below)
     (made_all_below (length old.columns) mid after made numbers))
 
 -- ---- rows
 
 pub moves_out : {D : Type 0} (disk : Ghosts D) {old mid new : D} (last next after : ℕ) (p : Projected) (entry : Projection) (js : List Container) (made : Option Container) (rows : List Stamped)
-    → entry ≡ moved_to last js made p.entry → RemarksEach (encodings_of p.entry) next after p.entry.containers p.beside js (disk.holds old) (disk.holds mid) → Moved disk (DataFrom after) NoName mid new
-    → ((m : Contents) → disk.holds new ≡ Some m → HoldsBag m (encodings_of p.entry) (listed made) rows) → rows ≡ p.unsaved → MovesOut next p entry (disk.holds old) (disk.holds new)
+    → entry ≡ moved_to last js made p.entry → RemarksEach (written_of p.entry) next after p.entry.containers p.beside js (disk.holds old) (disk.holds mid) → Moved disk (DataFrom after) NoName mid new
+    → ((m : Contents) → disk.holds new ≡ Some m → HoldsBag m (written_of p.entry) (listed made) rows) → rows ≡ p.unsaved → MovesOut next p entry (disk.holds old) (disk.holds new)
 moves_out disk last next after p entry js made rows is each second bag are m n told left below stored (saved, stores, stored_is) =
-    let es = encodings_of p.entry in
-    let wide : All (IsBelow (length es) next) p.entry.containers = subst (λ (x : ℕ). All (IsBelow x next) p.entry.containers) (sym (length-map p.entry.columns (λ c. c.encoding))) below in
+    let es = written_of p.entry in
+    let wide : All (IsBelow next) p.entry.containers = subst (λ (x : ℕ). All (IsBelow next) p.entry.containers) (sym (length-map p.entry.columns written_as)) below in
     let (l, told_l, held_l) = each m saved told wide stores in
     let kept = rows_below l n es js saved after held_l.below (between disk l n told_l left second) held_l.held in
     let (more, holds_more, same) = bag n left in (

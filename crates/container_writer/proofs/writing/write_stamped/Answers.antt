@@ -1,7 +1,7 @@
 use Rattle.std.proofs.Common.{◌≡◌, ◌<◌, ◌∙◌, List, ap, length, map, rules, subst, sym}
 use Rattle.col_disk.proofs.Moving.{moved_none}
 use Rattle.del_vector.specs.Marks.{epoch_at}
-use Rattle.ros_container.specs.Encodings.{encodings_of}
+use Rattle.ros_container.specs.Encodings.{written_of}
 use Rattle.stored_rows.specs.Held.{stamped_from}
 use Rattle.container_writer.specs.declared.refs.Keyed.{Keyed}
 use Rattle.container_writer.specs.Ordered.{asked_of, del_at, stamped_of}
@@ -32,6 +32,6 @@ returns-in-Ok-write_marked-clause-held g c =
     let sorted : c.as_slice.result.now ≡ c.in-Ok.sorted.items = search rules in
     let again : c.as_slice-2.result.now ≡ c.in-Ok.sorted.items = search rules in
     λ m told.
-    bag_of_one m (encodings_of c.args.shape.now) c.in-Ok-write_marked.container (map stamped_of c.args.rows.items) c.in-Ok.sorted.items c.in-Ok-vector_of.marks.marks
+    bag_of_one m (written_of c.args.shape.now) c.in-Ok-write_marked.container (map stamped_of c.args.rows.items) c.in-Ok.sorted.items c.in-Ok-vector_of.marks.marks
     (λ i. c.in-Ok-vector_of.ensures.deleted i ∙ ap (λ (ks : List Keyed). del_at ks i) sorted) c.in-Ok.ensures.same
-    (subst (λ (ks : List Keyed). HoldsOne m (encodings_of c.args.shape.now) c.in-Ok-write_marked.container (stamped_from 0 (epoch_at c.in-Ok-vector_of.marks.marks) (map asked_of ks))) again (c.in-Ok-write_marked.ensures.held m told))
+    (subst (λ (ks : List Keyed). HoldsOne m (written_of c.args.shape.now) c.in-Ok-write_marked.container (stamped_from 0 (epoch_at c.in-Ok-vector_of.marks.marks) (map asked_of ks))) again (c.in-Ok-write_marked.ensures.held m told))
