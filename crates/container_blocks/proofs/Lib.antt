@@ -2,4 +2,4 @@ pub mod Columns
 pub mod OneBlock
 pub mod Faults
 pub mod Numbers
-pub mod Defaults
+pub mod Unstored

@@ -30,7 +30,7 @@ fn entry_of(alloc: Global, value: &Value, block: u64) -> Result<Entry, AllocErro
     })
 }
 
-#[tactic(auto, using(crate::proofs::Defaults::entries_more))]
+#[tactic(auto, using(crate::proofs::Unstored::entries_more))]
 fn entries_of(alloc: Global, value: &Value, rows: u64) -> Result<Vec<Entry>, AllocError>
     ensures { IfOk result (λ v. v.items ≡ entries_of_one value.now 0 (blocks rows)) }
 {
@@ -43,7 +43,7 @@ fn entries_of(alloc: Global, value: &Value, rows: u64) -> Result<Vec<Entry>, All
 }
 
 /// An index of so many rows that have one value.
-#[tactic(auto, using(crate::proofs::Defaults::is_index_of_one, crate::proofs::Defaults::is_of_one))]
+#[tactic(auto, using(crate::proofs::Unstored::is_index_of_one, crate::proofs::Unstored::is_of_one))]
 fn index_of_one(alloc: Global, value: Value, rows: u64) -> Result<PosIndex, AllocError>
     requires some { 1 ≤ rows }
     requires value { IsValue value }
@@ -77,7 +77,7 @@ pub fn default_index(
 }
 
 /// So many times one value, which is held once.
-#[tactic(auto, using(crate::proofs::Defaults::picked_one))]
+#[tactic(auto, using(crate::proofs::Unstored::picked_one))]
 fn repeated(alloc: Global, value: Value, count: usize) -> Result<Block, AllocError>
     ensures { IfOk result (λ b. b ≡ replicate count value) }
 {

@@ -124,7 +124,7 @@ cuts_inserts one m n es epoch k o marks asked left le stored vector read left_is
 -- a delete vector under a number
 pub vector_below : (next : ℕ) (columns : List ProjColumn) (k : Container) (left : List Mark) → IsBelow next columns k → IsBelow (next + 1) columns (with_vector next left k)
 vector_below next columns k left below = record {
-  of_columns = record { rows = below.of_columns.rows; some = below.of_columns.some; most = below.of_columns.most; defaults = below.of_columns.defaults };
+  of_columns = record { rows = below.of_columns.rows; most = below.of_columns.most; defaults = below.of_columns.defaults };
   files = let end = below.files in omega (arith, end);
   vector = by left;
 }
@@ -141,7 +141,6 @@ vector_numbered base columns next (Some n) is at = (omega (arith, is), omega (ar
 of_front : (columns : List ProjColumn) (k j : Container) → IsOfColumns columns k → 1 ≤ j.rows → j.stored ≡ k.stored → IsOfColumns columns j
 of_front columns k j of_k rows same = record {
   rows = rows;
-  some = let some = of_k.some in omega (arith, some, same);
   most = let most = of_k.most in omega (arith, most, same);
   defaults = subst (λ (n : ℕ). All HasDefaultValue (drop n columns)) (sym same) of_k.defaults;
 }

@@ -171,7 +171,6 @@ pub front_reads : (k : Container) (p : Projection) â†’ IsOfColumns p.columns k â
 front_reads k p of_k numbers = record {
   of_columns = record {
     rows = of_k.rows;
-    some = of_k.some;
     most = let most = of_k.most in omega (arith, length-take-le k.stored p.columns most);
     defaults = subst (All HasDefaultValue) (sym (drop_all k.stored (take k.stored p.columns) (omega (arith, length-take-le k.stored p.columns of_k.most)))) (All-nil HasDefaultValue);
   };

@@ -15,14 +15,15 @@ use Rattle.catalog_types.specs.declared.catalogue.Container.{Container}
 use Rattle.catalog_types.specs.declared.catalogue.Projection.{Projection}
 use Rattle.catalog_types.specs.declared.catalogue.Table as kept
 use Rattle.catalog_types.specs.declared.catalogue.Catalogue.{Catalogue}
-use Rattle.catalog_types.specs.Parts.{IsContainer, IsProjection, IsTable}
+use Rattle.catalog_types.specs.Parts.{IsProjection, IsTable}
 use Rattle.catalog_types.specs.Valid.{IsValid}
 use Rattle.catalog_types.specs.Reached.{least_lge}
 use Rattle.ros_container.specs.Encodings.{written_of}
 use Rattle.stored_rows.specs.Listed.{SameEntry}
 use Rattle.stored_rows.proofs.KeptRows.{entry_kept}
 use Rattle.folder_model.specs.Projections.{shape_of}
-use Rattle.proj_store.specs.Sound.{HasFileNumbers, HasVectorNumber, IsLoadable}
+use Rattle.ros_container.specs.Readable.{IsReadable}
+use Rattle.proj_store.specs.Sound.{HasVectorNumber, IsLoadable}
 use Rattle.container_writer.specs.Writing.{DataFrom}
 use Rattle.cut_model.specs.Cut.{CutsRows, IsCutEntry, IsCutTable}
 use Rattle.container_cut.specs.Listed.{IsBelow, IsListedBelow}
@@ -31,6 +32,7 @@ use Rattle.container_cut.specs.Blamed.{IsDamageIn}
 use Rattle.container_cut.proofs.Below.{SameBelow, below_data, entry_same, entries_later, moved_between, number_low}
 use Rattle.container_cut.proofs.Faults.{any_back, entry_back}
 use Rattle.cut_job.specs.Blamed.{IsDamageInTable}
+use Rattle.proj_store.proofs.Listed.{valid_of_columns}
 use Rattle.proj_store.proofs.Vectors.{valid_loads}
 use Rattle.cut_job.specs.Listed.{IsTableBelow, HasLoadable}
 use Rattle.cut_job.specs.Cutting.{CutsProjection, CutsProjections, CutsTable, CutsTables, CutsCatalogue}
@@ -69,7 +71,7 @@ entry_cut epoch lge p q js found left fewer lge_is is cuts none m n before after
 
 pub entry_loads : (next lge : ℕ) (p q : Projection) (js : List Container) → next ≤ 2 ^ 62 → q ≡ record p { lge = lge; containers = js } → All (IsBelow next p.columns) js → IsLoadable p → IsLoadable q
 entry_loads next lge p q js le is below loads = subst IsLoadable (sym is) (record {
-  files = All-weaker (IsBelow next p.columns) (HasFileNumbers (length p.columns)) (λ k h. let end = h.files in omega (arith, le, end)) js below;
+  files = All-weaker (IsBelow next p.columns) (IsReadable p.columns) (λ k h. let end = h.files in record { of_columns = h.of_columns; numbers = omega (arith, le, end) }) js below;
   vectors = All-weaker (IsBelow next p.columns) HasVectorNumber (λ k h. number_low next k.marks le h.vector) js below;
   sort = loads.sort;
 })
@@ -247,8 +249,9 @@ vector_below next None is = tt
 vector_below next (Some n) is = is.1
 
 entry_valid : (c : Catalogue) (t : kept.Table) (p : Projection) → IsProjection c t p → IsListedBelow c.next p
-entry_valid c t p is =
-    All-weaker (IsContainer c.next (length p.columns) p.lge) (IsBelow c.next p.columns) (λ k h. record { files = h.files.1; vector = vector_below c.next k.marks h.vector }) p.containers is.containers
+entry_valid c t p is i d at =
+    let of = is.containers i d at in
+    record { of_columns = valid_of_columns c t p is i d at; files = of.files.1; vector = vector_below c.next (get_or p.containers i d).marks of.vector }
 
 pub valid_below : (c : Catalogue) → IsValid c → All (IsTableBelow c.next) c.tables
 valid_below c valid =

@@ -15,7 +15,7 @@ ghost use Rattle.cut_job.specs.Cutting.{CutsProjection, CutsProjections};
 ghost use Rattle.container_cut.specs.Blamed.{BlamesProjection};
 ghost use Rattle.cut_job.specs.Blamed.{BlamesProjections};
 
-use catalog_types::{Container, Projection};
+use catalog_types::{Container, Projection, copy_proj_columns};
 use col_disk::{Disk, StoreFault};
 use col_value::List;
 use container_cut::{CutContainers, cut_containers};
@@ -38,7 +38,7 @@ fn with_containers(
     ensures { IfOk result (λ q. q ≡ record p.now { lge = lge; containers = containers.items }) }
 {
     let name = p.name.copy(alloc)?;
-    let columns = List::new(Vec::from_slice(alloc, p.columns.as_slice())?);
+    let columns = List::new(copy_proj_columns(alloc, p.columns.as_slice())?);
     let sort = List::new(Vec::from_slice(alloc, p.sort.as_slice())?);
     Ok(Projection {
         name,

@@ -42,13 +42,13 @@ later_data disk base next le moved = moved_wider disk (λ q f. let from = f.1 in
 pub vector_data : {D : Type 0} (disk : Ghosts D) {old new : D} (next : ℕ) → Moved disk (Named (vector_file next)) NoName old new → Moved disk (DataFrom next) NoName old new
 vector_data disk next moved = moved_wider disk (λ q is. (next, omega arith, is)) (λ q is. is) moved
 
-pub same_below : (m n : Contents) (columns next : ℕ) (k : Container) → IsBelow next k → Changed (DataFrom next) NoName m n → SameFiles m n k
-same_below m n columns next k below changed q (inl f) =
+pub same_below : (m n : Contents) (next : ℕ) (k : Container) → IsBelow next k → Changed (DataFrom next) NoName m n → SameFiles m n k
+same_below m n next k below changed q (inl f) =
     let within = f.1 in
     let is = f.2 in
     let files = below.files in
     changed_kept (DataFrom next) NoName m n q (λ d. let from = d.1 in let same = d.2 in omega (arith, within, is, files, from, same)) (λ x. x) changed
-same_below m n columns next k below changed q (inr v) = by k.marks below.vector v
+same_below m n next k below changed q (inr v) = by k.marks below.vector v
   where
     by : (o : Option ℕ) → IfSome o (λ x. x < next) → IsVectorFile o q → get n q ≡ get m q
     by None low is = absurd is
@@ -60,16 +60,16 @@ marked_kept m n es k mark rows same (asked, held, is) = (asked, rows_kept m n es
 pub rows_below : (m n : Contents) (es : List Written) (ks : List Container) (rows : List Stamped) (next : ℕ) → All (IsBelow next) ks → Changed (DataFrom next) NoName m n → HoldsRows m es ks rows → HoldsRows n es ks rows
 rows_below m n es [] rows next below changed held = held
 rows_below m n es (k ∷ ks) rows next below changed (v, here, more, vector, marked, rest, is) =
-    let same = same_below m n (length es) next k (All-head (IsBelow next) k ks below) changed in
-    (v, here, more, vector_kept m n (length es) k v same vector, marked_kept m n es k (epoch_at v) here same marked, rows_below m n es ks more next (All-tail (IsBelow next) k ks below) changed rest, is)
+    let same = same_below m n next k (All-head (IsBelow next) k ks below) changed in
+    (v, here, more, vector_kept m n k v same vector, marked_kept m n es k (epoch_at v) here same marked, rows_below m n es ks more next (All-tail (IsBelow next) k ks below) changed rest, is)
 
 pub rows_join : (m : Contents) (es : List Written) (ks js : List Container) (xs ys : List Stamped) → HoldsRows m es ks xs → HoldsRows m es js ys → HoldsRows m es (ks ++ js) (xs ++ ys)
 rows_join m es [] js xs ys held others = subst (λ (zs : List Stamped). HoldsRows m es js (zs ++ ys)) (sym held) others
 rows_join m es (k ∷ ks) js xs ys (v, here, more, vector, marked, rest, is) others =
     (v, here, more ++ ys, vector, marked, rows_join m es ks js more ys rest others, ap (λ (zs : List Stamped). zs ++ ys) is ∙ append_assoc here more ys)
 
-pub wider_below : (columns next after : ℕ) (k : Container) → next ≤ after → IsBelow next k → IsBelow after k
-wider_below columns next after k le below = record { files = let files = below.files in omega (arith, files, le); vector = by k.marks below.vector }
+pub wider_below : (next after : ℕ) (k : Container) → next ≤ after → IsBelow next k → IsBelow after k
+wider_below next after k le below = record { files = let files = below.files in omega (arith, files, le); vector = by k.marks below.vector }
   where
     by : (o : Option ℕ) → IfSome o (λ x. x < next) → IfSome o (λ x. x < after)
     by None low = tt
@@ -92,7 +92,7 @@ unmarked next k held [] found left same none m es rows told below vector (asked,
 
 other_vector : (n : Contents) (es : List Written) (number : ℕ) (marks : List Mark) (k j : Container) (rows : List Asked) → j ≡ with_vector number marks k → HoldsContainer n es k rows → HoldsContainer n es j rows
 other_vector n es number marks k j rows is held =
-    subst (λ (x : Container). HoldsContainer n es x rows) (sym is) (record { each = held.each; epochs = held.epochs; wide = held.wide; within = held.within })
+    subst (λ (x : Container). HoldsContainer n es x rows) (sym is) (record { each = held.each; defaults = held.defaults; epochs = held.epochs; wide = held.wide; within = held.within })
 
 number_below : (next : ℕ) (marks : List Mark) → IfSome (vector_number next marks) (λ n. n < next + 1)
 number_below next [] = tt
@@ -108,7 +108,7 @@ marked_anew disk {old} {new} next k j held fresh marks epochs is vector moved m 
     let left = moved_told disk m told moved in
     let n = left.0 in
     let changed : Changed (DataFrom next) NoName m n = between disk m n told left.1 (vector_data disk next moved) in
-    let same = same_below m n (length es) next k below changed in
+    let same = same_below m n next k below changed in
     let kept = other_vector n es next marks k j asked is (rows_kept m n es k asked (λ q f. same q (inl f)) container) in
     let files = below.files in (
       n,
@@ -118,10 +118,10 @@ marked_anew disk {old} {new} next k j held fresh marks epochs is vector moved m 
     )
 
 pub same_entry : (next : ℕ) (k : Container) → IsRemarked next next k k
-same_entry next k = record { base = refl; rows = refl; level = refl; marks = inl refl }
+same_entry next k = record { base = refl; rows = refl; level = refl; stored = refl; marks = inl refl }
 
 pub new_entry : (next : ℕ) (k j : Container) (marks : List Mark) → next < 2 ^ 61 → j ≡ with_vector next marks k → IsRemarked next (next + 1) k j
-new_entry next k j marks low is = subst (IsRemarked next (next + 1) k) (sym is) (record { base = refl; rows = refl; level = refl; marks = inr (number_drawn next marks low) })
+new_entry next k j marks low is = subst (IsRemarked next (next + 1) k) (sym is) (record { base = refl; rows = refl; level = refl; stored = refl; marks = inr (number_drawn next marks low) })
 
 -- ---- one container more
 
@@ -176,15 +176,15 @@ each_more disk es next after end ks js bs k j b le lt first second was one m row
     let p = parted m es ks bs k b rows stores in
     let low_k : IsBelow next k = all_last (IsBelow next) ks k below in
     let (l, told_l, held_l) = was m p.front told (all_front (IsBelow next) ks k below) p.before in
-    let same = same_below m l (length es) next k low_k (between disk m l told told_l first) in
-    let (n, told_n, one_n, low_j) = one l es p.last told_l (wider_below (length es) next after k le low_k) (vector_kept m l (length es) k b.held same p.vector) (marked_kept m l es k (mark_in b) p.last same p.marked) in
+    let same = same_below m l next k low_k (between disk m l told told_l first) in
+    let (n, told_n, one_n, low_j) = one l es p.last told_l (wider_below next after k le low_k) (vector_kept m l k b.held same p.vector) (marked_kept m l es k (mark_in b) p.last same p.marked) in
     let changed = between disk l n told_l told_n second in (
       n,
       told_n,
       record {
         held = subst (HoldsRows n es (js ++ j ∷ [])) (sym p.are)
             (rows_join n es js (j ∷ []) p.front p.last (rows_below l n es js p.front after held_l.below changed held_l.held) (one_n.0, p.last, [], one_n.1, one_n.2, refl, sym (append-nil p.last)));
-        below = All-push (IsBelow end) js j (All-weaker (IsBelow after) (IsBelow end) (λ x low. wider_below (length es) after end x lt low) js held_l.below) low_j;
+        below = All-push (IsBelow end) js j (All-weaker (IsBelow after) (IsBelow end) (λ x low. wider_below after end x lt low) js held_l.below) low_j;
       },
     )
 
@@ -204,7 +204,7 @@ drawn_wider : (next after low end n : ℕ) → low ≤ next → after ≤ end �
 drawn_wider next after low end n le lt is = record { from = let from = is.from in omega (arith, from, le); upto = let upto = is.upto in omega (arith, upto, lt); low = is.low }
 
 pub remarked_wider : (next after low end : ℕ) (k j : Container) → low ≤ next → after ≤ end → IsRemarked next after k j → IsRemarked low end k j
-remarked_wider next after low end k j le lt is = record { base = is.base; rows = is.rows; level = is.level; marks = by is.marks }
+remarked_wider next after low end k j le lt is = record { base = is.base; rows = is.rows; level = is.level; stored = is.stored; marks = by is.marks }
   where
     of : (o : Option ℕ) → IfSome o (IsDrawn next after) → IfSome o (IsDrawn low end)
     of None drawn = tt

@@ -13,9 +13,9 @@ use Rattle.stored_rows.specs.Stored.{Beside, Projected, mark_in, StoresRows, Sto
 use Rattle.container_writer.specs.Writing.{listed, HoldsOne, AreNumbered}
 use Rattle.ros_container.specs.Encodings.{Written}
 
--- the numbers of a container of so many columns are below this one
-pub record IsBelow (k : Container) : Type 0 where
-  pub files : k.base + file_count columns ≤ next
+-- the numbers of a container are below this one
+pub record IsBelow (next : ℕ) (k : Container) : Type 0 where
+  pub files : k.base + file_count k.stored ≤ next
   pub vector : IfSome k.marks (λ n. n < next)
 
 -- all numbers that an entry lists are below this one
@@ -33,6 +33,7 @@ pub record IsRemarked (next after : ℕ) (old new : Container) : Type 0 where
   pub base : new.base ≡ old.base
   pub rows : new.rows ≡ old.rows
   pub level : new.level ≡ old.level
+  pub stored : new.stored ≡ old.stored
   pub marks : (new.marks ≡ old.marks) ⊎ IfSome new.marks (IsDrawn next after)
 
 -- the entry with these containers and one more behind them, if one was made, which has all rows up to an epoch

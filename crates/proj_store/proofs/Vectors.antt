@@ -14,6 +14,7 @@ use Rattle.stored_rows.specs.Held.{HoldsVector}
 use Rattle.stored_rows.specs.Stored.{Beside, Projected, StoresRows, Stores, IsUnmarked, IsLoaded}
 use Rattle.proj_store.specs.Sound.{IsLoadable}
 use Rattle.proj_store.specs.Reading.{HasVectors}
+use Rattle.proj_store.proofs.Listed.{valid_of_columns}
 
 loaded_each : (m : Contents) (ks : List Container) (bs : List Beside) → AllZip (IsUnmarked m) ks bs → AllZip (λ k b. HoldsVector m k b.held) ks bs
 loaded_each m [] [] all = tt
@@ -39,7 +40,7 @@ below next (Some n) lt is = omega (arith, lt, is.1)
 
 pub valid_loads : (c : Catalogue) (t : Table) (p : Projection) → IsProjection c t p → c.next < 2 ^ 62 → IsLoadable p
 valid_loads c t p valid lt = record {
-  files = λ i d at. let files = (valid.containers i d at).files in omega (arith, lt, files.1);
+  files = λ i d at. let files = (valid.containers i d at).files in record { of_columns = valid_of_columns c t p valid i d at; numbers = omega (arith, lt, files.1) };
   vectors = λ i d at. below c.next (get_or p.containers i d).marks lt (valid.containers i d at).vector;
   sort = valid.sort;
 }

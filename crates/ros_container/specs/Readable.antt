@@ -9,10 +9,9 @@ use Rattle.col_value.specs.Order.{IsValue}
 abbrev pub HasDefaultValue : ProjColumn → Type 0
 HasDefaultValue c = IsSomeAnd c.default IsValue
 
--- A container of a projection with these columns: it has a row, stores the first of the columns, and the others have a default.
+-- A container of a projection with these columns: it has a row and stores the first of the columns, and the others have a default.
 pub record IsOfColumns (columns : List ProjColumn) (k : Container) : Type 0 where
   pub rows : 1 ≤ k.rows
-  pub some : 1 ≤ k.stored
   pub most : k.stored ≤ length columns
   pub defaults : All HasDefaultValue (drop k.stored columns)
 

@@ -3,4 +3,4 @@ use Rattle.std.specs.Prelude.{replicate}
 use Rattle.ros_container.proofs.encodings.repeated.Given as goal
 
 abbrev pub invariant-loop : goal.invariant-loop
-invariant-loop l = l.out.items ≡ replicate l.index l.value
+invariant-loop l = l.out.items ≡ replicate l.counter l.value
