@@ -73,7 +73,7 @@ def line(row):
     """A row as the program prints it."""
     fields = []
     for value in row:
-        text = b'' if value is None else value if isinstance(value, bytes) else b'%d' % value
+        text = b'' if value is None else value if isinstance(value, bytes) else str(value).encode()
         text = (b't' if value else b'f') if isinstance(value, bool) else text
         fields.append(b'"' + text.replace(b'"', b'""') + b'"' if any(mark in text for mark in (b'|', b'"', b'\r', b'\n')) else text)
     return b'""' if fields == [b''] else b'|'.join(fields)
@@ -157,7 +157,7 @@ def read_as(kind, data):
         entry = PositionIndex(data, 2).entries[0]
         return entry.least, entry.greatest
     if kind.startswith('delete'):
-        return DeleteVector(data, Container(1, 3, 1, 1, 0, 9, 2)).epochs
+        return DeleteVector(data, Container(1, 3, 1, 1, 0, 9, 2, 1)).epochs
     part, at = (vint_at if kind == 'vint' else value_at)(data, 0)
     is_same(f'{kind} {data.hex()}: its end', len(data), at)
     return part
@@ -235,7 +235,7 @@ def held_as_written(name, seen):
                 for *row, epoch in zip(*values, epochs):
                     keys.append(([rank(row[place]) for place in projection.sort], list(map(rank, row)), epoch))
             holds(f'{name}: the order of {projection.name}', all(a <= b for a, b in zip(keys, keys[1:])))
-            for column in [*stored.columns, stored.epochs]:
+            for column in stored.with_files:
                 with column.folder.opened(column.body_file, column.body_is) as body:
                     for entry, size, _ in column.pieces(body):
                         block = body.read(size)
@@ -244,7 +244,7 @@ def held_as_written(name, seen):
                         is_same(f'{name}: {column.index_is}', [ranks[0], ranks[-1]], [rank(entry.least), rank(entry.greatest)])
                         made = [it for it in (encode(values) for encode in encoders) if it is not None]
                         if column.encoding == 'AUTO':
-                            is_same(f'{name}: {column.body_is}', min(made, key=len), block)
+                            is_same(f'{name}: {column.body_is}', min(made, key=lambda it: (len(it), it[0])), block)
                         else:
                             holds(f'{name}: {column.body_is}', block in made, block.hex())
 

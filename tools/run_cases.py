@@ -127,7 +127,7 @@ files(8, 12, 16, 20, 25, 26)
 stops('SELECT a FROM t', ['ERROR 2 UnknownTable t'], ['(0 rows)'], ['1', '2', '(2 rows)'])
 # the column, its index, the epochs, their index, the catalogue (epoch 1, the next number 7, the container of base 2) and the gate
 bytes_of([(8, '020200000000000000010102'), (12, '02000001' + '0000000000000001' + '01' + '0000000000000002'), (16, '010101000000000000000102'),
-          (20, '02000001' + '0000000000000001' + '01' + '0000000000000001'), (25, '56434154' + '01010007' + '01' + '0174' + '01' + '0161' + '0100' + '01' + '07' + '745f7375706572' + '010000' + '0100' + '010101' + '01' + '02020101' + '000000'),
+          (20, '02000001' + '0000000000000001' + '01' + '0000000000000001'), (25, '56434154' + '02010007' + '01' + '0174' + '01' + '0161' + '0100' + '01' + '07' + '745f7375706572' + '01000000' + '0100' + '010101' + '01' + '02020101' + '00000001'),
           (26, '56')])
 # no file has a check of its sums: a number that stays between the bounds of its block is another number, a name another name
 changes('SELECT a FROM t', ([], 6), (['1', '1', '(2 rows)'], 0), (['1', '2', '(2 rows)'], 0), (['ERROR 2 UnknownTable t'], 1), (['ERROR 4 UnknownColumn a'], 1))

@@ -8,9 +8,10 @@ from dataclasses import dataclass
 from datetime import date
 
 from .blocks import ENCODINGS
-from .spelling import Front, Malformed
+from .spelling import Front, Malformed, value_at
 
-MAGIC = b'VCAT\1'
+MAGIC = b'VCAT'
+VERSIONS = (1, 2)  # of the format; the program writes the last one
 MOST_TABLES, MOST_COLUMNS, MOST_PROJECTIONS, MOST_NAME, MOST_LENGTH = 1024, 64, 16, 128, 65_000
 
 
@@ -67,13 +68,16 @@ EPOCHS = Column('(epochs)', 'INTEGER', 0, True)
 class ProjectionColumn:
     place: int  # in the table
     encoding: str
+    has_default: bool
+    default: object  # the value of rows that were stored before the column was there
 
     @classmethod
-    def read(cls, front):
+    def read(cls, front, version):
         place, tag = front.vint(), front.byte()
         if tag >= len(ENCODINGS):
             raise Malformed(f'{tag:02x} is no encoding')
-        return cls(place, ENCODINGS[tag])
+        has_default = version > 1 and front.flag()
+        return cls(place, ENCODINGS[tag], has_default, front.next(value_at) if has_default else None)
 
 
 @dataclass
@@ -85,10 +89,11 @@ class Container:
     level: int
     delete_vector: int  # its number, or 0
     greatest_mark: int
+    stored: int  # how many columns of the projection, from the first on
 
     @classmethod
-    def read(cls, front):
-        container = cls(*[front.vint() for _ in range(7)])
+    def read(cls, front, version, columns):
+        container = cls(*[front.vint() for _ in range(7)], columns if version == 1 else front.vint())
         if container.level >= 2**32:
             raise Malformed('a level is 2^32 or more')
         return container
@@ -99,20 +104,20 @@ class Container:
     def index_file(self, place):
         return 4 * (self.base + 2 * place + 1)
 
-    def spans(self, columns):
-        """The numbers that it has: two for each column and for the epochs, and that of its delete vector."""
-        yield self.base, self.base + 2 * (columns + 1)
+    def spans(self):
+        """The numbers that it has: two for each column that it stores and for the epochs, and that of its delete vector."""
+        yield self.base, self.base + 2 * (self.stored + 1)
         if self.delete_vector:
             yield self.delete_vector, self.delete_vector + 1
 
-    def flaws(self, columns, good, following):
+    def flaws(self, good, following):
         if self.rows < 1:
             yield 'it has no rows'
         if not 1 <= self.least_epoch <= self.greatest_epoch <= good:
             yield f'its epochs go from {self.least_epoch} to {self.greatest_epoch}, and its projection has reached {good}'
         if bool(self.delete_vector) != bool(self.greatest_mark) or self.greatest_mark > good:
             yield f'its delete vector is {self.delete_vector}, of greatest epoch {self.greatest_mark}'
-        if self.base < 1 or any(end > following for _, end in self.spans(columns)):
+        if self.base < 1 or any(end > following for _, end in self.spans()):
             yield f'its numbers are none from 1 to the next free one, {following}'
 
 
@@ -127,14 +132,16 @@ class Projection:
     containers: list
 
     @classmethod
-    def read(cls, front):
+    def read(cls, front, version):
+        name, columns = name_in(front), front.many(lambda it: ProjectionColumn.read(it, version))
         return cls(
-            name_in(front), front.many(ProjectionColumn.read), front.many(Front.vint), front.flag(), front.vint(), front.vint(),
-            front.many(Container.read),
+            name, columns, front.many(Front.vint), front.flag(), front.vint(), front.vint(),
+            front.many(lambda it: Container.read(it, version, len(columns))),
         )
 
     def fit(self, table):
-        """Its columns are columns of the table, each once, in encodings that take them; it is sorted by some of its own, each once."""
+        """Its columns are columns of the table, each once, in encodings that take them, with defaults that fit; it is sorted by some of its
+        own, each once. A container stores at least the columns by which it is sorted, and those that it doesn't store have a default."""
         places = [column.place for column in self.columns]
         if not places or len(set(places)) < len(places) or max(places) >= len(table.columns):
             raise Malformed(f'the columns of {self.name} are no columns of its table')
@@ -143,6 +150,13 @@ class Projection:
         for column in self.columns:
             if column.encoding == 'DELTAVAL' and table.columns[column.place].kind not in ('INTEGER', 'DATE'):
                 raise Malformed(f'{self.name} has a DELTAVAL column that is neither INTEGER nor DATE')
+            if column.has_default and table.columns[column.place].flaw_of([column.default]):
+                raise Malformed(f'a default of {self.name} is no value of its column')
+        for container in self.containers:
+            if not max(self.sort) < container.stored <= len(places):
+                raise Malformed(f'container {container.base} of {self.name} stores {container.stored} columns')
+            if not all(column.has_default for column in self.columns[container.stored :]):
+                raise Malformed(f'container {container.base} of {self.name} lacks a column without a default')
 
     def has_all_columns(self, table):
         return len(self.columns) == len(table.columns)
@@ -161,7 +175,7 @@ class Projection:
         if self.made >= catalogue.next_number:
             yield f'{self.made} containers were made of it, and no more than {catalogue.next_number} numbers drawn'
         for container in self.containers:
-            for flaw in container.flaws(len(self.columns), self.last_good_epoch, catalogue.next_number):
+            for flaw in container.flaws(self.last_good_epoch, catalogue.next_number):
                 yield f'container {container.base}: {flaw}'
 
 
@@ -172,8 +186,8 @@ class Table:
     projections: list
 
     @classmethod
-    def read(cls, front):
-        table = cls(name_in(front), front.many(Column.read), front.many(Projection.read))
+    def read(cls, front, version):
+        table = cls(name_in(front), front.many(Column.read), front.many(lambda it: Projection.read(it, version)))
         names = [column.name for column in table.columns]
         listed(len(names), MOST_COLUMNS, f'the number of columns of {table.name}')
         if len(set(names)) < len(names):
@@ -209,11 +223,12 @@ class Catalogue:
     @classmethod
     def read(cls, data):
         if data[: len(MAGIC)] != MAGIC:
-            if data[:4] == MAGIC[:4] and len(data) > 4:
-                raise Malformed(f'its format has version {data[4]}, and this tool reads version {MAGIC[4]}')
             raise Malformed("it doesn't begin with VCAT")
         front = Front(data, len(MAGIC))
-        catalogue = cls(front.vint(), front.vint(), front.vint(), front.many(Table.read))
+        version = front.byte()
+        if version not in VERSIONS:
+            raise Malformed(f'its format has version {version}, and this tool reads versions 1 and 2')
+        catalogue = cls(front.vint(), front.vint(), front.vint(), front.many(lambda it: Table.read(it, version)))
         front.end()
         return catalogue
 
@@ -229,7 +244,7 @@ class Catalogue:
     def spans(self):
         for _, projection in self.projections():
             for container in projection.containers:
-                yield from container.spans(len(projection.columns))
+                yield from container.spans()
 
     def flaws(self, version):
         """The rules that it breaks, as the catalogue of this version."""

@@ -20,7 +20,7 @@ class Bag:
 
 def column_damages(stored, progress):
     """A Damaged for each column of a container, and for its delete vector, that isn't what it has to be."""
-    for column in stored.columns + [stored.epochs]:
+    for column in stored.with_files:
         try:
             for values in column.blocks():
                 progress.on(len(values))

@@ -101,7 +101,7 @@ class Inserts:
         self.tuples, self.octets, self.sizes, self.rows = [], 0, [], 0
 
     def add(self, row):
-        text = b'(' + b', '.join(map(literal, row)) + b')'
+        text = b'(' + b', '.join(map(schema.literal, row)) + b')'
         if self.octets + len(text) > INSERT_BYTES:
             self.flush()
         self.tuples.append(text)
@@ -130,18 +130,6 @@ class Inserts:
                 # what a script leaves pending is dropped at its end
                 script.say(self.file.read(size), b'COMMIT', loaded=size)
         self.remove()
-
-
-def literal(value):
-    if value is None:
-        return b'NULL'
-    if isinstance(value, bytes):
-        return b"'" + value.replace(b"'", b"''") + b"'"
-    if isinstance(value, bool):
-        return b'TRUE' if value else b'FALSE'
-    if isinstance(value, date):
-        return b"DATE '%s'" % value.isoformat().encode()
-    return b'%d' % value
 
 
 def field(value):

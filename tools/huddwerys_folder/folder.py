@@ -171,22 +171,41 @@ class StoredColumn:
         return None
 
 
+class DefaultColumn:
+    """A column that a container doesn't store: it has its default in each row, and no files."""
+
+    body_file = index_file = None
+
+    def __init__(self, rows, default):
+        self.rows, self.default = rows, default
+
+    def usage(self):
+        return Counter({'default': 0}), Counter({'default': 0})
+
+    def blocks(self):
+        for first in range(0, self.rows, ROWS):
+            yield [self.default] * min(ROWS, self.rows - first)
+
+
 class StoredContainer:
     """A container of a projection: its columns, the epochs of its rows, and its delete vector."""
 
     def __init__(self, folder, table, projection, container):
         self.folder, self.projection, self.container = folder, projection, container
-        self.columns = [
-            StoredColumn(folder, self, place, table.columns[it.place], it.encoding) for place, it in enumerate(projection.columns)
+        stored = [
+            StoredColumn(folder, self, place, table.columns[it.place], it.encoding)
+            for place, it in enumerate(projection.columns[: container.stored])
         ]
-        self.epochs = StoredColumn(folder, self, len(self.columns), EPOCHS, 'AUTO')
+        self.columns = stored + [DefaultColumn(container.rows, it.default) for it in projection.columns[container.stored :]]
+        self.epochs = StoredColumn(folder, self, container.stored, EPOCHS, 'AUTO')
+        self.with_files = stored + [self.epochs]
         self.vector_file = 4 * container.delete_vector
         self.vector_is = f'the delete vector of {projection.name}, container {container.base}'
 
     def files(self):
         """What each of its files is, by its number."""
         files = {}
-        for column in self.columns + [self.epochs]:
+        for column in self.with_files:
             files[column.body_file], files[column.index_file] = column.body_is, column.index_is
         if self.container.delete_vector:
             files[self.vector_file] = self.vector_is

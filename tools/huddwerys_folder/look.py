@@ -190,22 +190,24 @@ class Look:
         print(f"  {counted(rows, 'row')} in {counted(len(stored), 'container')}, {counted(octets, 'byte')}{a_row(octets, rows)}")
         print()
         if stored:
-            self.print_containers(stored)
+            self.print_containers(projection, stored)
             self.print_columns(names, projection, stored, rows)
 
-    def print_containers(self, stored):
-        grid = Grid('container', 'level', 'epochs', 'rows', 'deleted', 'bytes')
+    def print_containers(self, projection, stored):
+        lacks = any(it.container.stored < len(projection.columns) for it in stored)
+        grid = Grid('container', 'level', 'epochs', 'rows', 'deleted', *['columns'] * lacks, 'bytes')
         for it in stored:
             least, greatest = it.container.least_epoch, it.container.greatest_epoch
             epochs = f'{least}' if least == greatest else f'{least} to {greatest}'
             deleted = self.tried(it.deleted)
             deleted = None if deleted is None else len(deleted)
-            grid.add(f'{it.container.base}', it.container.level, epochs, it.container.rows, deleted, self.size(it.files()))
+            columns = [it.container.stored] * lacks
+            grid.add(f'{it.container.base}', it.container.level, epochs, it.container.rows, deleted, *columns, self.size(it.files()))
         grid.print()
 
     def print_columns(self, names, projection, stored, rows):
         grid = Grid('column', 'declared', 'encoding', 'blocks', 'bytes', 'index bytes', 'bytes a row')
-        declared = [it.encoding for it in projection.columns] + ['AUTO']
+        declared = [schema.declared(it) for it in projection.columns] + ['AUTO']
         for place, (name, encoding) in enumerate(zip(names + ['(epochs)'], declared)):
             columns = [[*it.columns, it.epochs][place] for it in stored]
             index, blocks, octets = self.size(it.index_file for it in columns), Counter(), Counter()

@@ -1,4 +1,5 @@
 """The statements of docs/SQL.md that make the tables and projections of a catalogue again, in an order that works over an empty folder."""
+from datetime import date
 
 
 def column_sql(column):
@@ -72,3 +73,21 @@ def free_name(taken):
     name = next(name for name in (f'stand_in_{k}' for k in range(1, len(taken) + 2)) if name not in taken)
     taken.add(name)
     return name
+
+
+def literal(value):
+    """A value as a script writes it."""
+    if value is None:
+        return b'NULL'
+    if isinstance(value, bytes):
+        return b"'" + value.replace(b"'", b"''") + b"'"
+    if isinstance(value, bool):
+        return b'TRUE' if value else b'FALSE'
+    if isinstance(value, date):
+        return b"DATE '%s'" % value.isoformat().encode()
+    return b'%d' % value
+
+
+def declared(column):
+    """The encoding of a projection's column, and its default if it has one."""
+    return column.encoding + (f", default {ascii(literal(column.default).decode())[1:-1]}" if column.has_default else '')

@@ -1,10 +1,10 @@
 //! The body of a catalogue version: all of its bytes.
 
-ghost use Rattle.std.specs.Prelude.{◌≡◌, OnOk, IfOk, IfSome, IfNone, List, ℕ};
+ghost use Rattle.std.specs.Prelude.{◌≡◌, ◌↔◌, IfOk, IfSome, IfNone, List, ℕ};
 ghost use Rattle.catalog_types.specs.declared.catalogue.Catalogue.{Catalogue as Logical};
-ghost use Rattle.catalog_bytes.specs.declared.form.Form.TheVariants.{Two};
+ghost use Rattle.catalog_bytes.specs.declared.form.Form.TheVariants.{One, Two};
 ghost use Rattle.catalog_types.specs.Valid.{IsValid};
-ghost use Rattle.catalog_bytes.specs.Spelling.{spelling, Fits, Spells};
+ghost use Rattle.catalog_bytes.specs.Spelling.{spelling, Fits, Spells, IsOld};
 ghost use Rattle.col_bytes.specs.Parts.{Gives};
 ghost use Rattle.catalog_bytes.specs.Fronts.{behind_name, form_at, catalogue_at, all_of, IfValid};
 
@@ -113,4 +113,10 @@ pub fn from_bytes(alloc: Global, bytes: &[u8]) -> Result<Option<Catalogue>, Allo
 /// Bytes spell at most one catalogue, of whichever version.
 pub fn one_catalogue()
     ensures { (bytes : List ℕ) (c d : Logical) → Spells bytes c → Spells bytes d → c ≡ d }
+{}
+
+/// Of the catalogues that have a spelling of version 2, those have one of version 1 in which no column has a default and each
+/// container stores all columns.
+pub fn which_have_version_one()
+    ensures { (c : Logical) → Fits Two c → (Fits (One 0) c ↔ IsOld c) }
 {}

@@ -11,5 +11,5 @@ mod leaves;
 mod part;
 mod parts;
 
-pub use body::{from_bytes, one_catalogue, to_bytes};
+pub use body::{from_bytes, one_catalogue, to_bytes, which_have_version_one};
 pub use form::Form;

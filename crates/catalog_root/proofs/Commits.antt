@@ -10,8 +10,9 @@ use Rattle.col_disk.specs.Moved.{Changed, NoName, Named}
 use Rattle.col_disk.proofs.Moving.{changed_kept, changed_elsewhere, insert_there, insert_elsewhere}
 use Rattle.catalog_types.specs.declared.catalogue.Catalogue.{Catalogue}
 use Rattle.catalog_types.specs.Valid.{IsValid}
-use Rattle.catalog_bytes.specs.Spelling.{spelling, Fits}
-use Rattle.catalog_root.specs.Root.{data_file, body_file, gate_file, IsOpenGate, IsAbove, IsRoot, OpensAsBefore, NewOrOld}
+use Rattle.catalog_bytes.specs.declared.form.Form.TheVariants.{Two}
+use Rattle.catalog_bytes.specs.Spelling.{spelling, Fits, Spells}
+use Rattle.catalog_root.specs.Root.{data_file, body_file, gate_file, IsOpenGate, HoldsBody, IsAbove, IsWritten, OpensAsBefore, NewOrOld}
 
 -- two contents with the same gates and the same data files, and the same bodies below a version that is above the open gates
 same_opens : (version : ℕ) (m n : Contents) → IsAbove version m
@@ -20,9 +21,8 @@ same_opens : (version : ℕ) (m n : Contents) → IsAbove version m
 same_opens version m n above to back bodies datas = record {
   root = λ v c old. record {
     gate = record { is_open = to v old.gate.is_open; greatest = λ w is. old.gate.greatest w (back w is) };
-    body = bodies v (above v old.gate.is_open) ∙ old.body;
+    body = subst (λ (held : Option (List ℕ)). HoldsBody held c) (sym (bodies v (above v old.gate.is_open))) old.body;
     valid = old.valid;
-    fits = old.fits;
     below = old.below;
   };
   fresh = λ old. record { closed = λ v is. old.closed v (back v is); blank = λ k. datas k ∙ old.blank k };
@@ -58,22 +58,31 @@ is_gate (Some (b ∷ [])) = known (eqb_tells b 86)
     known (inr (test, other)) = inr (λ e. other cc)
 is_gate (Some (b ∷ x ∷ rest)) = inr (λ e. absurd cc)
 
+-- a body that was written is held
+pub held_written : (held : Option (List ℕ)) (c : Catalogue) → Fits Two c → held ≡ Some (spelling Two c) → HoldsBody held c
+held_written held c fits is = subst (λ (h : Option (List ℕ)). HoldsBody h c) (sym is) (Spells.InTwo fits refl)
+
 -- the body is there, of the gates only that of the version may have changed, and it is open
-pub gate_opened : (version : ℕ) (c : Catalogue) (m n : Contents) → IsValid c → Fits c → version < c.next → IsAbove version m
-    → Changed (Named (gate_file version)) NoName (insert m (body_file version) (spelling c)) n → IsOpenGate n version → IsRoot n version c
+pub gate_opened : (version : ℕ) (c : Catalogue) (m n : Contents) → IsValid c → Fits Two c → version < c.next → IsAbove version m
+    → Changed (Named (gate_file version)) NoName (insert m (body_file version) (spelling Two c)) n → IsOpenGate n version → IsWritten n version c
 gate_opened version c m n valid fits below above changed is = record {
-  gate = record { is_open = is; greatest = λ w it. at_most w (eqb_tells w version) it };
-  body = kept (body_file version) (λ e. omega (arith, e)) ∙ insert_there m (body_file version) (spelling c);
-  valid = valid;
-  fits = fits;
-  below = below;
+  root = record {
+    gate = record { is_open = is; greatest = λ w it. at_most w (eqb_tells w version) it };
+    body = held_written (get n (body_file version)) c fits there;
+    valid = valid;
+    below = below;
+  };
+  body = there;
 }
   where
-    kept : (q : ℕ) → (q ≡ gate_file version → ⊥) → get n q ≡ get (insert m (body_file version) (spelling c)) q
-    kept q apart = changed_kept (Named (gate_file version)) NoName (insert m (body_file version) (spelling c)) n q apart (λ is. is) changed
+    kept : (q : ℕ) → (q ≡ gate_file version → ⊥) → get n q ≡ get (insert m (body_file version) (spelling Two c)) q
+    kept q apart = changed_kept (Named (gate_file version)) NoName (insert m (body_file version) (spelling Two c)) n q apart (λ is. is) changed
+
+    there : get n (body_file version) ≡ Some (spelling Two c)
+    there = kept (body_file version) (λ e. omega (arith, e)) ∙ insert_there m (body_file version) (spelling Two c)
 
     gate : (w : ℕ) → (w ≡ version → ⊥) → get n (gate_file w) ≡ get m (gate_file w)
-    gate w apart = kept (gate_file w) (λ e. apart (omega (arith, e))) ∙ insert_elsewhere m (body_file version) (spelling c) (gate_file w) (λ e. omega (arith, e))
+    gate w apart = kept (gate_file w) (λ e. apart (omega (arith, e))) ∙ insert_elsewhere m (body_file version) (spelling Two c) (gate_file w) (λ e. omega (arith, e))
 
     at_most : (w : ℕ) → ((eqb w version ≡ true) × (w ≡ version)) ⊎ ((eqb w version ≡ false) × (w ≡ version → ⊥)) → IsOpenGate n w → w ≤ version
     at_most w (inl (test, same)) it = omega (arith, same)
@@ -81,13 +90,13 @@ gate_opened version c m n valid fits below above changed is = record {
 
 -- the same, and it is closed
 gate_closed : (version : ℕ) (c : Catalogue) (m n : Contents) → IsAbove version m
-    → Changed (Named (gate_file version)) NoName (insert m (body_file version) (spelling c)) n → (IsOpenGate n version → ⊥) → OpensAsBefore m n
+    → Changed (Named (gate_file version)) NoName (insert m (body_file version) (spelling Two c)) n → (IsOpenGate n version → ⊥) → OpensAsBefore m n
 gate_closed version c m n above changed closed = same_opens version m n above
     (λ w is. gate w (λ e. omega (arith, e, above w is)) ∙ is) (λ w is. not_this w (eqb_tells w version) is)
     (λ w lt. before (body_file w) (λ e. omega (arith, e)) (λ e. omega (arith, e, lt))) (λ k. before (data_file k) (λ e. omega (arith, e)) (λ e. omega (arith, e)))
   where
     before : (q : ℕ) → (q ≡ gate_file version → ⊥) → (q ≡ body_file version → ⊥) → get n q ≡ get m q
-    before q apart other = changed_kept (Named (gate_file version)) NoName (insert m (body_file version) (spelling c)) n q apart (λ is. is) changed ∙ insert_elsewhere m (body_file version) (spelling c) q other
+    before q apart other = changed_kept (Named (gate_file version)) NoName (insert m (body_file version) (spelling Two c)) n q apart (λ is. is) changed ∙ insert_elsewhere m (body_file version) (spelling Two c) q other
 
     gate : (w : ℕ) → (w ≡ version → ⊥) → get n (gate_file w) ≡ get m (gate_file w)
     gate w apart = before (gate_file w) (λ e. apart (omega (arith, e))) (λ e. omega (arith, e))
@@ -97,8 +106,8 @@ gate_closed version c m n above changed closed = same_opens version m n above
     not_this w (inr (test, other)) it = sym (gate w other) ∙ it
 
 -- the same, open or not
-pub gate_torn : (version : ℕ) (c : Catalogue) (m n : Contents) → IsValid c → Fits c → version < c.next → IsAbove version m
-    → Changed (Named (gate_file version)) NoName (insert m (body_file version) (spelling c)) n → NewOrOld version c m n
+pub gate_torn : (version : ℕ) (c : Catalogue) (m n : Contents) → IsValid c → Fits Two c → version < c.next → IsAbove version m
+    → Changed (Named (gate_file version)) NoName (insert m (body_file version) (spelling Two c)) n → NewOrOld version c m n
 gate_torn version c m n valid fits below above changed = known (is_gate (get n (gate_file version)))
   where
     known : IsOpenGate n version ⊎ (IsOpenGate n version → ⊥) → NewOrOld version c m n
@@ -115,9 +124,9 @@ pub after_put : (old new : Option Contents) (m : Contents) (name file : ℕ) (by
 after_put old new m name file bytes held told is same put = put ∙ ap (option_map (λ (x : Contents). insert x name bytes)) told ∙ ap₂ (λ (q : ℕ) (b : List ℕ). Some (insert m q b)) is same
 
 -- the body was put, and then the gate
-pub both_put : (version : ℕ) (c : Catalogue) (m : Contents) → IsValid c → Fits c → version < c.next → IsAbove version m
-    → IsRoot (insert (insert m (body_file version) (spelling c)) (gate_file version) (86 ∷ [])) version c
+pub both_put : (version : ℕ) (c : Catalogue) (m : Contents) → IsValid c → Fits Two c → version < c.next → IsAbove version m
+    → IsWritten (insert (insert m (body_file version) (spelling Two c)) (gate_file version) (86 ∷ [])) version c
 both_put version c m valid fits below above =
     gate_opened version c m _ valid fits below above
-    (changed_elsewhere (Named (gate_file version)) NoName (gate_file version) _ _ refl (insert_elsewhere (insert m (body_file version) (spelling c)) (gate_file version) (86 ∷ [])))
-    (insert_there (insert m (body_file version) (spelling c)) (gate_file version) (86 ∷ []))
+    (changed_elsewhere (Named (gate_file version)) NoName (gate_file version) _ _ refl (insert_elsewhere (insert m (body_file version) (spelling Two c)) (gate_file version) (86 ∷ [])))
+    (insert_there (insert m (body_file version) (spelling Two c)) (gate_file version) (86 ∷ []))

@@ -12,6 +12,7 @@ use Rattle.col_disk.specs.Crashes.{Laws, NoneCame, Settles, StepLeaves}
 use Rattle.col_disk.proofs.Moving.{leaves_moved, leaves_join, changed_wider, changed_join, changed_elsewhere, insert_elsewhere}
 use Rattle.catalog_types.specs.declared.catalogue.Catalogue.{Catalogue}
 use Rattle.catalog_types.specs.Valid.{IsValid}
+use Rattle.catalog_bytes.specs.declared.form.Form.TheVariants.{Two}
 use Rattle.catalog_bytes.specs.Spelling.{spelling, Fits}
 use Rattle.catalog_root.specs.declared.found.Found.{Found}
 use Rattle.catalog_root.specs.declared.found.Found.TheVariants.{Fresh, Root}
@@ -43,17 +44,17 @@ body_left was version told image m rooted c (d, is, changed) = record {
 }
 
 -- the body is there, and the gate alone was touched since: each image opens as before or to the new version
-gate_left : (was : Found) (version : ℕ) (catalogue : Catalogue) (image : Contents → Type 0) (m : Contents) → IsValid catalogue → Fits catalogue → version < catalogue.next → IsLater was version → image m → Opens m was
-    → (c : Contents) → Changed (Named (gate_file version)) NoName (insert m (body_file version) (spelling catalogue)) c → OldOrNew was version catalogue image m c
+gate_left : (was : Found) (version : ℕ) (catalogue : Catalogue) (image : Contents → Type 0) (m : Contents) → IsValid catalogue → Fits Two catalogue → version < catalogue.next → IsLater was version → image m → Opens m was
+    → (c : Contents) → Changed (Named (gate_file version)) NoName (insert m (body_file version) (spelling Two catalogue)) c → OldOrNew was version catalogue image m c
 gate_left was version catalogue image m valid fits below later is opens c changed = known (gate_torn version catalogue m c valid fits below (above was version m later opens) changed)
   where
     whole : Changed (RootNames version) NoName m c
-    whole = changed_join (RootNames version) NoName m (insert m (body_file version) (spelling catalogue)) c
-        (changed_elsewhere (RootNames version) NoName (body_file version) m (insert m (body_file version) (spelling catalogue)) (inl refl) (insert_elsewhere m (body_file version) (spelling catalogue)))
-        (changed_wider (Named (gate_file version)) NoName (RootNames version) NoName (insert m (body_file version) (spelling catalogue)) c (gate_in_root version) (λ q r. r) changed)
+    whole = changed_join (RootNames version) NoName m (insert m (body_file version) (spelling Two catalogue)) c
+        (changed_elsewhere (RootNames version) NoName (body_file version) m (insert m (body_file version) (spelling Two catalogue)) (inl refl) (insert_elsewhere m (body_file version) (spelling Two catalogue)))
+        (changed_wider (Named (gate_file version)) NoName (RootNames version) NoName (insert m (body_file version) (spelling Two catalogue)) c (gate_in_root version) (λ q r. r) changed)
 
     known : NewOrOld version catalogue m c → OldOrNew was version catalogue image m c
-    known (inl root) = inr (record { root = root; like = whole })
+    known (inl written) = inr (record { written = written; like = whole })
     known (inr same) = inl (record { opens = as_before was m c same opens; like = (m, is, whole) })
 
 module _ {D : Type 0} (disk : Ghosts D) (was : Found) (version : ℕ) (catalogue : Catalogue) (m : Contents) where
@@ -63,9 +64,9 @@ module _ {D : Type 0} (disk : Ghosts D) (was : Found) (version : ℕ) (catalogue
   left_at_body {old} {mid} rooted moved = leaves_moved disk (λ c like. inl (body_left was version (disk.holds old) (disk.since old (disk.clock old)) m rooted c like)) moved
 
   -- the body was put, and then the gate was touched
-  pub left_at_gate : {old mid new : D} → Laws disk.holds disk.since disk.clock → IsValid catalogue → Fits catalogue → version < catalogue.next
+  pub left_at_gate : {old mid new : D} → Laws disk.holds disk.since disk.clock → IsValid catalogue → Fits Two catalogue → version < catalogue.next
       → IsRooted (disk.holds old) (disk.since old (disk.clock old)) was version m → Moved disk (Named (body_file version)) NoName old mid
-      → ((c : Contents) → disk.since mid (disk.clock mid) c → c ≡ insert m (body_file version) (spelling catalogue)) → Moved disk (Named (gate_file version)) NoName mid new
+      → ((c : Contents) → disk.since mid (disk.clock mid) c → c ≡ insert m (body_file version) (spelling Two catalogue)) → Moved disk (Named (gate_file version)) NoName mid new
       → Leaves disk (OldOrNew was version catalogue (disk.since old (disk.clock old)) m) old new
   left_at_gate {old} {mid} {new} laws valid fits below rooted first only second =
       let shown : disk.since old (disk.clock old) m = laws.shows old m rooted.told_is in
@@ -101,33 +102,33 @@ not_written step before image Memory leaves is = leaves
 
 module _ {D : Type 0} (disk : Ghosts D) (was : Found) (version : ℕ) (catalogue : Catalogue) (m : Contents) (old mid new : D)
     (rooted : IsRooted (disk.holds old) (disk.since old (disk.clock old)) was version m) where
-  pub replaced : (result : Result (Unit {0}) DiskFault) → IsValid catalogue → Fits catalogue → version < catalogue.next → Laws disk.holds disk.since disk.clock
-      → disk.holds mid ≡ Some (insert m (body_file version) (spelling catalogue))
+  pub replaced : (result : Result (Unit {0}) DiskFault) → IsValid catalogue → Fits Two catalogue → version < catalogue.next → Laws disk.holds disk.since disk.clock
+      → disk.holds mid ≡ Some (insert m (body_file version) (spelling Two catalogue))
       → OnOk result (disk.holds new ≡ option_map (λ (x : Contents). insert x (gate_file version) (86 ∷ [])) (disk.holds mid))
       → OnOk result ((x : Contents) → disk.holds mid ≡ Some x → (c : Contents) → disk.since new (disk.clock new) c → c ≡ insert x (gate_file version) (86 ∷ []))
       → OnOk result (IsReplaced (disk.holds new) (disk.since new (disk.clock new)) version catalogue m)
   replaced (Err fault) valid fits below laws told done only = tt
   replaced (Ok u) valid fits below laws told done only = record {
-    now = insert (insert m (body_file version) (spelling catalogue)) (gate_file version) (86 ∷ []);
+    now = insert (insert m (body_file version) (spelling Two catalogue)) (gate_file version) (86 ∷ []);
     told_is = done ∙ ap (option_map (λ (x : Contents). insert x (gate_file version) (86 ∷ []))) told;
-    only = only (insert m (body_file version) (spelling catalogue)) told;
+    only = only (insert m (body_file version) (spelling Two catalogue)) told;
     new = record {
-      root = both_put version catalogue m valid fits below (above was version m rooted.later (rooted.opens m (laws.shows old m rooted.told_is)));
-      like = changed_join (RootNames version) NoName m (insert m (body_file version) (spelling catalogue)) _
-          (changed_elsewhere (RootNames version) NoName (body_file version) m (insert m (body_file version) (spelling catalogue)) (inl refl) (insert_elsewhere m (body_file version) (spelling catalogue)))
-          (changed_elsewhere (RootNames version) NoName (gate_file version) (insert m (body_file version) (spelling catalogue)) _ (inr refl) (insert_elsewhere (insert m (body_file version) (spelling catalogue)) (gate_file version) (86 ∷ [])));
+      written = both_put version catalogue m valid fits below (above was version m rooted.later (rooted.opens m (laws.shows old m rooted.told_is)));
+      like = changed_join (RootNames version) NoName m (insert m (body_file version) (spelling Two catalogue)) _
+          (changed_elsewhere (RootNames version) NoName (body_file version) m (insert m (body_file version) (spelling Two catalogue)) (inl refl) (insert_elsewhere m (body_file version) (spelling Two catalogue)))
+          (changed_elsewhere (RootNames version) NoName (gate_file version) (insert m (body_file version) (spelling Two catalogue)) _ (inr refl) (insert_elsewhere (insert m (body_file version) (spelling Two catalogue)) (gate_file version) (86 ∷ [])));
     };
   }
 
   -- want of memory at the gate: each image has the body, and opens as before
-  pub still_old : Laws disk.holds disk.since disk.clock → ((c : Contents) → disk.since mid (disk.clock mid) c → c ≡ insert m (body_file version) (spelling catalogue))
+  pub still_old : Laws disk.holds disk.since disk.clock → ((c : Contents) → disk.since mid (disk.clock mid) c → c ≡ insert m (body_file version) (spelling Two catalogue))
       → NoneCame (disk.since mid (disk.clock mid)) (disk.since new (disk.clock new)) → (x : Contents) → disk.since new (disk.clock new) x → IsOld was version (disk.since old (disk.clock old)) x
   still_old laws only none x is =
       body_left was version (disk.holds old) (disk.since old (disk.clock old)) m rooted x (
         m,
         laws.shows old m rooted.told_is,
         subst (λ (c : Contents). Changed (Named (body_file version)) NoName m c) (sym (only x (none x is)))
-            (changed_elsewhere (Named (body_file version)) NoName (body_file version) m (insert m (body_file version) (spelling catalogue)) refl (insert_elsewhere m (body_file version) (spelling catalogue))),
+            (changed_elsewhere (Named (body_file version)) NoName (body_file version) m (insert m (body_file version) (spelling Two catalogue)) refl (insert_elsewhere m (body_file version) (spelling Two catalogue))),
       )
 
 -- nothing came: each image is one from before

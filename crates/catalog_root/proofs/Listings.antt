@@ -92,4 +92,4 @@ pub listed : (c : Catalogue) (n : ℕ) → n < 2 ^ 62 → Contains (listed_numbe
 listed c n small =
     of_parts n table_numbers table_spans (λ t.
     of_parts n projection_numbers projection_spans (λ p.
-    of_parts n (container_numbers (length p.columns)) (container_spans (length p.columns)) (λ k. in_spans n small (container_spans (length p.columns) k)) p.containers) t.projections) c.tables
+    of_parts n container_numbers container_spans (λ k. in_spans n small (container_spans k)) p.containers) t.projections) c.tables

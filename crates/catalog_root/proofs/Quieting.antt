@@ -93,7 +93,7 @@ quiet_replaced told image version c m replaced = (
   replaced.now,
   record {
     told_is = replaced.told_is;
-    every = λ x is. let same = replaced.only x is in record { opens = subst (λ (y : Contents). IsRoot y version c) (sym same) replaced.new.root; same = λ k listed. ap (λ (y : Contents). get y (data_file k)) same };
+    every = λ x is. let same = replaced.only x is in record { opens = subst (λ (y : Contents). IsRoot y version c) (sym same) replaced.new.written.root; same = λ k listed. ap (λ (y : Contents). get y (data_file k)) same };
   },
   replaced.new,
 )

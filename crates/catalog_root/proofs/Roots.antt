@@ -1,17 +1,13 @@
 -- The laws of which catalogue a disk opens to.
-use Rattle.std.proofs.Common.{◌≡◌, ℕ, ◌<◌, List, [], ◌∷◌, sym, ◌∙◌, ap, inl, inr, arith}
+use Rattle.std.proofs.Common.{◌≡◌, ℕ, ◌<◌, List, [], ◌∷◌, sym, ◌∙◌, subst, inl, inr, arith}
 use Rattle.std.specs.Prelude.{◌⊎◌, Option, Some, None}
 use Rattle.std.specs.FinMap.{get}
 use Rattle.common_laws.specs.Maps.{Contents}
 use Rattle.col_disk.specs.Moved.{Changed}
 use Rattle.col_disk.proofs.Moving.{changed_kept}
 use Rattle.catalog_types.specs.declared.catalogue.Catalogue.{Catalogue}
-use Rattle.catalog_bytes.specs.Spelling.{spelling}
-use Rattle.catalog_bytes.proofs.Whole.{same}
-use Rattle.catalog_root.specs.Root.{data_file, body_file, gate_file, IsOpenGate, IsAbove, IsGreatestGate, IsRoot, IsFresh}
-
-some_same : {X : Type 0} (x y : X) → ◌≡◌ {A = Option X} (Some x) (Some y) → x ≡ y
-some_same x y e = cc
+use Rattle.catalog_root.specs.Root.{data_file, body_file, gate_file, HoldsBody, IsOpenGate, IsAbove, IsGreatestGate, IsRoot, IsFresh}
+use Rattle.catalog_root.proofs.Bodies.{one_held}
 
 -- a disk opens to one version and one catalogue
 pub one_gate : (m : Contents) (v w : ℕ) → IsGreatestGate m v → IsGreatestGate m w → v ≡ w
@@ -20,8 +16,7 @@ one_gate m v w first second = omega (arith, first.greatest w second.is_open, sec
 pub one_root : (m : Contents) (v w : ℕ) (c d : Catalogue) → IsRoot m v c → IsRoot m w d → (v ≡ w) × (c ≡ d)
 one_root m v w c d first second =
     let is : v ≡ w = one_gate m v w first.gate second.gate in
-    let bodies : ◌≡◌ {A = Option (List ℕ)} (Some (spelling c)) (Some (spelling d)) = sym first.body ∙ ap (λ (x : ℕ). get m (body_file x)) is ∙ second.body in
-    (is, same c d first.fits second.fits (some_same (spelling c) (spelling d) bodies))
+    (is, one_held (get m (body_file w)) c d (subst (λ (x : ℕ). HoldsBody (get m (body_file x)) c) is first.body) second.body)
 
 -- and it isn't fresh
 pub not_fresh : (m : Contents) (v : ℕ) (c : Catalogue) → IsRoot m v c → IsFresh m → ⊥
@@ -43,9 +38,8 @@ root_kept W R m n v c changed no_gate no_body gate_stays body_stays root = recor
     is_open = changed_kept W R m n (gate_file v) (no_gate v) gate_stays changed ∙ root.gate.is_open;
     greatest = λ w is. root.gate.greatest w (gate_before W R m n w (no_gate w) changed is);
   };
-  body = changed_kept W R m n (body_file v) no_body body_stays changed ∙ root.body;
+  body = subst (λ (held : Option (List ℕ)). HoldsBody held c) (sym (changed_kept W R m n (body_file v) no_body body_stays changed)) root.body;
   valid = root.valid;
-  fits = root.fits;
   below = root.below;
 }
 

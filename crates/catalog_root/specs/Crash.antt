@@ -5,7 +5,7 @@ use Rattle.col_disk.specs.Moved.{Changed, NoName, Named, Either, LikeOne}
 use Rattle.catalog_types.specs.declared.catalogue.Catalogue.{Catalogue}
 use Rattle.catalog_root.specs.declared.found.Found.{Found}
 use Rattle.catalog_root.specs.declared.found.Found.TheVariants.{Fresh, Root}
-use Rattle.catalog_root.specs.Root.{body_file, gate_file, IsRoot, Opens}
+use Rattle.catalog_root.specs.Root.{body_file, gate_file, IsRoot, IsWritten, Opens}
 
 -- the body and the gate of a version
 abbrev pub RootNames : ℕ → ℕ → Type 0
@@ -27,9 +27,9 @@ pub record IsOld (was : Found) (version : ℕ) (before : Contents → Type 0) (c
   pub opens : Opens c was
   pub like : LikeOne (RootNames version) NoName before c
 
--- the image opens to the new version, and but for the body and the gate it is what the disk held before
+-- the image opens to the new version, written, and but for the body and the gate it is what the disk held before
 pub record IsNew (version : ℕ) (catalogue : Catalogue) (m c : Contents) : Type 0 where
-  pub root : IsRoot c version catalogue
+  pub written : IsWritten c version catalogue
   pub like : Changed (RootNames version) NoName m c
 
 abbrev pub OldOrNew : Found → ℕ → Catalogue → (Contents → Type 0) → Contents → Contents → Type 0

@@ -1,5 +1,5 @@
 -- Which files a catalogue has no use for.
-use Rattle.std.specs.Prelude.{◌≡◌, ◌≢◌, ◌⊎◌, ◌<◌, ◌≤◌, ◌-◌, ◌^◌, ℕ, List, length, min, Contains}
+use Rattle.std.specs.Prelude.{◌≡◌, ◌≢◌, ◌⊎◌, ◌<◌, ◌≤◌, ◌-◌, ◌^◌, ℕ, List, min, Contains}
 use Rattle.std.specs.List.{Any, flat_map, range_with_len}
 use Rattle.catalog_types.specs.declared.span.Span.{Span}
 use Rattle.catalog_types.specs.declared.catalogue.Container.{Container}
@@ -38,11 +38,11 @@ IsUnlisted version c q = HasNoUse version (IsListed c) q
 abbrev pub numbers_of : Span → List ℕ
 numbers_of s = range_with_len s.first (min s.end (2 ^ 64 - 1) - s.first)
 
-abbrev pub container_numbers : ℕ → Container → List ℕ
-container_numbers columns k = flat_map numbers_of (container_spans columns k)
+abbrev pub container_numbers : Container → List ℕ
+container_numbers k = flat_map numbers_of (container_spans k)
 
 abbrev pub projection_numbers : Projection → List ℕ
-projection_numbers p = flat_map (container_numbers (length p.columns)) p.containers
+projection_numbers p = flat_map container_numbers p.containers
 
 abbrev pub table_numbers : Table → List ℕ
 table_numbers t = flat_map projection_numbers t.projections

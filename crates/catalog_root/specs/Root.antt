@@ -1,12 +1,13 @@
 -- Which catalogue a disk opens to.
-use Rattle.std.specs.Prelude.{◌≡◌, ◌⊎◌, ◌<◌, ◌≤◌, ◌+◌, ◌*◌, ℕ, List, [], ◌∷◌, Option, Some, None, IsSome}
+use Rattle.std.specs.Prelude.{◌≡◌, ◌⊎◌, ◌<◌, ◌≤◌, ◌+◌, ◌*◌, ℕ, List, [], ◌∷◌, Option, Some, None, IsSome, IsSomeAnd}
 use Rattle.std.specs.FinMap.{get}
 use Rattle.common_laws.specs.Maps.{Contents}
 use Rattle.col_disk.specs.declared.disk.StoreFault.{StoreFault}
 use Rattle.col_disk.specs.declared.disk.StoreFault.TheVariants.{Disk, Damaged, Memory}
 use Rattle.catalog_types.specs.declared.catalogue.Catalogue.{Catalogue}
 use Rattle.catalog_types.specs.Valid.{IsValid}
-use Rattle.catalog_bytes.specs.Spelling.{spelling, Fits}
+use Rattle.catalog_bytes.specs.declared.form.Form.TheVariants.{Two}
+use Rattle.catalog_bytes.specs.Spelling.{spelling, Spells}
 use Rattle.catalog_root.specs.declared.found.Found.{Found}
 use Rattle.catalog_root.specs.declared.found.Found.TheVariants.{Fresh, Root}
 
@@ -40,13 +41,21 @@ IsGreatestOf m (Some v) = IsGreatestGate m v
 abbrev pub NamesOpenGate : Contents → ℕ → Type 0
 NamesOpenGate m name = (v : ℕ) × (name ≡ gate_file v) × IsOpenGate m v
 
+-- a body is there, and its bytes spell this catalogue, in either version of the format
+abbrev pub HoldsBody : Option (List ℕ) → Catalogue → Type 0
+HoldsBody held c = IsSomeAnd held (λ bytes. Spells bytes c)
+
 -- the disk opens to this version, and its body is this catalogue
 pub record IsRoot (m : Contents) (v : ℕ) (c : Catalogue) : Type 0 where
   pub gate : IsGreatestGate m v
-  pub body : get m (body_file v) ≡ Some (spelling c)
+  pub body : HoldsBody (get m (body_file v)) c
   pub valid : IsValid c
-  pub fits : Fits c
   pub below : v < c.next
+
+-- the same, and its body is written in version 2 of the format
+pub record IsWritten (m : Contents) (v : ℕ) (c : Catalogue) : Type 0 where
+  pub root : IsRoot m v c
+  pub body : get m (body_file v) ≡ Some (spelling Two c)
 
 -- nothing was ever stored: no gate is open, and no data file is there
 pub record IsFresh (m : Contents) : Type 0 where
@@ -62,9 +71,9 @@ pub record OpensAsBefore (old new : Contents) : Type 0 where
   pub root : (v : ℕ) (c : Catalogue) → IsRoot old v c → IsRoot new v c
   pub fresh : IsFresh old → IsFresh new
 
--- what a commit leaves, whatever it answers: the disk opens to the new version, or as before
+-- what a commit leaves, whatever it answers: the disk opens to the new version, written, or as before
 abbrev pub NewOrOld : ℕ → Catalogue → Contents → Contents → Type 0
-NewOrOld version c old new = IsRoot new version c ⊎ OpensAsBefore old new
+NewOrOld version c old new = IsWritten new version c ⊎ OpensAsBefore old new
 
 -- what an opening found
 abbrev pub Opens : Contents → Found → Type 0
@@ -74,12 +83,11 @@ Opens m (Root v c) = IsRoot m v c
 -- a body of a version: a valid catalogue, of which the version is a number that was drawn
 pub record IsBody (v : ℕ) (c : Catalogue) : Type 0 where
   pub valid : IsValid c
-  pub fits : Fits c
   pub below : v < c.next
 
 -- the body of a version is absent, or spells none
 abbrev pub HasNoBody : Option (List ℕ) → ℕ → Type 0
-HasNoBody held v = (c : Catalogue) → IsBody v c → held ≡ Some (spelling c) → ⊥
+HasNoBody held v = (c : Catalogue) → IsBody v c → HoldsBody held c → ⊥
 
 -- what an opening gives on any disk
 abbrev pub IsUsable : Found → Type 0

@@ -11,7 +11,7 @@ ghost use Rattle.col_disk.specs.declared.disk.DiskFault.TheVariants.{Memory as n
 ghost use Rattle.catalog_root.specs.declared.found.Found.{Found};
 ghost use Rattle.catalog_root.specs.Crash.{IsRooted, OldOrNew, IsOld, IsReplaced};
 ghost use Rattle.catalog_types.specs.Valid.{IsValid};
-ghost use Rattle.catalog_root.specs.Root.{body_file, gate_file, IsAbove, IsRoot, NewOrOld};
+ghost use Rattle.catalog_root.specs.Root.{body_file, gate_file, IsAbove, IsWritten, NewOrOld};
 
 use crate::names::{OPEN, body_of, gate_of};
 use catalog_bytes::to_bytes;
@@ -44,7 +44,7 @@ pub fn commit<D: Disk>(
 ) -> Result<(), DiskFault>
     requires valid { IsValid c.now }
     requires below { version < c.now.next }
-    ensures done { OnOk result ((m : Contents) → D.holds disk.old ≡ Some m → IsAbove version m → (n : Contents) × (D.holds disk.new ≡ Some n) × IsRoot n version c.now) }
+    ensures done { OnOk result ((m : Contents) → D.holds disk.old ≡ Some m → IsAbove version m → (n : Contents) × (D.holds disk.new ≡ Some n) × IsWritten n version c.now) }
     ensures either { (m : Contents) → D.holds disk.old ≡ Some m → IsAbove version m → (n : Contents) × (D.holds disk.new ≡ Some n) × NewOrOld version c.now m n }
     ensures any_moment { (was : Found) (m : Contents) → IsRooted (D.holds disk.old) (ImageOf ⟦<D as Disk>⟧ disk.old) was version m → Leaves ⟦<D as Disk>⟧ (OldOrNew was version c.now (ImageOf ⟦<D as Disk>⟧ disk.old) m) disk.old disk.new }
     ensures replaced { (was : Found) (m : Contents) → IsRooted (D.holds disk.old) (ImageOf ⟦<D as Disk>⟧ disk.old) was version m → OnOk result (IsReplaced (D.holds disk.new) (ImageOf ⟦<D as Disk>⟧ disk.new) version c.now m) }

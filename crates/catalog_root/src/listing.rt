@@ -19,10 +19,10 @@ fn put_span(out: &mut Vec<u64>, first: u64, end: u64) -> Result<(), AllocError>
     Ok(())
 }
 
-fn put_files(out: &mut Vec<u64>, columns: usize, k: &Container) -> Result<(), AllocError>
-    ensures { OnOk result (out.new.items ≡ out.old.items ++ numbers_of (files columns k.now)) }
+fn put_files(out: &mut Vec<u64>, k: &Container) -> Result<(), AllocError>
+    ensures { OnOk result (out.new.items ≡ out.old.items ++ numbers_of (files k.now)) }
 {
-    let count = (columns as u64).saturating_add(1).saturating_mul(2);
+    let count = k.stored.saturating_add(1).saturating_mul(2);
     put_span(out, k.base, k.base.saturating_add(count))
 }
 
@@ -35,19 +35,18 @@ fn put_mark(out: &mut Vec<u64>, marks: Option<u64>) -> Result<(), AllocError>
     }
 }
 
-fn put_container(out: &mut Vec<u64>, columns: usize, k: &Container) -> Result<(), AllocError>
-    ensures { OnOk result (out.new.items ≡ out.old.items ++ container_numbers columns k.now) }
+fn put_container(out: &mut Vec<u64>, k: &Container) -> Result<(), AllocError>
+    ensures { OnOk result (out.new.items ≡ out.old.items ++ container_numbers k.now) }
 {
-    put_files(out, columns, k)?;
+    put_files(out, k)?;
     put_mark(out, k.marks)
 }
 
 fn put_projection(out: &mut Vec<u64>, p: &Projection) -> Result<(), AllocError>
     ensures { OnOk result (out.new.items ≡ out.old.items ++ projection_numbers p.now) }
 {
-    let columns = p.columns.as_slice().len();
     for k in p.containers.as_slice() {
-        put_container(out, columns, k)?;
+        put_container(out, k)?;
     }
     Ok(())
 }

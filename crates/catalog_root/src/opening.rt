@@ -7,8 +7,8 @@ ghost use Rattle.common_laws.specs.Maps.{Contents};
 ghost use Rattle.col_disk.specs.Calls.{ListsNames};
 ghost use Rattle.col_disk.specs.Faults.{store_fault};
 ghost use Rattle.col_disk.specs.Moved.{Moved, Looks, ImageOf, NoName};
-ghost use Rattle.catalog_bytes.specs.Spelling.{spelling};
-ghost use Rattle.catalog_root.specs.Root.{data_file, body_file, IsLeastData, IsBody, Opens, IsUsable, BlamesHeld, BlamesBody, BlamesRoot};
+ghost use Rattle.catalog_bytes.specs.Spelling.{Spells};
+ghost use Rattle.catalog_root.specs.Root.{data_file, body_file, IsLeastData, IsBody, HoldsBody, Opens, IsUsable, BlamesHeld, BlamesBody, BlamesRoot};
 
 use crate::found::Found;
 use crate::gates::greatest_gate;
@@ -34,7 +34,7 @@ fn first_data(names: &[u64]) -> Option<u64>
 /// The catalogue that the bytes of a version's body spell.
 fn catalogue_in(alloc: Global, bytes: &[u8], version: u64) -> Result<Catalogue, StoreFault>
     requires { version < 2 ^ 62 }
-    ensures found { IfOk result (λ c. IsBody version c × (bytes.now ≡ spelling c)) }
+    ensures found { IfOk result (λ c. IsBody version c × Spells bytes.now c) }
     ensures blamed { IfErr result (BlamesHeld version (Some bytes.now)) }
     ensures no_cause { result ≢ Err StoreFault.Disk }
 {
@@ -61,7 +61,7 @@ fn fault_of(fault: DiskFault) -> StoreFault
 fn catalogue_at<D: Disk>(alloc: Global, disk: &mut D, version: u64) -> Result<Catalogue, StoreFault>
     requires { version < 2 ^ 62 }
     ensures body { IfOk result (IsBody version) }
-    ensures found { IfOk result (λ c. (m : Contents) → D.holds disk.old ≡ Some m → get m (body_file version) ≡ Some (spelling c)) }
+    ensures found { IfOk result (λ c. (m : Contents) → D.holds disk.old ≡ Some m → HoldsBody (get m (body_file version)) c) }
     ensures blamed { IfErr result (BlamesBody version (D.holds disk.old)) }
     ensures kept { D.holds disk.new ≡ D.holds disk.old }
     ensures looks { Looks ⟦<D as Disk>⟧ disk.old disk.new }

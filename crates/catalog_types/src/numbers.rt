@@ -1,6 +1,6 @@
 //! The numbers of a store's files: that none stands twice, and how many there are.
 
-ghost use Rattle.std.specs.Prelude.{◌≡◌, ◌↔◌, ◌+◌, ◌-◌, ◌^◌, length, IsTrue, IfSome, MatchOption, min, ◌++◌, sum_by};
+ghost use Rattle.std.specs.Prelude.{◌≡◌, ◌↔◌, ◌+◌, ◌-◌, ◌^◌, IsTrue, IfSome, MatchOption, min, ◌++◌, sum_by};
 ghost use Rattle.std.specs.List.{All, flat_map};
 ghost use Rattle.catalog_types.specs.Lists.{Pairwise, Ahead};
 ghost use Rattle.catalog_types.specs.Numbers.{files, span_of, IsClear, container_spans, projection_spans, table_spans, AreApart, HasNumbersOnce, container_count, number_count, store_count};

@@ -71,13 +71,13 @@ mark_below : (next : ℕ) (o : Option ℕ) → IfSome o (λ m. (1 ≤ m) × (m <
 mark_below next None is = All-nil (λ s. s.end ≤ next)
 mark_below next (Some n) (some, lt) = All-cons (λ s. s.end ≤ next) (span_of n) [] (omega (arith, lt)) (All-nil (λ s. s.end ≤ next))
 
-container_below : (next columns lge : ℕ) (k : Container) → IsContainer next columns lge k → All (λ s. s.end ≤ next) (container_spans columns k)
-container_below next columns lge k is = All-cons (λ s. s.end ≤ next) (files columns k) (mark k.marks) is.files.1 (mark_below next k.marks is.vector)
+container_below : (next columns lge : ℕ) (k : Container) → IsContainer next columns lge k → All (λ s. s.end ≤ next) (container_spans k)
+container_below next columns lge k is = All-cons (λ s. s.end ≤ next) (files k) (mark k.marks) is.files.1 (mark_below next k.marks is.vector)
 
 entry_below : (c : Catalogue) (t : kept.Table) (p : Projection) → IsProjection c t p → All (λ s. s.end ≤ c.next) (projection_spans p)
 entry_below c t p is =
-    (all_flat (λ s. s.end ≤ c.next) (container_spans (length p.columns)) p.containers).1
-    (All-weaker (IsContainer c.next (length p.columns) p.lge) (λ k. All (λ s. s.end ≤ c.next) (container_spans (length p.columns) k))
+    (all_flat (λ s. s.end ≤ c.next) container_spans p.containers).1
+    (All-weaker (IsContainer c.next (length p.columns) p.lge) (λ k. All (λ s. s.end ≤ c.next) (container_spans k))
     (λ k h. container_below c.next (length p.columns) p.lge k h) p.containers is.containers)
 
 table_below : (c : Catalogue) (t : kept.Table) → IsTable c t → All (λ s. s.end ≤ c.next) (table_spans t)

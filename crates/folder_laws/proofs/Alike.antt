@@ -9,7 +9,6 @@ use Rattle.common_laws.specs.Bags.{SameBag}
 use Rattle.common_laws.specs.Maps.{Contents}
 use Rattle.common_laws.proofs.BagLaws.{bag_sym, bag_trans}
 use Rattle.col_value.specs.declared.column.Column.{Column}
-use Rattle.col_value.specs.declared.kinds.Encoding.{Encoding}
 use Rattle.col_value.specs.declared.row.Stamped.{Stamped}
 use Rattle.row_history.specs.History.{is_retained, retained, cut_rows, on_columns}
 use Rattle.catalog_types.specs.declared.catalogue.Container.{Container}
@@ -25,6 +24,7 @@ use Rattle.catalog_root.proofs.Roots.{one_root, not_fresh}
 use Rattle.db_model.specs.Alike.{IsAlikeTable, IsAlike}
 use Rattle.db_model.specs.Database.{Table, Database, empty_database}
 use Rattle.db_model.specs.Sound.{RowFits, ValueFits, IsSoundTable, IsSoundDatabase}
+use Rattle.ros_container.specs.Encodings.{Written}
 use Rattle.stored_rows.specs.Held.{HoldsRows}
 use Rattle.folder_model.specs.Projections.{ordinals, HoldsHistory}
 use Rattle.folder_model.specs.Reopening.{IsTableAt, IsCutOf, ReopensBy, Reopens}
@@ -32,7 +32,7 @@ use Rattle.folder_laws.proofs.Whole.{bag_whole}
 
 -- files hold one list of rows
 abbrev pub HeldOnce : Type 0
-HeldOnce = (m : Contents) (encodings : List Encoding) (ks : List Container) (xs ys : List Stamped) → HoldsRows m encodings ks xs → HoldsRows m encodings ks ys → xs ≡ ys
+HeldOnce = (m : Contents) (written : List Written) (ks : List Container) (xs ys : List Stamped) → HoldsRows m written ks xs → HoldsRows m written ks ys → xs ≡ ys
 
 -- what a projection's files are the history of is, with its columns, one bag
 one_history : HeldOnce → (m : Contents) (mark epoch : ℕ) (xs ys : List Stamped) (p : Projection) → HoldsHistory m mark epoch xs p → HoldsHistory m mark epoch ys p

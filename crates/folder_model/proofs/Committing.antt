@@ -145,7 +145,7 @@ commit_reopens c k stores others told image version d e stands are sound drawn x
     inl (reopens stands.files x c stores d stands.root stands.are stands.sound stands.is_root (old_quiet stands.files x y stands.root version (stands.quiet.every y is) old.opens like))
 commit_reopens c k stores others told image version d e stands are sound drawn x (inr new) =
     inr (reopens stands.files x k others e (Root version k) are sound (refl, refl, drawn, λ none. refl) (record {
-      opens = new.root;
+      opens = new.written.root;
       same = λ n listed. changed_kept (RootNames version) NoName stands.files x (data_file n) (not_root version n) (λ q. q) new.like;
     }))
 

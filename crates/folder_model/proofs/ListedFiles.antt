@@ -20,14 +20,14 @@ use Rattle.stored_rows.specs.Listed.{IsVectorFile, SameFiles, SameEntry}
 abbrev pub SameIn : Contents → Contents → List Span → Type 0
 SameIn m n spans = (k : ℕ) → Any (IsIn k) spans → get n (data_file k) ≡ get m (data_file k)
 
-vector_same : (m n : Contents) (columns : ℕ) (k : Container) (o : Option ℕ) → SameIn m n (files columns k ∷ mark o) → (q : ℕ) → IsVectorFile o q → get n q ≡ get m q
-vector_same m n columns k None same q is = absurd is
-vector_same m n columns k (Some v) same q is = subst (λ (x : ℕ). get n x ≡ get m x) (sym is) (same v (1, span_of v, omega arith, refl, (omega arith, omega arith)))
+vector_same : (m n : Contents) (k : Container) (o : Option ℕ) → SameIn m n (files k ∷ mark o) → (q : ℕ) → IsVectorFile o q → get n q ≡ get m q
+vector_same m n k None same q is = absurd is
+vector_same m n k (Some v) same q is = subst (λ (x : ℕ). get n x ≡ get m x) (sym is) (same v (1, span_of v, omega arith, refl, (omega arith, omega arith)))
 
-container_same : (m n : Contents) (columns : ℕ) (k : Container) → SameIn m n (container_spans columns k) → SameFiles m n columns k
-container_same m n columns k same q (inl (j, small, is)) =
-    subst (λ (x : ℕ). get n x ≡ get m x) (sym is) (same (k.base + j) (0, files columns k, omega arith, refl, (omega arith, omega (arith, small))))
-container_same m n columns k same q (inr is) = vector_same m n columns k k.marks same q is
+container_same : (m n : Contents) (k : Container) → SameIn m n (container_spans k) → SameFiles m n k
+container_same m n k same q (inl (j, small, is)) =
+    subst (λ (x : ℕ). get n x ≡ get m x) (sym is) (same (k.base + j) (0, files k, omega arith, refl, (omega arith, omega (arith, small))))
+container_same m n k same q (inr is) = vector_same m n k k.marks same q is
 
 -- what is the same in all spans is so in those of each part
 each_same : {X : Type 0} (m n : Contents) (spans : X → List Span) (P : X → Type 0) → ((x : X) → SameIn m n (spans x) → P x) → (xs : List X) → SameIn m n (flat_map spans xs) → All P xs
@@ -38,7 +38,7 @@ each_same m n spans P one (x ∷ xs) same =
     (each_same m n spans P one xs (λ k any. same k (subst (Any (IsIn k)) (sym (flat_map-cons spans x xs)) (any_right (IsIn k) (spans x) (flat_map spans xs) any))))
 
 entry_same : (m n : Contents) (p : Projection) → SameIn m n (projection_spans p) → SameEntry m n p
-entry_same m n p same = each_same m n (container_spans (length p.columns)) (SameFiles m n (length p.columns)) (container_same m n (length p.columns)) p.containers same
+entry_same m n p same = each_same m n container_spans (SameFiles m n) (container_same m n) p.containers same
 
 abbrev pub SameTables : Contents → Contents → List kept.Table → Type 0
 SameTables m n ts = All (λ t. All (SameEntry m n) t.projections) ts

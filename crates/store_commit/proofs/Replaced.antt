@@ -53,7 +53,7 @@ old_image m x y Fresh version quiet opens like = record { opens = opens; same = 
 old_image m x y (Root v r) version quiet opens like = record { opens = opens; same = λ k listed. data_same version y x k like ∙ quiet.same k listed }
 
 new_image : (m x : Contents) (version : ℕ) (c : Catalogue) → IsNew version c m x → IsQuiet m (Root version c) x
-new_image m x version c new = record { opens = new.root; same = λ k listed. data_same version m x k new.like }
+new_image m x version c new = record { opens = new.written.root; same = λ k listed. data_same version m x k new.like }
 
 at_moment : {D : Type 0} (disk : Ghosts D) {now : D} (m : Contents) (was : Found) (version : ℕ) (c : Catalogue) → Quiet (disk.holds now) (ImageOf disk now) was m
     → (x : Contents) → OldOrNew was version c (ImageOf disk now) m x → IsQuiet m was x ⊎ IsQuiet m (Root version c) x

@@ -15,10 +15,9 @@ use Rattle.catalog_types.specs.declared.catalogue.Projection.{Projection}
 use Rattle.catalog_types.specs.declared.catalogue.Table as kept
 use Rattle.catalog_types.specs.Parts.{IsTable, IsProjection, IsEmptyIfStale}
 use Rattle.catalog_types.specs.Reached.{least_lge}
-use Rattle.catalog_bytes.specs.Spelling.{spelling}
 use Rattle.catalog_root.specs.declared.found.Found.{Found}
 use Rattle.catalog_root.specs.declared.found.Found.TheVariants.{Fresh, Root}
-use Rattle.catalog_root.specs.Root.{body_file, data_file, IsOpenGate, AllClosed, IsGreatestGate, IsRoot, HasNoBody, IsDamage, Opens}
+use Rattle.catalog_root.specs.Root.{body_file, data_file, IsOpenGate, AllClosed, IsGreatestGate, IsRoot, HoldsBody, HasNoBody, IsDamage, Opens}
 use Rattle.catalog_root.proofs.Roots.{one_gate, one_root}
 use Rattle.container_cut.specs.Blamed.{IsDamageOf, IsDamageIn}
 use Rattle.cut_job.specs.Blamed as cut
@@ -95,7 +94,7 @@ none_damaged : (m : Contents) (q : ℕ) (found : Found) → Opens m found → Is
 none_damaged m q Fresh fresh (inl (v, is, gate, none)) = fresh.closed v gate.is_open
 none_damaged m q (Root w c) root (inl (v, is, gate, none)) =
     let same = one_gate m w v root.gate gate in
-    none c (record { valid = root.valid; fits = root.fits; below = subst (λ x. x < c.next) same root.below }) (subst (λ x. get m (body_file x) ≡ Some (spelling c)) same root.body)
+    none c (record { valid = root.valid; below = subst (λ x. x < c.next) same root.below }) (subst (λ x. HoldsBody (get m (body_file x)) c) same root.body)
 none_damaged m q Fresh fresh (inr (n, is, closed, least)) = no_some (get m (data_file n)) (fresh.blank n) least.there
   where
     no_some : (o : Option (List ℕ)) → o ≡ None → IsSome o → ⊥

@@ -37,7 +37,11 @@ fn parts_of(alloc: Global, columns: List<(usize, Encoding)>) -> Result<List<Proj
     let parts = columns
         .into_vec()
         .into_iter()
-        .map(|(ordinal, encoding)| ProjColumn { ordinal, encoding })
+        .map(|(ordinal, encoding)| ProjColumn {
+            ordinal,
+            encoding,
+            default: None,
+        })
         .collect(alloc)?;
     Ok(List::new(parts))
 }

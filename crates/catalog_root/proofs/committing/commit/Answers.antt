@@ -6,6 +6,7 @@ use Rattle.common_laws.specs.Maps.{Contents}
 use Rattle.std.proofs.lemmas.Result.{on_ok_weaker}
 use Rattle.col_disk.proofs.Moving.{moved_told, moved_none, moved_join, moved_wider}
 use Rattle.catalog_root.proofs.Crashing.{left_at_body, left_at_gate, replaced, still_old, old_still, moved_named, only_body}
+use Rattle.catalog_bytes.specs.declared.form.Form.TheVariants.{Two}
 use Rattle.catalog_bytes.specs.Spelling.{spelling}
 use Rattle.catalog_root.specs.Root.{body_file, gate_file}
 use Rattle.catalog_root.proofs.Commits.{still, body_torn, gate_torn, by_number, after_put, both_put}
@@ -13,12 +14,12 @@ use Rattle.catalog_root.proofs.committing.commit.Goals as goal
 
 pub returns-in-Ok-put-clause-done : goal.returns-in-Ok-put-clause-done
 returns-in-Ok-put-clause-done g c = on_ok_weaker c.put-in-Ok-put.result (λ gate m told above.
-    let body = after_put _ _ m c.body_of.result (body_file c.args.version) c.as_slice.result.now (spelling c.args.c.now) told c.body_of.ensures (c.as_slice.ensures.value ∙ c.in-Ok.ensures.spelled) c.in-Ok-put.ensures.done in
+    let body = after_put _ _ m c.body_of.result (body_file c.args.version) c.as_slice.result.now (spelling Two c.args.c.now) told c.body_of.ensures (c.as_slice.ensures.value ∙ c.in-Ok.ensures.spelled) c.in-Ok-put.ensures.done in
     (_, after_put _ _ _ c.gate_of.result (gate_file c.args.version) (86 ∷ []) (86 ∷ []) body c.gate_of.ensures refl gate, both_put c.args.version c.args.c.now m c.requires.valid c.in-Ok.ensures.small c.requires.below above)) c.put-in-Ok-put.ensures.done
 
 pub returns-in-Ok-put-clause-either : goal.returns-in-Ok-put-clause-either
 returns-in-Ok-put-clause-either g c = λ m told above.
-    let body = after_put _ _ m c.body_of.result (body_file c.args.version) c.as_slice.result.now (spelling c.args.c.now) told c.body_of.ensures (c.as_slice.ensures.value ∙ c.in-Ok.ensures.spelled) c.in-Ok-put.ensures.done in
+    let body = after_put _ _ m c.body_of.result (body_file c.args.version) c.as_slice.result.now (spelling Two c.args.c.now) told c.body_of.ensures (c.as_slice.ensures.value ∙ c.in-Ok.ensures.spelled) c.in-Ok-put.ensures.done in
     let t = moved_told g.D.Disk _ body c.put-in-Ok-put.ensures.moved in
     (t.0, t.1, gate_torn c.args.version c.args.c.now m t.0 c.requires.valid c.in-Ok.ensures.small c.requires.below above (by_number _ _ _ _ c.gate_of.ensures t.2))
 
@@ -51,7 +52,7 @@ returns-in-Ok-put-clause-any_moment g c = λ was m rooted.
 
 pub returns-in-Ok-put-clause-replaced : goal.returns-in-Ok-put-clause-replaced
 returns-in-Ok-put-clause-replaced g c = λ was m rooted.
-    let body = after_put _ _ m c.body_of.result (body_file c.args.version) c.as_slice.result.now (spelling c.args.c.now) rooted.told_is c.body_of.ensures (c.as_slice.ensures.value ∙ c.in-Ok.ensures.spelled) c.in-Ok-put.ensures.done in
+    let body = after_put _ _ m c.body_of.result (body_file c.args.version) c.as_slice.result.now (spelling Two c.args.c.now) rooted.told_is c.body_of.ensures (c.as_slice.ensures.value ∙ c.in-Ok.ensures.spelled) c.in-Ok-put.ensures.done in
     replaced g.D.Disk was c.args.version c.args.c.now m c.args.disk.now c.put.new.disk c.put-in-Ok-put.new.disk rooted c.put-in-Ok-put.result c.requires.valid c.in-Ok.ensures.small c.requires.below g.D.Disk.laws body
     (on_ok_weaker c.put-in-Ok-put.result (λ done. subst (λ (q : ℕ). g.D.Disk.holds c.put-in-Ok-put.new.disk ≡ option_map (λ (x : Contents). insert x q (86 ∷ [])) (g.D.Disk.holds c.put.new.disk)) c.gate_of.ensures done) c.put-in-Ok-put.ensures.done)
     (on_ok_weaker c.put-in-Ok-put.result (λ only. subst (λ (q : ℕ). (x : Contents) → g.D.Disk.holds c.put.new.disk ≡ Some x → (d : Contents) → g.D.Disk.since c.put-in-Ok-put.new.disk (g.D.Disk.clock c.put-in-Ok-put.new.disk) d → d ≡ insert x q (86 ∷ [])) c.gate_of.ensures only) c.put-in-Ok-put.ensures.only)

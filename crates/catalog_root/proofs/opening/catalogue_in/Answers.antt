@@ -1,10 +1,9 @@
-use Rattle.std.proofs.Common.{◌≡◌, arith, rules}
-use Rattle.catalog_bytes.specs.Spelling.{spelling, Fits}
+use Rattle.std.proofs.Common.{arith, rules}
+use Rattle.catalog_bytes.specs.Spelling.{Spells}
 use Rattle.catalog_root.proofs.Bodies.{other_next}
 use Rattle.catalog_root.proofs.opening.catalogue_in.Goals as goal
 
 pub returns-else-version-c-clause-blamed : goal.returns-else-version-c-clause-blamed
 returns-else-version-c-clause-blamed c =
-    let fits : Fits c.in-Ok-Some.c = search rules in
-    let is : c.args.bytes.now ≡ spelling c.in-Ok-Some.c = search rules in
-    (c.body_of.ensures, other_next c.args.version c.args.bytes.now c.in-Ok-Some.c fits is (λ lt. omega (arith, c.if-version-c.false, lt)))
+    let is : Spells c.args.bytes.now c.in-Ok-Some.c = search rules in
+    (c.body_of.ensures, other_next c.args.version c.args.bytes.now c.in-Ok-Some.c is (λ lt. omega (arith, c.if-version-c.false, lt)))

@@ -1,0 +1,22 @@
+-- Over a folder whose older containers store fewer columns than their projection has (tools/made_folders.py): the others have their default.
+SELECT a, c, d, n FROM t;
+AT EPOCH 1 SELECT a, c, d, n FROM t;
+AT EPOCH 2 SELECT c, a FROM t WHERE n IS NULL ORDER BY c DESC, a;
+SELECT a FROM t WHERE c = 'new';
+SELECT a FROM t WHERE c < 'new' OR c > 'new';
+SELECT a, n FROM t WHERE n > 7;
+SELECT a FROM t WHERE d < DATE '2024-02-29';
+SELECT c, COUNT(*), MIN(d), SUM(n) FROM t GROUP BY c;
+SELECT x.a, y.a FROM t AS x JOIN t AS y ON x.c = y.c WHERE x.a < y.a;
+EXPLAIN SELECT a FROM t;
+SELECT a FROM t;
+UPDATE t SET c = 'old', n = 1 WHERE a = 1;
+DELETE FROM t WHERE c = 'new' AND d = DATE '2024-02-29';
+INSERT INTO t VALUES (7, 'new', DATE '2024-02-29', NULL);
+COMMIT;
+SELECT a, c, d, n FROM t;
+SELECT DO_TM_TASK('moveout');
+SELECT a, c, d, n FROM t;
+SELECT a FROM t WHERE c = 'new';
+AT EPOCH 3 SELECT a, c, d, n FROM t;
+CREATE PROJECTION by_c (c, a) AS SELECT c, a FROM t ORDER BY c;
