@@ -46,6 +46,16 @@ a_place columns k i place is = first (i == columns) refl is
         inl (there, at)
     first false differs same = second (nat_lt i k.stored) refl differs same
 
+pub below_last : (columns i : ℕ) → i ≤ columns → i ≢ columns → i < columns
+below_last columns i le other = by (lt_or_last columns i le)
+  where
+    lt_or_last : (columns i : ℕ) → i ≤ columns → (i < columns) ⊎ (i ≡ columns)
+    lt_or_last columns i le = grind arith
+
+    by : (i < columns) ⊎ (i ≡ columns) → i < columns
+    by (inl lt) = lt
+    by (inr last) = absurd (other last)
+
 -- a column that has no place isn't stored
 pub no_place : (columns : ℕ) (k : Container) (i : ℕ) → place_of columns k i ≡ None → (k.stored ≤ i) × (i ≢ columns)
 no_place columns k i is = first (i == columns) refl is
@@ -118,18 +128,8 @@ pub default_block : (holds : Option Contents) (es : List Written) (k : Container
     → AreBlock holds es k i b vs
 default_block holds es k i b vs none le is m told rows held =
     let not_stored = no_place (length es) k i none in
-    let lt : i < length es = below (length es) i le not_stored.1 in
+    let lt : i < length es = below_last (length es) i le not_stored.1 in
     is ∙ sym (default_values es k m i b rows not_stored.0 lt held)
-  where
-    below : (columns i : ℕ) → i ≤ columns → i ≢ columns → i < columns
-    below columns i le other = by (lt_or_last columns i le)
-      where
-        lt_or_last : (columns i : ℕ) → i ≤ columns → (i < columns) ⊎ (i ≡ columns)
-        lt_or_last columns i le = grind arith
-
-        by : (i < columns) ⊎ (i ≡ columns) → i < columns
-        by (inl lt) = lt
-        by (inr last) = absurd (other last)
 
 -- the blocks one after the other
 pub next_rows : (rows : List Asked) (b : ℕ) → take (1024 * (b + 1)) rows ≡ take (1024 * b) rows ++ rows_in b rows

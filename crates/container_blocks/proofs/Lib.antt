@@ -3,3 +3,4 @@ pub mod OneBlock
 pub mod Faults
 pub mod Numbers
 pub mod Unstored
+pub mod Indexes

@@ -12,7 +12,7 @@ use Rattle.col_value.specs.declared.value.Value.TheVariants.{Null}
 use Rattle.ros_container.specs.Encodings.{Written, written_as, as_epochs, default_at}
 use Rattle.ros_container.specs.Readable.{HasDefaultValue, IsOfColumns}
 
-no_column : ProjColumn
+abbrev no_column : ProjColumn
 no_column = record { ordinal = 0; encoding = Auto; default = None }
 
 value_there : (o : Option Value) → IsSomeAnd o IsValue → IsValue (unwrap_or o Null)

@@ -1,12 +1,13 @@
-use Rattle.std.proofs.Common.{◌≡◌, length, sym, subst, ap, ◌∙◌, ◌+◌}
+use Rattle.std.proofs.Common.{◌≡◌, length, sym, subst, ap, ◌∙◌, ◌+◌, arith}
+use Rattle.std.proofs.lemmas.List.{length-map}
 use Rattle.col_disk.proofs.Moving.{moved_join}
-use Rattle.ros_container.specs.Encodings.{written_of}
+use Rattle.ros_container.specs.Encodings.{written_as, written_of}
 use Rattle.ros_container.specs.Held.{BlamesContainer}
 use Rattle.ros_container.specs.Parts.{HasValues}
 use Rattle.ros_container.specs.Rows.{AreRows, AreWide, AreWithin}
 use Rattle.ros_container.proofs.Blames.{blamed_holds_none}
 use Rattle.ros_container.proofs.Columns.{with_length, with_rows, with_wide, with_within}
-use Rattle.ros_container.proofs.Reading.{each_more, epochs_more}
+use Rattle.ros_container.proofs.Reading.{each_more, epochs_more, all_read}
 use Rattle.ros_container.proofs.read.rows.Goals as goal
 
 pub returns-in-Err-clause-none : goal.returns-in-Err-clause-none
@@ -39,3 +40,12 @@ returns-in-Err-read_one-clause-moved g c = moved_join g.D.Disk c.loop-i.invarian
 
 pub returns-in-Err-with_values-clause-moved : goal.returns-in-Err-with_values-clause-moved
 returns-in-Err-with_values-clause-moved g c = moved_join g.D.Disk c.loop-i.invariant.moved c.read_one.ensures.moved
+
+pub returns-clause-found : goal.returns-clause-found
+returns-clause-found g c m told =
+    let now = c.loop-i.invariant in
+    let columns = ap length c.as_slice-i-end.ensures in
+    let past = c.loop-i-test.false in
+    let upto = c.loop-i.auto.i-end in
+    all_read m (written_of c.args.shape.now) c.args.entry.now c.loop-i.i c.loop-i.rows.items
+    (omega (arith, columns, past, upto, length-map c.args.shape.now.columns written_as)) (omega (arith, columns, past, upto, c.requires.entry.of_columns.most)) (λ i lt. now.each i lt m told) (now.epochs m told) now.wide now.within
