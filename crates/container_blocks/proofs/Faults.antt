@@ -77,6 +77,11 @@ err_some : (P : Entry → StoreFault → Type 0) (o : Option Entry) (fault : Sto
 err_some P None fault given = tt
 err_some P (Some x) fault given = given
 
+-- what follows of each fault
+pub err_each : {T : Type 0} (P Q : StoreFault → Type 0) (r : Result T StoreFault) → ((fault : StoreFault) → P fault → Q fault) → IfErr r P → IfErr r Q
+err_each P Q (Ok v) h given = tt
+err_each P Q (Err fault) h given = h fault given
+
 pub part_blamed : (k : Container) (place b : ℕ) (at : PosIndex) (e : Encoding) (body : ℕ) (holds : Option Contents) (r : Result (List Value) StoreFault) → body ≡ body_of k.base place
     → IsIndexOf k.rows at → b < length at.entries → IfSome (slice_get at.entries b) (λ x. IfErr r (Blames body (IsNoPiece e body at.rows x (slice_get at.entries (b + 1)) holds)))
     → IfErr r (λ fault. IsIndexAt k place at holds → BlamesPart holds e k place fault)

@@ -6,7 +6,7 @@ use Rattle.std.specs.Ordering.{is_le}
 use Rattle.std.proofs.lemmas.Bool.{and_from}
 use Rattle.std.proofs.lemmas.Bool.Decides.{nat_tests}
 use Rattle.std.proofs.lemmas.Cmp.{tied_itself}
-use Rattle.std.proofs.lemmas.List.Elements.{All-nil, All-cons}
+use Rattle.std.proofs.lemmas.List.Elements.{All-nil, All-cons, All-head}
 use Rattle.col_value.specs.Laws.{value_total}
 use Rattle.col_value.specs.Order.{IsValue, value_cmp}
 use Rattle.col_value.specs.declared.value.Value.{Value}
@@ -24,11 +24,17 @@ entries_long v b zero = refl
 entries_long v b (suc n) = ap suc (entries_long v (suc b) n)
 
 -- one entry more, behind the others
-pub entries_more : (v : Value) (b n : ℕ) → entries_of_one v b n ++ entry_of_one v (b + n) ∷ [] ≡ entries_of_one v b (n + 1)
-entries_more v b zero = let same : b + zero ≡ b = omega arith in ap (λ (x : ℕ). entry_of_one v x ∷ []) same
-entries_more v b (suc n) =
+one_more : (v : Value) (b n : ℕ) → entries_of_one v b n ++ entry_of_one v (b + n) ∷ [] ≡ entries_of_one v b (suc n)
+one_more v b zero = let same : b + zero ≡ b = omega arith in ap (λ (x : ℕ). entry_of_one v x ∷ []) same
+one_more v b (suc n) =
     let same : b + suc n ≡ suc b + n = omega arith in
-    ap (λ (xs : List Entry). entry_of_one v b ∷ xs) (ap (λ (x : ℕ). entries_of_one v (suc b) n ++ entry_of_one v x ∷ []) same ∙ entries_more v (suc b) n)
+    ap (λ (xs : List Entry). entry_of_one v b ∷ xs) (ap (λ (x : ℕ). entries_of_one v (suc b) n ++ entry_of_one v x ∷ []) same ∙ one_more v (suc b) n)
+
+pub entries_more : (v : Value) (n : ℕ) → entries_of_one v 0 n ++ entry_of_one v n ∷ [] ≡ entries_of_one v 0 (n + 1)
+entries_more v n =
+    let from : 0 + n ≡ n = omega arith in
+    let up : suc n ≡ n + 1 = omega arith in
+    ap (λ (x : ℕ). entries_of_one v 0 n ++ entry_of_one v x ∷ []) (sym from) ∙ one_more v 0 n ∙ ap (entries_of_one v 0) up
 
 -- they are entries of blocks one after the other
 entries_follow : (v : Value) (b n first : ℕ) → first ≡ 1024 * b → are_entries first b (entries_of_one v b n) ≡ true
@@ -75,3 +81,7 @@ is_of_one v rows at are = subst (All (λ e. (e.least ≡ v) × (e.greatest ≡ v
 pub picked_one : (v : Value) (count : ℕ) → picked (v ∷ []) (replicate count 0) ≡ replicate count v
 picked_one v zero = refl
 picked_one v (suc count) = ap (λ (vs : List Value). v ∷ vs) (picked_one v count)
+
+-- what holds of the only value of a list
+pub first_of_one : (P : Value → Type 0) (v : Value) (vs : List Value) → vs ≡ v ∷ [] → All P vs → P v
+first_of_one P v vs is all = All-head P v [] (subst (All P) is all)

@@ -1,6 +1,6 @@
 //! The columns that a container doesn't store.
 
-ghost use Rattle.std.specs.Prelude.{◌≡◌, ◌≤◌, ◌<◌, ◌*◌, ◌-◌, min, length, replicate, IfOk};
+ghost use Rattle.std.specs.Prelude.{◌≡◌, ◌≤◌, ◌<◌, ◌*◌, ◌-◌, ◌^◌, min, length, replicate, IfOk};
 ghost use Rattle.std.specs.List.{All};
 ghost use Rattle.col_value.specs.Order.{IsValue};
 ghost use Rattle.pos_index.specs.Index.{blocks};
@@ -43,7 +43,6 @@ fn entries_of(alloc: Global, value: &Value, rows: u64) -> Result<Vec<Entry>, All
 }
 
 /// An index of so many rows that have one value.
-#[tactic(auto, using(crate::proofs::Unstored::is_index_of_one, crate::proofs::Unstored::is_of_one))]
 fn index_of_one(alloc: Global, value: Value, rows: u64) -> Result<PosIndex, AllocError>
     requires some { 1 ≤ rows }
     requires value { IsValue value }

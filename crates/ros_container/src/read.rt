@@ -99,9 +99,7 @@ fn rows_of<D: Disk>(
             Ok(Some(rows)) => Ok(rows),
             Ok(None) => {
                 one_column();
-                Err(StoreFault::Damaged(
-                    body_of(entry.base, entry.stored as usize),
-                ))
+                Err(StoreFault::Damaged(body_of(entry.base, entry.stored as usize)))
             }
             Err(AllocError) => Err(StoreFault::Memory),
         },
