@@ -16,7 +16,7 @@ use Rattle.block_codec.specs.Held.{picked}
 use Rattle.pos_index.specs.declared.index.Entry.{Entry}
 use Rattle.pos_index.specs.declared.index.PosIndex.{PosIndex}
 use Rattle.pos_index.specs.Index.{blocks, follows, are_entries, starts_at_zero, is_index, FitsEntry, Fits}
-use Rattle.container_blocks.specs.Blocks.{IsIndexOf, IsIndexOfOne}
+use Rattle.container_blocks.specs.Blocks.{IsIndexOf}
 use Rattle.container_blocks.specs.Parts.{entry_of_one, entries_of_one}
 
 entries_long : (v : Value) (b n : ℕ) → length (entries_of_one v b n) ≡ n
@@ -74,8 +74,8 @@ is_index_of_one v rows at some fits spelled of_rows are =
       of_rows = of_rows;
     }
 
-pub is_of_one : (v : Value) (rows : ℕ) (at : PosIndex) → at.entries ≡ entries_of_one v 0 (blocks rows) → IsIndexOfOne v at
-is_of_one v rows at are = subst (All (λ e. (e.least ≡ v) × (e.greatest ≡ v))) (sym are) (entries_one v 0 (blocks rows))
+pub is_of_one : (v : Value) (rows : ℕ) (es : List Entry) → es ≡ entries_of_one v 0 (blocks rows) → All (λ e. (e.least ≡ v) × (e.greatest ≡ v)) es
+is_of_one v rows es are = subst (All (λ e. (e.least ≡ v) × (e.greatest ≡ v))) (sym are) (entries_one v 0 (blocks rows))
 
 -- one word at so many places
 pub picked_one : (v : Value) (count : ℕ) → picked (v ∷ []) (replicate count 0) ≡ replicate count v

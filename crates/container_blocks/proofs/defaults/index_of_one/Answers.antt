@@ -13,4 +13,4 @@ returns-clause-index c =
 pub returns-clause-one : goal.returns-clause-one
 returns-clause-one c =
     let are : c.new.result ≡ entries_of_one c.args.value 0 (blocks c.args.rows) = search rules in
-    is_of_one c.args.value c.args.rows _ are
+    is_of_one c.args.value c.args.rows c.new.result are
