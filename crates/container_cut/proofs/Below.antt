@@ -48,7 +48,7 @@ pub containers_later : (next after : ℕ) (columns : List ProjColumn) (ks : List
 containers_later next after columns ks le below = All-weaker (IsBelow next columns) (IsBelow after columns) (λ k h. container_later next after columns k le h) ks below
 
 pub entry_later : (next after : ℕ) (p : Projection) → next ≤ after → IsListedBelow next p → IsListedBelow after p
-entry_later next after p le below = containers_later next after (length p.columns) p.containers le below
+entry_later next after p le below = containers_later next after p.columns p.containers le below
 
 pub entries_later : (next after : ℕ) (ps : List Projection) → next ≤ after → All (IsListedBelow next) ps → All (IsListedBelow after) ps
 entries_later next after ps le below = All-weaker (IsListedBelow next) (IsListedBelow after) (λ p h. entry_later next after p le h) ps below

@@ -14,7 +14,7 @@ use Rattle.col_value.specs.declared.row.Asked.{Asked}
 use Rattle.col_value.specs.declared.row.Stamped.{Stamped}
 use Rattle.col_value.specs.declared.value.Value.{Value}
 use Rattle.col_value.specs.declared.value.Value.TheVariants as value
-use Rattle.row_history.specs.History.{cut_rows, cut_row}
+use Rattle.row_history.specs.History.{cut_rows, cut_row, stamped}
 use Rattle.del_vector.specs.Marks.{epoch_at}
 use Rattle.ros_container.specs.Encodings.{Written, written_as, written_of, as_epochs, encoding_at, default_at}
 use Rattle.ros_container.specs.Files.{body_of, index_of}
@@ -129,19 +129,19 @@ widen m es k rows le held = record {
 
 pub stamped_full : (es : List Written) (n i : ℕ) (mark : ℕ → Option ℕ) (rows : List Asked) → stamped_from i mark (map (full es n) rows) ≡ map (full_stamped es n) (stamped_from i mark rows)
 stamped_full es n i mark [] = refl
-stamped_full es n i mark (a ∷ rows) = ap (λ (ss : List Stamped). _ ∷ ss) (stamped_full es n (i + 1) mark rows)
+stamped_full es n i mark (a ∷ rows) = ap (λ (ss : List Stamped). stamped (mark i) (full es n a) ∷ ss) (stamped_full es n (i + 1) mark rows)
 
 pub cut_full : (es : List Written) (n epoch : ℕ) (rows : List Stamped) → cut_rows epoch (map (full_stamped es n) rows) ≡ map (full_stamped es n) (cut_rows epoch rows)
 cut_full es n epoch [] = refl
-cut_full es n epoch (s ∷ rows) = by (nat_le s.ins epoch)
+cut_full es n epoch (s ∷ rows) = by (nat_le s.ins epoch) (cut_full es n epoch rows)
   where
     f : Stamped → Stamped
     f = full_stamped es n
 
-    by : (c : Bool) → map (cut_row epoch) (cond c (f s ∷ filter (λ x. nat_le x.ins epoch) (map f rows)) (filter (λ x. nat_le x.ins epoch) (map f rows)))
+    by : (c : Bool) → cut_rows epoch (map f rows) ≡ map f (cut_rows epoch rows) → map (cut_row epoch) (cond c (f s ∷ filter (λ x. nat_le x.ins epoch) (map f rows)) (filter (λ x. nat_le x.ins epoch) (map f rows)))
         ≡ map f (map (cut_row epoch) (cond c (s ∷ filter (λ x. nat_le x.ins epoch) rows) (filter (λ x. nat_le x.ins epoch) rows)))
-    by true = ap (λ (ss : List Stamped). cut_row epoch (f s) ∷ ss) (cut_full es n epoch rows)
-    by false = cut_full es n epoch rows
+    by true rest = ap (λ (ss : List Stamped). cut_row epoch (f s) ∷ ss) rest
+    by false rest = rest
 
 -- the rows of one container
 pub rows_full : (m : Contents) (es : List Written) (k : Container) (n : ℕ) (rows : List Stamped) → k.stored ≡ n → n ≤ length es → HoldsRows m (take n es) (k ∷ []) rows → HoldsRows m es (k ∷ []) (map (full_stamped es n) rows)

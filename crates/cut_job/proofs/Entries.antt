@@ -249,7 +249,7 @@ vector_below next None is = tt
 vector_below next (Some n) is = is.1
 
 entry_valid : (c : Catalogue) (t : kept.Table) (p : Projection) → IsProjection c t p → IsListedBelow c.next p
-entry_valid c t p is i d at =
+entry_valid c t p is = λ i d at.
     let of = is.containers i d at in
     record { of_columns = valid_of_columns c t p is i d at; files = of.files.1; vector = vector_below c.next (get_or p.containers i d).marks of.vector }
 

@@ -40,7 +40,7 @@ default_value columns c is has = by (slice_get columns c.ordinal) c.default is h
     by (Some column) (Some v) is has = fits_value column v is.1
 
 pub valid_of_columns : (c : Catalogue) (t : Table) (p : Projection) → IsProjection c t p → All (IsOfColumns p.columns) p.containers
-valid_of_columns c t p valid i d at =
+valid_of_columns c t p valid = λ i d at.
     let k = get_or p.containers i d in
     let is = valid.containers i d at in
     let columns = All-drop (IsProjColumn t.columns) k.stored p.columns valid.columns in

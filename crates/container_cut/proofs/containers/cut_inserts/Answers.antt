@@ -16,11 +16,14 @@ use Rattle.container_cut.proofs.Faults.{if_same}
 use Rattle.container_cut.proofs.Joins.{inserts_between}
 use Rattle.container_cut.proofs.containers.cut_inserts.Goals as goal
 
-pub returns-then-container-stored-gt64-clause-moved : goal.returns-then-container-stored-gt64-clause-moved
-returns-then-container-stored-gt64-clause-moved g c = moved_none g.D.Disk c.args.disk.now
+pub returns-then-container-gt64-clause-moved : goal.returns-then-container-gt64-clause-moved
+returns-then-container-gt64-clause-moved g c = moved_none g.D.Disk c.args.disk.now
 
 pub returns-in-Err-clause-moved : goal.returns-in-Err-clause-moved
-returns-in-Err-clause-moved g c = moved_still g.D.Disk c.vector_of.ensures.moved
+returns-in-Err-clause-moved g c = moved_none g.D.Disk c.args.disk.now
+
+pub returns-in-Err-vector_of-clause-moved : goal.returns-in-Err-vector_of-clause-moved
+returns-in-Err-vector_of-clause-moved g c = moved_still g.D.Disk c.vector_of.ensures.moved
 
 pub returns-in-Err-rows_of-clause-moved : goal.returns-in-Err-rows_of-clause-moved
 returns-in-Err-rows_of-clause-moved g c = moved_still g.D.Disk (moved_join g.D.Disk c.vector_of.ensures.moved c.rows_of.ensures.moved)

@@ -10,8 +10,8 @@ use Rattle.container_cut.proofs.Faults.{on_errs, rows_blamed}
 use Rattle.container_cut.proofs.Fronts.{front_written, front_within, front_reads}
 use Rattle.container_cut.proofs.containers.rows_of.Goals as goal
 
-pub rows-requires-clause-entry : goal.rows-requires-clause-entry
-rows-requires-clause-entry g c =
+pub rows-requires : goal.rows-requires
+rows-requires g c =
     let p = c.args.shape.now in
     let k = c.args.container.now in
     let low = c.requires.below.files in
