@@ -13,7 +13,6 @@ use Rattle.exec_scan.specs.Opened.{HasOpened, IsOpening}
 use Rattle.exec_scan.specs.Passing.{IsPassed}
 use Rattle.exec_scan.specs.Reading.{OfBlock, ShowsRows}
 use Rattle.exec_scan.specs.Scanning.{AreLeft, Gives, IsScanOf, Place, steps_left}
-
 use Rattle.exec_scan.proofs.Stepping.{at_place, block_gives, block_unblamed, done_fewer, done_gives, handed, next_fewer, next_scan, opening_here, unblamed_at}
 use Rattle.exec_scan.proofs.scan.Scan.next_block.Goals as goal
 
