@@ -1,17 +1,17 @@
 -- Epochs as numbers and as values.
-use Rattle.std.proofs.Common.{◌≡◌, ℕ, List, [], ◌∷◌, length, map, refl, ◌∙◌, ap₂, subst, arith}
+use Rattle.std.proofs.Common.{◌≡◌, ℕ, List, [], ◌∷◌, map, refl, ◌∙◌, ap₂}
 use Rattle.std.specs.Prelude.{Option, pos}
 use Rattle.common_laws.specs.Maps.{Contents}
 use Rattle.catalog_types.specs.declared.catalogue.Container.{Container}
-use Rattle.col_value.specs.declared.kinds.Encoding.{Encoding}
+use Rattle.col_value.specs.declared.kinds.Encoding.TheVariants.{Auto}
 use Rattle.col_value.specs.declared.row.Asked.{Asked}
 use Rattle.col_value.specs.declared.value.Value.{Value}
 use Rattle.col_value.specs.declared.value.Value.TheVariants as value
-use Rattle.ros_container.specs.Rows.{epoch_values, stored_values}
-use Rattle.ros_container.proofs.Stored.{stored_epochs}
+use Rattle.ros_container.specs.Encodings.{Written}
+use Rattle.ros_container.specs.Rows.{epoch_values}
 use Rattle.container_blocks.specs.Blocks.{rows_in, AreEpochs}
 use Rattle.container_blocks.specs.Parts.{ArePart}
-use Rattle.container_blocks.proofs.Columns.{part_block}
+use Rattle.container_blocks.proofs.Columns.{mapped}
 
 one_number : (a b : ℕ) (vs ws : List Value) → value.Int (pos a) ∷ vs ≡ value.Int (pos b) ∷ ws → a ≡ b
 one_number a b vs ws same = cc
@@ -26,9 +26,7 @@ same_numbers (n ∷ epochs) [] same = absurd cc
 same_numbers (n ∷ epochs) (a ∷ rows) same =
     ap₂ (λ (x : ℕ) (xs : List ℕ). x ∷ xs) (one_number n a.ins _ _ same) (same_numbers epochs rows (the_rest (value.Int (pos n)) (value.Int (pos a.ins)) _ _ same))
 
-pub epochs_found : (holds : Option Contents) (es : List Encoding) (k : Container) (columns b : ℕ) (part : List Value) (epochs : List ℕ) → columns ≡ length es → ArePart holds es k columns b part
+pub epochs_found : (holds : Option Contents) (es : List Written) (k : Container) (b : ℕ) (part : List Value) (epochs : List ℕ) → ArePart holds Auto k k.stored b part
     → map (λ (n : ℕ). value.Int (pos n)) epochs ≡ part → AreEpochs holds es k b epochs
-epochs_found holds es k columns b part epochs long are made m told rows held =
-    let theirs : ArePart holds es k (length es) b part = subst (λ (i : ℕ). ArePart holds es k i b part) long are in
-    let block : part ≡ stored_values (length es) (length es) (rows_in b rows) = part_block holds es k (length es) b part (omega arith) theirs m told rows held in
-    same_numbers epochs (rows_in b rows) (made ∙ block ∙ stored_epochs (length es) (rows_in b rows))
+epochs_found holds es k b part epochs are made m told rows held =
+    same_numbers epochs (rows_in b rows) (made ∙ are m told (epoch_values rows) held.epochs ∙ mapped (λ (a : Asked). value.Int (pos a.ins)) b rows)

@@ -1,21 +1,26 @@
 -- The values of one block of a column.
 use Rattle.std.proofs.Common.{◌≡◌, ◌+◌, ◌*◌, ◌<◌, ◌≤◌, ◌-◌, ◌++◌, ℕ, zero, suc, true, eqb, List, [], ◌∷◌, length, take, drop, refl, sym, ◌∙◌, ap, ap₂, subst, arith}
-use Rattle.std.specs.Prelude.{min, Option, Some, None, Result, Ok, Err, IfOk, IfSome}
+use Rattle.std.specs.Prelude.{min, replicate, Bool, Option, Some, None, MatchOption, Result, Ok, Err, IfOk, IfSome}
 use Rattle.std.specs.FinMap.{get}
 use Rattle.std.specs.List.{All, slice_get, list_all}
+use Rattle.std.specs.Ordering.{is_le}
 use Rattle.std.proofs.Math.Seq.{drop-append-add, take-append_seam}
-use Rattle.std.proofs.lemmas.Bool.{eqb-true}
+use Rattle.std.proofs.lemmas.Bool.{eqb-true, and_from}
+use Rattle.std.proofs.lemmas.Cmp.{tied_itself}
+use Rattle.std.proofs.lemmas.Option.{get_or_from_slice_get, slice_get_within}
 use Rattle.std.proofs.lemmas.List.{append-nil, take_all}
 use Rattle.std.proofs.lemmas.List.Elements.{All-weaker}
 use Rattle.common_laws.specs.Maps.{Contents}
 use Rattle.catalog_types.specs.declared.catalogue.Container.{Container}
 use Rattle.col_bytes.proofs.Codecs.{some_is}
 use Rattle.col_disk.specs.declared.disk.StoreFault.{StoreFault}
+use Rattle.col_file.specs.Column.{IsFile}
 use Rattle.col_file.specs.Held.{first_of, HasBlocks, HoldsColumn}
 use Rattle.col_file.specs.Read.{IsBlock, SpellsPiece, AreValues, piece, is_between}
 use Rattle.col_file.proofs.ByBlocks.{Stands, stands, first_at, entries_are}
 use Rattle.col_file.proofs.OneColumn.{by_index}
-use Rattle.col_value.specs.Order.{IsValue}
+use Rattle.col_value.specs.Laws.{value_total}
+use Rattle.col_value.specs.Order.{IsValue, value_cmp}
 use Rattle.col_value.specs.declared.kinds.Encoding.{Encoding}
 use Rattle.col_value.specs.declared.row.Asked.{Asked}
 use Rattle.col_value.specs.declared.value.Value.{Value}
@@ -28,13 +33,13 @@ use Rattle.pos_index.specs.Built.{nth_block}
 use Rattle.pos_index.specs.Index.{index_spelling, blocks, follows, are_entries}
 use Rattle.pos_index.proofs.Building.{spelled_is_value}
 use Rattle.pos_index.proofs.Reading.{and_true, index_long}
-use Rattle.ros_container.specs.Encodings.{encoding_at}
-use Rattle.ros_container.specs.Files.{body_of, index_of}
+use Rattle.ros_container.specs.Encodings.{Written, encoding_at, default_at}
+use Rattle.ros_container.specs.Files.{body_of, index_of, place_of}
 use Rattle.ros_container.specs.Held.{HoldsContainer}
 use Rattle.ros_container.specs.Rows.{stored_values}
-use Rattle.container_blocks.specs.Blocks.{rows_in, IsIndexOf, HasIndex}
-use Rattle.container_blocks.specs.Parts.{ArePart}
-use Rattle.container_blocks.proofs.Columns.{column_held, block_values}
+use Rattle.container_blocks.specs.Blocks.{rows_in, IsIndexOf, IsIndexOfOne, HasIndex}
+use Rattle.container_blocks.specs.Parts.{ArePart, IsIndexAt}
+use Rattle.container_blocks.proofs.Columns.{column_held, block_values, default_block}
 
 -- the block of an entry in the bytes of a body
 pub record IsPart (encoding : Encoding) (rows : ℕ) (bytes : List ℕ) (e : Entry) (next : Option Entry) (vs : List Value) : Type 0 where
@@ -94,6 +99,10 @@ there_are : (e : Encoding) (body b : ℕ) (at : PosIndex) (holds : Option Conten
     → IfSome (slice_get at.entries b) (λ x. AreValues e body at.rows x (slice_get at.entries (b + 1)) holds vs) → AreValues e body at.rows s.entry (slice_get at.entries (b + 1)) holds vs
 there_are e body b at holds vs s given = subst (λ (o : Option Entry). IfSome o (λ x. AreValues e body at.rows x (slice_get at.entries (b + 1)) holds vs)) s.there given
 
+-- what holds of all elements holds of the one in a place
+of_all : {X : Type 0} (P : X → Type 0) (xs : List X) (b : ℕ) (x : X) → slice_get xs b ≡ Some x → All P xs → P x
+of_all P xs b x there all = subst P (get_or_from_slice_get xs b x x there) (all b x (slice_get_within xs b x there))
+
 -- what holds of an answer by the entry of a block holds of it
 pub ok_each : (P : Entry → List Value → Type 0) (Q : List Value → Type 0) (o : Option Entry) (r : Result (List Value) StoreFault) → ((v : List Value) → IfSome o (λ x. P x v) → Q v) → IfSome o (λ x. IfOk r (P x)) → IfOk r Q
 ok_each P Q None (Ok v) h given = h v tt
@@ -101,14 +110,14 @@ ok_each P Q (Some x) (Ok v) h given = h v given
 ok_each P Q None (Err fault) h given = tt
 ok_each P Q (Some x) (Err fault) h given = tt
 
-pub part_found : (es : List Encoding) (k : Container) (i b : ℕ) (at : PosIndex) (e : Encoding) (body : ℕ) (holds : Option Contents) (vs : List Value) → e ≡ encoding_at es i → body ≡ body_of k.base i → IsIndexOf k.rows at → b < length at.entries
-    → IfSome (slice_get at.entries b) (λ x. AreValues e body at.rows x (slice_get at.entries (b + 1)) holds vs) → HasIndex k i at holds → ArePart holds es k i b vs
-part_found es k i b at e body holds vs is_e is_body is lt given has m told ws held =
+pub part_found : (k : Container) (place b : ℕ) (at : PosIndex) (e : Encoding) (body : ℕ) (holds : Option Contents) (vs : List Value) → body ≡ body_of k.base place → IsIndexOf k.rows at → b < length at.entries
+    → IfSome (slice_get at.entries b) (λ x. AreValues e body at.rows x (slice_get at.entries (b + 1)) holds vs) → IsIndexAt k place at holds → ArePart holds e k place b vs
+part_found k place b at e body holds vs is_body is lt given has m told ws held =
     let s = stands at.entries b lt in
     let are = there_are e body b at holds vs s given in
-    let part = part_of (encoding_at es i) (body_of k.base i) (index_of k.base i) k.rows m ws at b s.entry is (has m told) s.there held in
+    let part = part_of e (body_of k.base place) (index_of k.base place) k.rows m ws at b s.entry is (has m told) s.there held in
     let file : get m body ≡ Some held.bytes = ap (get m) is_body ∙ held.body_file in
-    one_list e (encoding_at es i) vs (nth_block b ws) (piece s.entry (slice_get at.entries (b + 1)) held.bytes)
+    one_list e e vs (nth_block b ws) (piece s.entry (slice_get at.entries (b + 1)) held.bytes)
     (piece_spells e s.entry (slice_get at.entries (b + 1)) vs (get m body) held.bytes file (are.spelled m told)) part.spelled
 
 pub part_long : (k : Container) (b : ℕ) (at : PosIndex) (e : Encoding) (body : ℕ) (holds : Option Contents) (vs : List Value) → IsIndexOf k.rows at → b < length at.entries
@@ -128,11 +137,33 @@ part_values b at e body holds vs lt given =
 pub in_entries : (rows b : ℕ) (at : PosIndex) → IsIndexOf rows at → b < blocks rows → b < length at.entries
 in_entries rows b at is lt = subst (λ (n : ℕ). b < n) (sym (index_long at is.is_index ∙ ap blocks is.of_rows)) lt
 
+-- a value that is repeated lies between itself and itself
+all_repeated : (p : Value → Bool) (n : ℕ) (v : Value) → p v ≡ true → list_all p (replicate n v) ≡ true
+all_repeated p zero v is = refl
+all_repeated p (suc n) v is = and_from (p v) (list_all p (replicate n v)) is (all_repeated p n v is)
+
+between_itself : (e : Entry) (v : Value) → e.least ≡ v → e.greatest ≡ v → is_between e v ≡ true
+between_itself e v least greatest =
+    and_from (is_le (value_cmp e.least v)) (is_le (value_cmp v e.greatest)) (ap (λ (x : Value). is_le (value_cmp x v)) least ∙ ap is_le (tied_itself value_total v))
+    (ap (λ (x : Value). is_le (value_cmp v x)) greatest ∙ ap is_le (tied_itself value_total v))
+
 -- the values of a block lie between those of its entry
-pub lie_between : (m : Contents) (es : List Encoding) (k : Container) (i b : ℕ) (at : PosIndex) (rows : List Asked) → i ≤ length es → IsIndexOf k.rows at → HasIndex k i at (Some m) → HoldsContainer m es k rows → b < blocks k.rows
+pub lie_between : (m : Contents) (es : List Written) (k : Container) (i b : ℕ) (at : PosIndex) (rows : List Asked) → i ≤ length es → IsIndexOf k.rows at → HasIndex es k i at (Some m) → HoldsContainer m es k rows → b < blocks k.rows
     → IfSome (slice_get at.entries b) (λ e. list_all (is_between e) (stored_values (length es) i (rows_in b rows)) ≡ true)
-lie_between m es k i b at rows le is has held lt =
-    let s = stands at.entries b (in_entries k.rows b at is lt) in
-    let part = part_of (encoding_at es i) (body_of k.base i) (index_of k.base i) k.rows m (stored_values (length es) i rows) at b s.entry is (has m refl) s.there (column_held es k m i rows le held) in
-    subst (λ (o : Option Entry). IfSome o (λ e. list_all (is_between e) (stored_values (length es) i (rows_in b rows)) ≡ true)) (sym s.there)
-    (subst (λ (vs : List Value). list_all (is_between s.entry) vs ≡ true) (block_values (length es) i b rows) part.values.between)
+lie_between m es k i b at rows le is has held lt = by (place_of (length es) k i) refl has
+  where
+    s : Stands at.entries b
+    s = stands at.entries b (in_entries k.rows b at is lt)
+
+    by : (o : Option ℕ) → place_of (length es) k i ≡ o → MatchOption o (IsIndexOfOne (default_at es i) at) (λ place. IsFile (index_of k.base place) (index_spelling at) (Some m))
+        → IfSome (slice_get at.entries b) (λ e. list_all (is_between e) (stored_values (length es) i (rows_in b rows)) ≡ true)
+    by (Some place) there file =
+        let part = part_of (encoding_at es i) (body_of k.base place) (index_of k.base place) k.rows m (stored_values (length es) i rows) at b s.entry is (file m refl) s.there (column_held es k m i place rows there held) in
+        subst (λ (o : Option Entry). IfSome o (λ e. list_all (is_between e) (stored_values (length es) i (rows_in b rows)) ≡ true)) (sym s.there)
+        (subst (λ (vs : List Value). list_all (is_between s.entry) vs ≡ true) (block_values (length es) i b rows) part.values.between)
+    by None none all =
+        let here = of_all (λ (e : Entry). (e.least ≡ default_at es i) × (e.greatest ≡ default_at es i)) at.entries b s.entry s.there all in
+        let values = default_block (Some m) es k i b (replicate (min 1024 (k.rows - 1024 * b)) (default_at es i)) none le refl m refl rows held in
+        subst (λ (o : Option Entry). IfSome o (λ e. list_all (is_between e) (stored_values (length es) i (rows_in b rows)) ≡ true)) (sym s.there)
+        (subst (λ (vs : List Value). list_all (is_between s.entry) vs ≡ true) values
+        (all_repeated (is_between s.entry) (min 1024 (k.rows - 1024 * b)) (default_at es i) (between_itself s.entry (default_at es i) here.0 here.1)))

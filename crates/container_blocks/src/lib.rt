@@ -3,10 +3,11 @@
 //! A block holds 1,024 rows, the last one those that are left, and all columns of a container have the same blocks: block b
 //! holds the rows `rows_in b` of `specs/Blocks.antt`. `index` reads the index of a column, which says for each of its blocks
 //! the least and the greatest value. `block` reads the values of one block of a column and `epochs` the insert epochs of its
-//! rows: where the container holds rows, these are the values of the rows of that block (`AreBlock`, `AreEpochs`). A file is
-//! blamed only where the container holds no rows.
+//! rows: where the container holds rows, these are the values of the rows of that block (`AreBlock`, `AreEpochs`). Of a column
+//! that the container doesn't store both are made in memory, of its default. A file is blamed only where the container holds no rows.
 #![tactic(auto)]
 
+mod defaults;
 mod laws;
 mod reading;
 mod stamps;

@@ -6,21 +6,24 @@ ghost use Rattle.common_laws.specs.Causes.{HasCause};
 ghost use Rattle.col_disk.specs.Moved.{Moved, NoName};
 ghost use Rattle.col_value.specs.Order.{IsValue};
 ghost use Rattle.pos_index.specs.Index.{blocks};
-ghost use Rattle.ros_container.specs.Encodings.{encodings_of};
+ghost use Rattle.ros_container.specs.Encodings.{written_of};
 ghost use Rattle.ros_container.specs.Held.{BlamesContainer};
+ghost use Rattle.ros_container.specs.Readable.{IsReadable};
 ghost use Rattle.container_blocks.specs.Blocks.{IsIndexOf, HasIndex, AreBlock};
-ghost use Rattle.container_blocks.specs.Parts.{ArePart};
+ghost use Rattle.container_blocks.specs.Parts.{ArePart, BlamesPart, IsIndexAt};
 
+use crate::defaults::{default_block, default_index};
 use block_codec::Block;
 use catalog_types::{Container, Projection};
 use col_disk::{Disk, StoreFault};
 use col_file::{read_index, read_values};
+use col_value::Encoding;
 use pos_index::PosIndex;
-use ros_container::{body_of, encoding_of, index_of};
-use std::alloc::Global;
+use ros_container::{body_of, encoding_of, index_of, place_of};
+use std::alloc::{AllocError, Global};
 
 /// The index of a column; behind the columns stand the epochs. `Damaged` names its file, which is absent or no index of so
-/// many rows.
+/// many rows. A column that isn't stored has an index without a file.
 pub fn index<D: Disk>(
     alloc: Global,
     disk: &mut D,
@@ -28,49 +31,55 @@ pub fn index<D: Disk>(
     shape: &Projection,
     column: usize,
 ) -> Result<PosIndex, StoreFault>
-    requires numbers { entry.now.base + 2 * length shape.now.columns + 1 < 2 ^ 62 }
+    requires entry { IsReadable shape.now.columns entry.now }
     requires column { column ≤ length shape.now.columns }
     ensures index { IfOk result (IsIndexOf entry.now.rows) }
-    ensures found { IfOk result (λ at. HasIndex entry.now column at (D.holds disk.old)) }
-    ensures blamed { IfErr result (BlamesContainer (encodings_of shape.now) entry.now (D.holds disk.old)) }
+    ensures found { IfOk result (λ at. HasIndex (written_of shape.now) entry.now column at (D.holds disk.old)) }
+    ensures blamed { IfErr result (BlamesContainer (written_of shape.now) entry.now (D.holds disk.old)) }
     ensures kept { D.holds disk.new ≡ D.holds disk.old }
     ensures moved { Moved ⟦<D as Disk>⟧ NoName NoName disk.old disk.new }
     ensures cause { HasCause StoreFault.Disk (D.faults disk.old) (D.faults disk.new) result }
 {
-    let index = index_of(entry.base, column);
-    read_index(alloc, disk, index, entry.rows)
+    match place_of(entry, shape, column) {
+        Some(place) => {
+            let index = index_of(entry.base, place);
+            read_index(alloc, disk, index, entry.rows)
+        }
+        None => match default_index(alloc, entry, shape, column) {
+            Ok(at) => Ok(at),
+            Err(AllocError) => Err(StoreFault::Memory),
+        },
+    }
 }
 
-/// The values that a block of a column has where its two files hold a column.
+/// The values that a block has where the two files in a place hold a column.
 pub fn part<D: Disk>(
     alloc: Global,
     disk: &mut D,
     entry: &Container,
     at: &PosIndex,
-    shape: &Projection,
-    column: usize,
+    place: usize,
+    encoding: Encoding,
     k: usize,
 ) -> Result<Block, StoreFault>
-    requires numbers { entry.now.base + 2 * length shape.now.columns + 1 < 2 ^ 62 }
-    requires column { column ≤ length shape.now.columns }
+    requires numbers { entry.now.base + 2 * place + 1 < 2 ^ 62 }
     requires index { IsIndexOf entry.now.rows at.now }
     requires block { k < blocks entry.now.rows }
-    ensures found { IfOk result (λ v. HasIndex entry.now column at.now (D.holds disk.old) → ArePart (D.holds disk.old) (encodings_of shape.now) entry.now column k v) }
+    ensures found { IfOk result (λ v. IsIndexAt entry.now place at.now (D.holds disk.old) → ArePart (D.holds disk.old) encoding entry.now place k v) }
     ensures long { IfOk result (λ v. length v ≡ min 1024 (entry.now.rows - 1024 * k)) }
     ensures values { IfOk result (λ v. All IsValue v) }
-    ensures blamed { IfErr result (λ fault. HasIndex entry.now column at.now (D.holds disk.old) → BlamesContainer (encodings_of shape.now) entry.now (D.holds disk.old) fault) }
+    ensures blamed { IfErr result (λ fault. IsIndexAt entry.now place at.now (D.holds disk.old) → BlamesPart (D.holds disk.old) encoding entry.now place fault) }
     ensures kept { D.holds disk.new ≡ D.holds disk.old }
     ensures moved { Moved ⟦<D as Disk>⟧ NoName NoName disk.old disk.new }
     ensures cause { HasCause StoreFault.Disk (D.faults disk.old) (D.faults disk.new) result }
 {
-    let body = body_of(entry.base, column);
-    let encoding = encoding_of(shape, column);
+    let body = body_of(entry.base, place);
     read_values(alloc, disk, body, at, encoding, k)
 }
 
 /// The values of block k of a column, by the index that `index` read of it; behind the columns stand the epochs. Of the body
-/// the bytes of this block are read and no other. `Damaged` names the body, which is absent or has no block of such values
-/// there.
+/// the bytes of this block are read and no other; of a column that isn't stored nothing is read. `Damaged` names the body,
+/// which is absent or has no block of such values there.
 pub fn block<D: Disk>(
     alloc: Global,
     disk: &mut D,
@@ -80,17 +89,26 @@ pub fn block<D: Disk>(
     column: usize,
     k: usize,
 ) -> Result<Block, StoreFault>
-    requires numbers { entry.now.base + 2 * length shape.now.columns + 1 < 2 ^ 62 }
+    requires entry { IsReadable shape.now.columns entry.now }
     requires column { column ≤ length shape.now.columns }
     requires index { IsIndexOf entry.now.rows at.now }
     requires block { k < blocks entry.now.rows }
-    ensures found { IfOk result (λ v. HasIndex entry.now column at.now (D.holds disk.old) → AreBlock (D.holds disk.old) (encodings_of shape.now) entry.now column k v) }
+    ensures found { IfOk result (λ v. HasIndex (written_of shape.now) entry.now column at.now (D.holds disk.old) → AreBlock (D.holds disk.old) (written_of shape.now) entry.now column k v) }
     ensures long { IfOk result (λ v. length v ≡ min 1024 (entry.now.rows - 1024 * k)) }
     ensures values { IfOk result (λ v. All IsValue v) }
-    ensures blamed { IfErr result (λ fault. HasIndex entry.now column at.now (D.holds disk.old) → BlamesContainer (encodings_of shape.now) entry.now (D.holds disk.old) fault) }
+    ensures blamed { IfErr result (λ fault. HasIndex (written_of shape.now) entry.now column at.now (D.holds disk.old) → BlamesContainer (written_of shape.now) entry.now (D.holds disk.old) fault) }
     ensures kept { D.holds disk.new ≡ D.holds disk.old }
     ensures moved { Moved ⟦<D as Disk>⟧ NoName NoName disk.old disk.new }
     ensures cause { HasCause StoreFault.Disk (D.faults disk.old) (D.faults disk.new) result }
 {
-    part(alloc, disk, entry, at, shape, column, k)
+    match place_of(entry, shape, column) {
+        Some(place) => {
+            let encoding = encoding_of(shape, column);
+            part(alloc, disk, entry, at, place, encoding, k)
+        }
+        None => match default_block(alloc, entry, shape, column, k) {
+            Ok(values) => Ok(values),
+            Err(AllocError) => Err(StoreFault::Memory),
+        },
+    }
 }

@@ -1,13 +1,14 @@
 //! The epochs of the rows of a block.
 
-ghost use Rattle.std.specs.Prelude.{◌≡◌, ◌<◌, ◌+◌, ◌*◌, ◌-◌, ◌^◌, pos, min, length, map, IfOk, IfErr, IfSome, IfNone};
+ghost use Rattle.std.specs.Prelude.{◌≡◌, ◌<◌, ◌*◌, ◌-◌, pos, min, length, map, IfOk, IfErr, IfSome, IfNone};
 ghost use Rattle.std.specs.List.{All};
 ghost use Rattle.common_laws.specs.Causes.{HasCause};
 ghost use Rattle.col_disk.specs.Moved.{Moved, NoName};
 ghost use Rattle.col_value.specs.declared.value.Value.TheVariants.{Int};
 ghost use Rattle.pos_index.specs.Index.{blocks};
-ghost use Rattle.ros_container.specs.Encodings.{encodings_of};
+ghost use Rattle.ros_container.specs.Encodings.{written_of};
 ghost use Rattle.ros_container.specs.Held.{BlamesContainer};
+ghost use Rattle.ros_container.specs.Readable.{IsReadable};
 ghost use Rattle.ros_container.specs.Rows.{IsWithin, IsEpochOf};
 ghost use Rattle.container_blocks.specs.Blocks.{IsIndexOf, HasIndex, AreEpochs};
 
@@ -15,6 +16,7 @@ use crate::reading::part;
 use block_codec::Block;
 use catalog_types::{Container, Projection};
 use col_disk::{Disk, StoreFault};
+use col_value::Encoding;
 use pos_index::PosIndex;
 use ros_container::{body_of, epoch_of};
 use std::alloc::{AllocError, Global};
@@ -51,25 +53,25 @@ pub fn epochs<D: Disk>(
     shape: &Projection,
     k: usize,
 ) -> Result<Vec<u64>, StoreFault>
-    requires numbers { entry.now.base + 2 * length shape.now.columns + 1 < 2 ^ 62 }
+    requires entry { IsReadable shape.now.columns entry.now }
     requires index { IsIndexOf entry.now.rows at.now }
     requires block { k < blocks entry.now.rows }
-    ensures found { IfOk result (λ v. HasIndex entry.now (length shape.now.columns) at.now (D.holds disk.old) → AreEpochs (D.holds disk.old) (encodings_of shape.now) entry.now k v.items) }
+    ensures found { IfOk result (λ v. HasIndex (written_of shape.now) entry.now (length shape.now.columns) at.now (D.holds disk.old) → AreEpochs (D.holds disk.old) (written_of shape.now) entry.now k v.items) }
     ensures long { IfOk result (λ v. length v.items ≡ min 1024 (entry.now.rows - 1024 * k)) }
     ensures within { IfOk result (λ v. All (IsWithin entry.now) v.items) }
-    ensures blamed { IfErr result (λ fault. HasIndex entry.now (length shape.now.columns) at.now (D.holds disk.old) → BlamesContainer (encodings_of shape.now) entry.now (D.holds disk.old) fault) }
+    ensures blamed { IfErr result (λ fault. HasIndex (written_of shape.now) entry.now (length shape.now.columns) at.now (D.holds disk.old) → BlamesContainer (written_of shape.now) entry.now (D.holds disk.old) fault) }
     ensures kept { D.holds disk.new ≡ D.holds disk.old }
     ensures moved { Moved ⟦<D as Disk>⟧ NoName NoName disk.old disk.new }
     ensures cause { HasCause StoreFault.Disk (D.faults disk.old) (D.faults disk.new) result }
 {
-    let columns = shape.columns.as_slice().len();
-    let values = match part(alloc, disk, entry, at, shape, columns, k) {
+    let place = entry.stored as usize;
+    let values = match part(alloc, disk, entry, at, place, Encoding::Auto, k) {
         Ok(values) => values,
         Err(fault) => return Err(fault),
     };
     match epochs_of(alloc, entry, &values) {
         Ok(Some(epochs)) => Ok(epochs),
-        Ok(None) => Err(StoreFault::Damaged(body_of(entry.base, columns))),
+        Ok(None) => Err(StoreFault::Damaged(body_of(entry.base, place))),
         Err(AllocError) => Err(StoreFault::Memory),
     }
 }

@@ -10,6 +10,7 @@ use Rattle.col_disk.specs.Moved.{Changed, Moved, NoName}
 use Rattle.col_disk.specs.declared.disk.Disk.{Ghosts}
 use Rattle.col_disk.proofs.Moving.{changed_kept, moved_wider}
 use Rattle.catalog_types.specs.declared.catalogue.Container.{Container}
+use Rattle.catalog_types.specs.declared.catalogue.ProjColumn.{ProjColumn}
 use Rattle.catalog_types.specs.declared.catalogue.Projection.{Projection}
 use Rattle.stored_rows.specs.Listed.{IsVectorFile, SameFiles, SameEntry}
 use Rattle.container_writer.specs.Writing.{DataFrom}
@@ -26,28 +27,28 @@ vector_same : (m n : Contents) (next : ℕ) (o : Option ℕ) → SameBelow next 
 vector_same m n next None same below q is = absurd is
 vector_same m n next (Some v) same below q is = subst (λ (x : ℕ). get n x ≡ get m x) (sym is) (same v below)
 
-pub container_same : (m n : Contents) (next columns : ℕ) (k : Container) → SameBelow next m n → IsBelow next columns k → SameFiles m n columns k
+pub container_same : (m n : Contents) (next : ℕ) (columns : List ProjColumn) (k : Container) → SameBelow next m n → IsBelow next columns k → SameFiles m n k
 container_same m n next columns k same below q (inl (j, small, is)) =
     let end = below.files in subst (λ (x : ℕ). get n x ≡ get m x) (sym is) (same (k.base + j) (omega (arith, small, end)))
 container_same m n next columns k same below q (inr is) = vector_same m n next k.marks same below.vector q is
 
 pub entry_same : (m n : Contents) (next : ℕ) (p : Projection) → SameBelow next m n → IsListedBelow next p → SameEntry m n p
 entry_same m n next p same below =
-    All-weaker (IsBelow next (length p.columns)) (SameFiles m n (length p.columns)) (λ k h. container_same m n next (length p.columns) k same h) p.containers below
+    All-weaker (IsBelow next p.columns) (SameFiles m n) (λ k h. container_same m n next p.columns k same h) p.containers below
 
 -- later numbers
 vector_later : (next after : ℕ) (o : Option ℕ) → next ≤ after → IfSome o (λ v. v < next) → IfSome o (λ v. v < after)
 vector_later next after None le is = tt
 vector_later next after (Some v) le is = omega (arith, le, is)
 
-pub container_later : (next after columns : ℕ) (k : Container) → next ≤ after → IsBelow next columns k → IsBelow after columns k
-container_later next after columns k le below = record { files = let end = below.files in omega (arith, le, end); vector = vector_later next after k.marks le below.vector }
+pub container_later : (next after : ℕ) (columns : List ProjColumn) (k : Container) → next ≤ after → IsBelow next columns k → IsBelow after columns k
+container_later next after columns k le below = record { of_columns = below.of_columns; files = let end = below.files in omega (arith, le, end); vector = vector_later next after k.marks le below.vector }
 
-pub containers_later : (next after columns : ℕ) (ks : List Container) → next ≤ after → All (IsBelow next columns) ks → All (IsBelow after columns) ks
+pub containers_later : (next after : ℕ) (columns : List ProjColumn) (ks : List Container) → next ≤ after → All (IsBelow next columns) ks → All (IsBelow after columns) ks
 containers_later next after columns ks le below = All-weaker (IsBelow next columns) (IsBelow after columns) (λ k h. container_later next after columns k le h) ks below
 
 pub entry_later : (next after : ℕ) (p : Projection) → next ≤ after → IsListedBelow next p → IsListedBelow after p
-entry_later next after p le below = containers_later next after (length p.columns) p.containers le below
+entry_later next after p le below = containers_later next after p.columns p.containers le below
 
 pub entries_later : (next after : ℕ) (ps : List Projection) → next ≤ after → All (IsListedBelow next) ps → All (IsListedBelow after) ps
 entries_later next after ps le below = All-weaker (IsListedBelow next) (IsListedBelow after) (λ p h. entry_later next after p le h) ps below

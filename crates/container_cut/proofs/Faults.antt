@@ -1,8 +1,7 @@
 -- Which file is to blame, seen from an earlier moment.
-use Rattle.std.proofs.Common.{◌≡◌, ℕ, ◌+◌, ◌*◌, ◌<◌, List, [], ◌∷◌, length, get_or, Option, Some, None, sym, subst, inl, inr, arith}
+use Rattle.std.proofs.Common.{◌≡◌, ℕ, ◌+◌, ◌*◌, ◌<◌, ◌≤◌, List, [], ◌∷◌, length, map, take, get_or, Option, Some, None, sym, subst, inl, inr, arith}
 use Rattle.std.specs.Prelude.{Result, Ok, Err, IfOk, IfErr}
 use Rattle.std.specs.List.{All, Any}
-use Rattle.std.proofs.lemmas.List.{length-map}
 use Rattle.std.proofs.lemmas.List.Elements.{All-contains, All-cons, All-nil}
 use Rattle.common_laws.specs.Maps.{Contents}
 use Rattle.col_disk.specs.Moved.{Moved, NoName}
@@ -11,12 +10,14 @@ use Rattle.col_disk.specs.declared.disk.StoreFault.{StoreFault}
 use Rattle.col_disk.specs.declared.disk.StoreFault.TheVariants.{Disk, Damaged, Memory}
 use Rattle.col_disk.proofs.Moving.{moved_told}
 use Rattle.col_file.specs.Held.{BlamesColumn}
+use Rattle.col_value.specs.declared.kinds.Encoding.{Encoding}
+use Rattle.col_value.specs.declared.kinds.Encoding.TheVariants.{Auto}
 use Rattle.col_value.specs.declared.row.Stamped.{Stamped}
 use Rattle.catalog_types.specs.declared.catalogue.Container.{Container}
 use Rattle.catalog_types.specs.declared.catalogue.Projection.{Projection}
-use Rattle.ros_container.specs.Encodings.{encodings_of, encoding_at}
+use Rattle.ros_container.specs.Encodings.{Written, written_of, encoding_at}
 use Rattle.ros_container.specs.Files.{body_of, index_of, IsFileOf}
-use Rattle.ros_container.specs.Held.{BlamesContainer, HoldsNoRows}
+use Rattle.ros_container.specs.Held.{HoldsContainer, BlamesContainer, HoldsNoRows}
 use Rattle.del_vector.specs.declared.mark.Mark.{Mark}
 use Rattle.stored_rows.specs.Listed.{IsVectorFile, SameFiles}
 use Rattle.stored_rows.specs.Held.{HoldsVectorAt, HoldsRows}
@@ -26,6 +27,7 @@ use Rattle.container_writer.specs.Writing.{DataFrom}
 use Rattle.container_cut.specs.Listed.{IsBelow, IsListedBelow}
 use Rattle.container_cut.specs.Blamed.{IsDamageOf, IsDamageIn, Blames, BlamesOne}
 use Rattle.container_cut.proofs.Below.{SameBelow, below_data, container_same}
+use Rattle.container_cut.proofs.Fronts.{front as narrowed, narrow}
 
 -- ---- what the calls that read blame
 
@@ -45,33 +47,37 @@ vector_blamed p k holds (Damaged q) is = λ m told. record {
 vector_blamed p k holds Disk is = tt
 vector_blamed p k holds Memory is = tt
 
-column_named : (base columns i q rows : ℕ) (p : Projection) (holds : Option Contents) → i < columns + 1 → BlamesColumn (encoding_at (encodings_of p) i) (body_of base i) (index_of base i) rows holds (Damaged q) → IsFileOf base columns q
-column_named base columns i q rows p holds lt (inl (is, none)) = (2 * i + 1, omega (arith, lt), omega (arith, is))
-column_named base columns i q rows p holds lt (inr (is, none)) = (2 * i, omega (arith, lt), omega (arith, is))
+column_named : (e : Encoding) (base stored i q rows : ℕ) (holds : Option Contents) → i < stored + 1 → BlamesColumn e (body_of base i) (index_of base i) rows holds (Damaged q) → IsFileOf base stored q
+column_named e base stored i q rows holds lt (inl (is, none)) = (2 * i + 1, omega (arith, lt), omega (arith, is))
+column_named e base stored i q rows holds lt (inr (is, none)) = (2 * i, omega (arith, lt), omega (arith, is))
 
-file_named : (p : Projection) (k : Container) (holds : Option Contents) (q : ℕ) → BlamesContainer (encodings_of p) k holds (Damaged q) → IsFileOf k.base (length (encodings_of p)) q
-file_named p k holds q (inl (i, lt, is)) = column_named k.base (length (encodings_of p)) i q k.rows p holds lt is
-file_named p k holds q (inr (is, none)) = (2 * length (encodings_of p), omega arith, omega (arith, is))
+file_named : (es : List Written) (k : Container) (holds : Option Contents) (q : ℕ) → BlamesContainer es k holds (Damaged q) → IsFileOf k.base k.stored q
+file_named es k holds q (inl (i, lt, is)) = column_named (encoding_at es i) k.base k.stored i q k.rows holds (omega (arith, lt)) is
+file_named es k holds q (inr (inl is)) = column_named Auto k.base k.stored k.stored q k.rows holds (omega arith) is
+file_named es k holds q (inr (inr (is, none))) = (2 * k.stored, omega arith, omega (arith, is))
 
-pub rows_blamed : (p : Projection) (k : Container) (holds : Option Contents) (fault : StoreFault) → BlamesContainer (encodings_of p) k holds fault → HoldsNoRows (encodings_of p) k holds fault → BlamesOne p k holds fault
-rows_blamed p k holds (Damaged q) is nowhere = λ m told. record {
-  listed = inl (subst (λ (x : ℕ). IsFileOf k.base x q) (length-map p.columns (λ c. c.encoding)) (file_named p k holds q is));
-  none = λ rows (marks, here, more, vector, (asked, held, stamp), rest, are). nowhere m told asked held;
+-- what reading the columns that a container stores blames
+pub rows_blamed : (p : Projection) (k : Container) (es : List Written) (holds : Option Contents) → es ≡ take k.stored (written_of p) → k.stored ≤ length (written_of p)
+    → (fault : StoreFault) → BlamesContainer es k holds fault → HoldsNoRows es k holds fault → BlamesOne p k holds fault
+rows_blamed p k es holds front le (Damaged q) is nowhere = λ m told. record {
+  listed = inl (file_named es k holds q is);
+  none = λ rows (marks, here, more, vector, (asked, held, stamp), rest, are).
+      nowhere m told (map (narrowed k.stored) asked) (subst (λ (ws : List Written). HoldsContainer m ws k (map (narrowed k.stored) asked)) (sym front) (narrow m (written_of p) k asked le held));
 }
-rows_blamed p k holds Disk is nowhere = tt
-rows_blamed p k holds Memory is nowhere = tt
+rows_blamed p k es holds front le Disk is nowhere = tt
+rows_blamed p k es holds front le Memory is nowhere = tt
 
 -- ---- the same at an earlier moment, and among others
 
 -- the rows of containers of a projection whose files are the same
-pub rows_same : (m n : Contents) (p : Projection) (ks : List Container) (rows : List Stamped) → All (SameFiles m n (length p.columns)) ks → HoldsRows m (encodings_of p) ks rows → HoldsRows n (encodings_of p) ks rows
+pub rows_same : (m n : Contents) (p : Projection) (ks : List Container) (rows : List Stamped) → All (SameFiles m n) ks → HoldsRows m (written_of p) ks rows → HoldsRows n (written_of p) ks rows
 rows_same m n p ks rows same held = entry_kept m n (record p { containers = ks }) rows same held
 
-pub damage_back : (m l : Contents) (first : ℕ) (p : Projection) (q : ℕ) (k : Container) → SameBelow first m l → IsBelow first (length p.columns) k → IsDamageOf p l q k → IsDamageOf p m q k
+pub damage_back : (m l : Contents) (first : ℕ) (p : Projection) (q : ℕ) (k : Container) → SameBelow first m l → IsBelow first p.columns k → IsDamageOf p l q k → IsDamageOf p m q k
 damage_back m l first p q k same below is = record {
   listed = is.listed;
   none = λ rows held.
-      is.none rows (rows_same m l p (k ∷ []) rows (All-cons (SameFiles m l (length p.columns)) k [] (container_same m l first (length p.columns) k same below) (All-nil (SameFiles m l (length p.columns)))) held);
+      is.none rows (rows_same m l p (k ∷ []) rows (All-cons (SameFiles m l) k [] (container_same m l first p.columns k same below) (All-nil (SameFiles m l))) held);
 }
 
 pub any_back : {X : Type 0} (P Q Low : X → Type 0) (xs : List X) → ((x : X) → Low x → P x → Q x) → All Low xs → Any P xs → Any Q xs
@@ -79,7 +85,7 @@ any_back P Q Low xs h low (i, x, lt, is, p) = (i, x, lt, is, h x (All-contains L
 
 pub entry_back : (m l : Contents) (first : ℕ) (q : ℕ) (p : Projection) → SameBelow first m l → IsListedBelow first p → IsDamageIn l q p → IsDamageIn m q p
 entry_back m l first q p same below is =
-    any_back (IsDamageOf p l q) (IsDamageOf p m q) (IsBelow first (length p.columns)) p.containers (λ k low d. damage_back m l first p q k same low d) below is
+    any_back (IsDamageOf p l q) (IsDamageOf p m q) (IsBelow first p.columns) p.containers (λ k low d. damage_back m l first p q k same low d) below is
 
 -- what is to blame at one place, after other files were written, is so among all
 pub blames_among : {X : Type 0} {D : Type 0} (disk : Ghosts D) {old mid : D} (P : Contents → ℕ → X → Type 0) (Low : X → Type 0) (first : ℕ) (xs : List X) (i : ℕ) (x : X) (fault : StoreFault)

@@ -1,5 +1,6 @@
 pub mod Stamps
 pub mod Below
+pub mod Fronts
 pub mod Faults
 pub mod Cuts
 pub mod Joins

@@ -7,14 +7,14 @@ use Rattle.col_disk.specs.declared.disk.StoreFault.TheVariants.{Disk, Damaged, M
 use Rattle.col_value.specs.declared.row.Stamped.{Stamped}
 use Rattle.catalog_types.specs.declared.catalogue.Container.{Container}
 use Rattle.catalog_types.specs.declared.catalogue.Projection.{Projection}
-use Rattle.ros_container.specs.Encodings.{encodings_of}
+use Rattle.ros_container.specs.Encodings.{written_of}
 use Rattle.stored_rows.specs.Listed.{IsListedOf}
 use Rattle.stored_rows.specs.Held.{HoldsRows}
 
 -- the file is one of a container of a projection, or its delete vector, and the container with its delete vector holds no rows
 pub record IsDamageOf (p : Projection) (m : Contents) (q : ℕ) (k : Container) : Type 0 where
-  pub listed : IsListedOf (length p.columns) k q
-  pub none : (rows : List Stamped) → HoldsRows m (encodings_of p) (k ∷ []) rows → ⊥
+  pub listed : IsListedOf k q
+  pub none : (rows : List Stamped) → HoldsRows m (written_of p) (k ∷ []) rows → ⊥
 
 abbrev pub IsDamageAmong : Projection → Contents → ℕ → List Container → Type 0
 IsDamageAmong p m q ks = Any (IsDamageOf p m q) ks

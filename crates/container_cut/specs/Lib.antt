@@ -1,3 +1,4 @@
 pub mod Listed
 pub mod Cutting
+pub mod Fronts
 pub mod Blamed

@@ -15,7 +15,7 @@ use Rattle.col_value.specs.declared.kinds.Encoding.{Encoding}
 use Rattle.col_value.specs.declared.kinds.Encoding.TheVariants.{Auto}
 use Rattle.col_value.specs.declared.row.Asked.{Asked}
 use Rattle.col_value.specs.declared.value.Value.{Value}
-use Rattle.ros_container.specs.Encodings.{encoding_at}
+use Rattle.ros_container.specs.Encodings.{Written, encoding_at}
 use Rattle.ros_container.specs.Files.{body_of, index_of, IsFileOf}
 use Rattle.ros_container.specs.Held.{HoldsContainer}
 use Rattle.ros_container.specs.Rows.{stored_values, AreWide, AreWithin}
@@ -42,14 +42,15 @@ at_entry : (e d : Encoding) (base k_base i j rows k_rows : ℕ) (m : Contents) (
 at_entry e d base k_base i j rows k_rows m vs ws same_encoding same_place same_base same_rows same held = rw (← same_encoding, ← same_place, same_base, same_rows, ← same) held
 
 -- all columns are held
-pub all_held : (base columns count : ℕ) (encodings : List Encoding) (m : Contents) (rows : List Asked) (k : Container) → length encodings ≡ columns
-    → ((j : ℕ) → j < columns + 1 → HoldsColumn (encoding_at encodings j) (body_of base j) (index_of base j) count m (stored_values columns j rows))
-    → AreWide columns rows → k.base ≡ base → k.rows ≡ count → AreWithin k rows → HoldsContainer m encodings k rows
-all_held base columns count encodings m rows k long held wide same_base same_rows within =
-    let last : encoding_at encodings columns ≡ Auto = ap (encoding_at encodings) (sym long) ∙ epochs_auto encodings in
+pub all_held : (base columns count : ℕ) (written : List Written) (m : Contents) (rows : List Asked) (k : Container) → length written ≡ columns
+    → ((j : ℕ) → j < columns + 1 → HoldsColumn (encoding_at written j) (body_of base j) (index_of base j) count m (stored_values columns j rows))
+    → AreWide columns rows → k.base ≡ base → k.rows ≡ count → k.stored ≡ columns → AreWithin k rows → HoldsContainer m written k rows
+all_held base columns count written m rows k long held wide same_base same_rows stored within =
+    let last : encoding_at written columns ≡ Auto = ap (encoding_at written) (sym long) ∙ epochs_auto written in
     record {
-      each = λ i lt. at_entry _ _ base k.base i i count k.rows m _ _ refl refl same_base same_rows (stored_column columns i rows (omega (arith, lt, long))) (held i (omega (arith, lt, long)));
-      epochs = at_entry _ _ base k.base columns (length encodings) count k.rows m _ _ last (sym long) same_base same_rows (stored_epochs columns rows) (held columns (omega arith));
+      each = λ i lt. at_entry _ _ base k.base i i count k.rows m _ _ refl refl same_base same_rows (stored_column columns i rows (omega (arith, lt, stored))) (held i (omega (arith, lt, stored)));
+      defaults = λ i behind lt. absurd (omega (arith, behind, lt, stored, long));
+      epochs = at_entry _ _ base k.base columns k.stored count k.rows m _ _ last (sym stored) same_base same_rows (stored_epochs columns rows) (held columns (omega arith));
       wide = subst (λ (n : ℕ). AreWide n rows) (sym long) wide;
       within = within;
     }

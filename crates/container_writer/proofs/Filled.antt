@@ -10,11 +10,11 @@ use Rattle.col_disk.specs.Calls.{Stepped}
 use Rattle.col_disk.specs.Moved.{Changed, Moved, NoName, Named}
 use Rattle.col_disk.specs.declared.disk.Disk.{Ghosts}
 use Rattle.col_disk.proofs.Moving.{changed_kept}
-use Rattle.col_value.specs.declared.kinds.Encoding.{Encoding}
 use Rattle.col_value.specs.declared.row.Asked.{Asked}
 use Rattle.col_value.specs.declared.row.Stamped.{Stamped}
 use Rattle.catalog_types.specs.declared.catalogue.Container.{Container}
 use Rattle.catalog_types.specs.Numbers.{file_count, container_count}
+use Rattle.ros_container.specs.Encodings.{Written}
 use Rattle.ros_container.specs.Files.{IsFileOf}
 use Rattle.ros_container.specs.Held.{HoldsContainer}
 use Rattle.ros_container.specs.Rows.{AreWithin}
@@ -51,7 +51,7 @@ pub told_before : {D : Type 0} (disk : Ghosts D) {W R : ℕ → Type 0} {old new
 told_before disk {W} {R} {old} {new} n told moved = stepped_before (Changed W R) (disk.holds old) (disk.holds new) n told moved.contents
 
 -- the rows are held on while a vector behind them is written
-rows_stay : (m n : Contents) (es : List Encoding) (columns base number : ℕ) (k : Container) (rows : List Asked) → length es ≡ columns → k.base ≡ base → number ≡ base + file_count columns
+rows_stay : (m n : Contents) (es : List Written) (columns base number : ℕ) (k : Container) (rows : List Asked) → k.stored ≡ columns → k.base ≡ base → number ≡ base + file_count columns
     → Changed (Named (vector_file number)) NoName m n → HoldsContainer m es k rows → HoldsContainer n es k rows
 rows_stay m n es columns base number k rows wide at behind changed held =
     rows_kept m n es k rows
@@ -60,25 +60,26 @@ rows_stay m n es columns base number k rows wide at behind changed held =
     let is = f.2 in
     changed_kept (Named (vector_file number)) NoName m n q (λ same. omega (arith, wide, at, behind, within, is, same)) (λ x. x) changed) held
 
-pub one_held : {D : Type 0} (disk : Ghosts D) {mid new : D} (es : List Encoding) (columns base number count : ℕ) (entry k : Container) (rows : List Asked) (marks : List Mark)
-    → length es ≡ columns → number ≡ base + file_count columns → entry.base ≡ base → entry.rows ≡ count → AreWithin entry rows → k ≡ with_vector number marks entry
-    → ((m : Contents) → disk.holds mid ≡ Some m → (j : Container) → j.base ≡ base → j.rows ≡ count → AreWithin j rows → HoldsContainer m es j rows)
+pub one_held : {D : Type 0} (disk : Ghosts D) {mid new : D} (es : List Written) (columns base number count : ℕ) (entry k : Container) (rows : List Asked) (marks : List Mark)
+    → entry.stored ≡ columns → number ≡ base + file_count columns → entry.base ≡ base → entry.rows ≡ count → AreWithin entry rows → k ≡ with_vector number marks entry
+    → ((m : Contents) → disk.holds mid ≡ Some m → (j : Container) → j.base ≡ base → j.rows ≡ count → j.stored ≡ columns → AreWithin j rows → HoldsContainer m es j rows)
     → ((m : Contents) → disk.holds new ≡ Some m → HoldsVector m k marks) → Moved disk (Named (vector_file number)) NoName mid new
     → (m : Contents) → disk.holds new ≡ Some m → HoldsOne m es k (stamped_from 0 (epoch_at marks) rows)
 one_held disk es columns base number count entry k rows marks wide behind at long within is held vector moved m told =
     let before = told_before disk m told moved in
     let k_base : k.base ≡ base = ap (λ (j : Container). j.base) is ∙ at in
     let k_rows : k.rows ≡ count = ap (λ (j : Container). j.rows) is ∙ long in
+    let k_stored : k.stored ≡ columns = ap (λ (j : Container). j.stored) is ∙ wide in
     let k_within : AreWithin k rows = subst (λ (j : Container). AreWithin j rows) (sym is) within in
-    let here : HoldsContainer before.0 es k rows = held before.0 before.1 k k_base k_rows k_within in
-    (marks, vector m told, (rows, rows_stay before.0 m es columns base number k rows wide k_base behind before.2 here, refl))
+    let here : HoldsContainer before.0 es k rows = held before.0 before.1 k k_base k_rows k_stored k_within in
+    (marks, vector m told, (rows, rows_stay before.0 m es columns base number k rows k_stored k_base behind before.2 here, refl))
 
 -- ---- rows
 
-pub bag_of_none : (m : Contents) (es : List Encoding) (rows : List StampedRef) → rows ≡ [] → HoldsBag m es (listed None) (map stamped_of rows)
+pub bag_of_none : (m : Contents) (es : List Written) (rows : List StampedRef) → rows ≡ [] → HoldsBag m es (listed None) (map stamped_of rows)
 bag_of_none m es rows is = ([], refl, subst (λ (xs : List StampedRef). SameBag (map stamped_of xs) []) (sym is) (bag_refl []))
 
-pub bag_of_one : (m : Contents) (es : List Encoding) (k : Container) (rows : List Stamped) (sorted : List Keyed) (marks : List Mark) → ((i : ℕ) → epoch_at marks i ≡ del_at sorted i)
+pub bag_of_one : (m : Contents) (es : List Written) (k : Container) (rows : List Stamped) (sorted : List Keyed) (marks : List Mark) → ((i : ℕ) → epoch_at marks i ≡ del_at sorted i)
     → SameBag rows (map restamp sorted) → HoldsOne m es k (stamped_from 0 (epoch_at marks) (map asked_of sorted)) → HoldsBag m es (listed (Some k)) rows
 bag_of_one m es k rows sorted marks deleted same (own, vector, marked) =
     let held : List Stamped = stamped_from 0 (epoch_at marks) (map asked_of sorted) in (
@@ -96,16 +97,18 @@ some_there xs none = ap length none
 
 -- ---- numbers
 
-pub numbered : (columns next after : ℕ) (k : Container) → columns ≤ 64 → next < 2 ^ 61 → k.base ≡ next → IfSome k.marks (λ n. n ≡ next + file_count columns) → after ≡ k.base + container_count columns k → IsNumbered columns next after k
-numbered columns next after k most low base vector is = record {
+pub numbered : (columns next after : ℕ) (k : Container) → columns ≤ 64 → next < 2 ^ 61 → 1 ≤ k.rows → k.stored ≡ columns → k.base ≡ next → IfSome k.marks (λ n. n ≡ next + file_count columns) → after ≡ k.base + container_count k → IsNumbered columns next after k
+numbered columns next after k most low rows stored base vector is = record {
+  rows = rows;
+  stored = stored;
   base = base;
   vector = vector;
-  ends = is ∙ ap (λ (n : ℕ). n + container_count columns k) base;
-  below = by k.marks (is ∙ ap (λ (n : ℕ). n + container_count columns k) base);
+  ends = is ∙ ap (λ (n : ℕ). n + container_count k) base;
+  below = by k.marks (is ∙ ap (λ (n : ℕ). n + container_count k) base);
 } where
-  by : (o : Option ℕ) → after ≡ next + (file_count columns + option_map_or (λ _. 1) o 0) → after ≤ 2 ^ 62
-  by None e = omega (arith, e, most, low)
-  by (Some v) e = omega (arith, e, most, low)
+  by : (o : Option ℕ) → after ≡ next + (file_count k.stored + option_map_or (λ _. 1) o 0) → after ≤ 2 ^ 62
+  by None e = omega (arith, e, most, low, stored)
+  by (Some v) e = omega (arith, e, most, low, stored)
 
 -- ---- the entry with its vector
 

@@ -6,7 +6,7 @@ ghost use Rattle.common_laws.specs.Maps.{Contents};
 ghost use Rattle.catalog_types.specs.declared.catalogue.Container.{Container};
 ghost use Rattle.col_disk.specs.Moved.{Moved, NoName, Named, Either};
 ghost use Rattle.col_file.specs.Held.{HoldsColumn};
-ghost use Rattle.ros_container.specs.Encodings.{encodings_of, encoding_at};
+ghost use Rattle.ros_container.specs.Encodings.{written_of, encoding_at};
 ghost use Rattle.ros_container.specs.Files.{body_of, index_of, IsFileOf};
 ghost use Rattle.ros_container.specs.Held.{HoldsContainer};
 ghost use Rattle.ros_container.specs.Rows.{stored_values, AreWide, AreWithin};
@@ -32,7 +32,7 @@ fn write_one<D: Disk>(
     requires numbers { base + 2 * length shape.now.columns + 1 < 2 ^ 62 }
     requires column { column ≤ length shape.now.columns }
     requires some { 0 < length rows.now }
-    ensures held { OnOk result ((m : Contents) → D.holds disk.new ≡ Some m → HoldsColumn (encoding_at (encodings_of shape.now) column) (body_of base column) (index_of base column) (length rows.now) m (stored_values (length shape.now.columns) column (map asked_of rows.now))) }
+    ensures held { OnOk result ((m : Contents) → D.holds disk.new ≡ Some m → HoldsColumn (encoding_at (written_of shape.now) column) (body_of base column) (index_of base column) (length rows.now) m (stored_values (length shape.now.columns) column (map asked_of rows.now))) }
     ensures moved { Moved ⟦<D as Disk>⟧ (Either (Named (body_of base column)) (Named (index_of base column))) NoName disk.old disk.new }
     ensures cause { HasCause DiskFault.Failed (D.faults disk.old) (D.faults disk.new) result }
 {
@@ -58,7 +58,7 @@ pub fn write_rows<D: Disk>(
     requires numbers { base + 2 * length shape.now.columns + 1 < 2 ^ 62 }
     requires some { 0 < length rows.now }
     requires wide { AreWide (length shape.now.columns) (map asked_of rows.now) }
-    ensures held { OnOk result ((m : Contents) → D.holds disk.new ≡ Some m → (k : Container) → k.base ≡ base → k.rows ≡ length rows.now → AreWithin k (map asked_of rows.now) → HoldsContainer m (encodings_of shape.now) k (map asked_of rows.now)) }
+    ensures held { OnOk result ((m : Contents) → D.holds disk.new ≡ Some m → (k : Container) → k.base ≡ base → k.rows ≡ length rows.now → k.stored ≡ length shape.now.columns → AreWithin k (map asked_of rows.now) → HoldsContainer m (written_of shape.now) k (map asked_of rows.now)) }
     ensures moved { Moved ⟦<D as Disk>⟧ (IsFileOf base (length shape.now.columns)) NoName disk.old disk.new }
     ensures cause { HasCause DiskFault.Failed (D.faults disk.old) (D.faults disk.new) result }
 {

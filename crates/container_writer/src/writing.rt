@@ -7,7 +7,7 @@ ghost use Rattle.common_laws.specs.Maps.{Contents};
 ghost use Rattle.catalog_types.specs.Numbers.{file_count, container_count};
 ghost use Rattle.col_disk.specs.Moved.{Moved, NoName};
 ghost use Rattle.del_vector.specs.Marks.{epoch_at};
-ghost use Rattle.ros_container.specs.Encodings.{encodings_of};
+ghost use Rattle.ros_container.specs.Encodings.{written_of};
 ghost use Rattle.ros_container.specs.Rows.{AreWide, AreWithin};
 ghost use Rattle.stored_rows.specs.Held.{stamped_from};
 ghost use Rattle.container_writer.specs.Ordered.{asked_of, stamped_of};
@@ -55,9 +55,10 @@ fn greatest_epoch(rows: &[Keyed]) -> u64
     greatest
 }
 
-/// The entry of a container of these rows, none of them deleted.
-fn entry_of(base: u64, rows: &[Keyed], level: u32) -> Container
+/// The entry of a container of these rows, none of them deleted, which stores so many columns.
+fn entry_of(base: u64, rows: &[Keyed], level: u32, columns: usize) -> Container
     ensures base { result.base ≡ base }
+    ensures stored { result.stored ≡ columns }
     ensures rows { result.rows ≡ length rows.now }
     ensures level { result.level ≡ level }
     ensures within { AreWithin result (map asked_of rows.now) }
@@ -70,6 +71,7 @@ fn entry_of(base: u64, rows: &[Keyed], level: u32) -> Container
         level,
         marks: None,
         greatest_mark: 0,
+        stored: columns as u64,
     }
 }
 
@@ -81,13 +83,13 @@ fn files_of(columns: usize) -> u64
     2 * (columns as u64 + 1)
 }
 
-/// The number behind those of a container of so many columns.
-fn behind(entry: &Container, columns: usize) -> u64
-    requires most { columns ≤ 64 }
+/// The number behind those of a container.
+fn behind(entry: &Container) -> u64
+    requires most { entry.now.stored ≤ 64 }
     requires numbers { entry.now.base < 2 ^ 61 }
-    ensures { result ≡ entry.now.base + container_count columns entry.now }
+    ensures { result ≡ entry.now.base + container_count entry.now }
 {
-    let end = entry.base + files_of(columns);
+    let end = entry.base + files_of(entry.stored as usize);
     match entry.marks {
         Some(_) => end + 1,
         None => end,
@@ -112,7 +114,9 @@ fn write_marked<D: Disk>(
     ensures base { IfOk result (λ k. k.base ≡ base) }
     ensures vector { IfOk result (λ k. IfSome k.marks (λ n. n ≡ base + file_count (length shape.now.columns))) }
     ensures level { IfOk result (λ k. k.level ≡ level) }
-    ensures held { IfOk result (λ k. (m : Contents) → D.holds disk.new ≡ Some m → HoldsOne m (encodings_of shape.now) k (stamped_from 0 (epoch_at marks.now.marks) (map asked_of rows.now))) }
+    ensures rows { IfOk result (λ k. k.rows ≡ length rows.now) }
+    ensures stored { IfOk result (λ k. k.stored ≡ length shape.now.columns) }
+    ensures held { IfOk result (λ k. (m : Contents) → D.holds disk.new ≡ Some m → HoldsOne m (written_of shape.now) k (stamped_from 0 (epoch_at marks.now.marks) (map asked_of rows.now))) }
     ensures moved { Moved ⟦<D as Disk>⟧ (DataFrom base) NoName disk.old disk.new }
     ensures cause { HasCause DiskFault.Failed (D.faults disk.old) (D.faults disk.new) result }
 {
@@ -120,12 +124,13 @@ fn write_marked<D: Disk>(
         Ok(()) => {}
         Err(fault) => return Err(fault),
     }
-    let entry = entry_of(base, rows, level);
-    let number = base + files_of(shape.columns.as_slice().len());
+    let columns = shape.columns.as_slice().len();
+    let entry = entry_of(base, rows, level, columns);
+    let number = base + files_of(columns);
     write_vector(alloc, disk, entry, number, marks)
 }
 
-/// Writes rows as one container of a level, in container order, with numbers from `next` on. Rows that can't stand in a container, and
+/// Writes rows as one container of a level that stores all columns of the shape, in container order, with numbers from `next` on. Rows that can't stand in a container, and
 /// numbers from 2^61 on, are answered as want of memory: no store has such. After a fault files of these numbers are absent or hold
 /// anything.
 pub fn write_stamped<D: Disk>(
@@ -136,7 +141,7 @@ pub fn write_stamped<D: Disk>(
     level: u32,
     next: u64,
 ) -> Result<Written, DiskFault>
-    ensures held { IfOk result (λ w. (m : Contents) → D.holds disk.new ≡ Some m → HoldsBag m (encodings_of shape.now) (listed w.container) (map stamped_of rows.entry.items)) }
+    ensures held { IfOk result (λ w. (m : Contents) → D.holds disk.new ≡ Some m → HoldsBag m (written_of shape.now) (listed w.container) (map stamped_of rows.entry.items)) }
     ensures numbers { IfOk result (λ w. AreNumbered (length shape.now.columns) next w.next w.container) }
     ensures upto { IfOk result (λ w. w.next ≤ next + 2 * (length shape.now.columns + 1) + 1) }
     ensures none { IfOk result (λ w. (w.container ≡ None) ↔ (rows.entry.items ≡ [])) }
@@ -164,7 +169,7 @@ pub fn write_stamped<D: Disk>(
     };
     match write_marked(alloc, disk, shape, sorted.as_slice(), &marks, level, next) {
         Ok(container) => Ok(Written {
-            next: behind(&container, columns),
+            next: behind(&container),
             container: Some(container),
         }),
         Err(fault) => Err(fault),

@@ -15,14 +15,15 @@ use Rattle.catalog_types.specs.declared.catalogue.Container.{Container}
 use Rattle.catalog_types.specs.declared.catalogue.Projection.{Projection}
 use Rattle.catalog_types.specs.declared.catalogue.Table as kept
 use Rattle.catalog_types.specs.declared.catalogue.Catalogue.{Catalogue}
-use Rattle.catalog_types.specs.Parts.{IsContainer, IsProjection, IsTable}
+use Rattle.catalog_types.specs.Parts.{IsProjection, IsTable}
 use Rattle.catalog_types.specs.Valid.{IsValid}
 use Rattle.catalog_types.specs.Reached.{least_lge}
-use Rattle.ros_container.specs.Encodings.{encodings_of}
+use Rattle.ros_container.specs.Encodings.{written_of}
 use Rattle.stored_rows.specs.Listed.{SameEntry}
 use Rattle.stored_rows.proofs.KeptRows.{entry_kept}
 use Rattle.folder_model.specs.Projections.{shape_of}
-use Rattle.proj_store.specs.Sound.{HasFileNumbers, HasVectorNumber, IsLoadable}
+use Rattle.ros_container.specs.Readable.{IsReadable}
+use Rattle.proj_store.specs.Sound.{HasVectorNumber, IsLoadable}
 use Rattle.container_writer.specs.Writing.{DataFrom}
 use Rattle.cut_model.specs.Cut.{CutsRows, IsCutEntry, IsCutTable}
 use Rattle.container_cut.specs.Listed.{IsBelow, IsListedBelow}
@@ -31,6 +32,7 @@ use Rattle.container_cut.specs.Blamed.{IsDamageIn}
 use Rattle.container_cut.proofs.Below.{SameBelow, below_data, entry_same, entries_later, moved_between, number_low}
 use Rattle.container_cut.proofs.Faults.{any_back, entry_back}
 use Rattle.cut_job.specs.Blamed.{IsDamageInTable}
+use Rattle.proj_store.proofs.Listed.{valid_of_columns}
 use Rattle.proj_store.proofs.Vectors.{valid_loads}
 use Rattle.cut_job.specs.Listed.{IsTableBelow, HasLoadable}
 use Rattle.cut_job.specs.Cutting.{CutsProjection, CutsProjections, CutsTable, CutsTables, CutsCatalogue}
@@ -38,7 +40,7 @@ use Rattle.cut_job.specs.Cutting.{CutsProjection, CutsProjections, CutsTable, Cu
 -- ---- one entry
 
 -- what was up to date
-pub entry_fresh : (m n : Contents) (epoch : ℕ) (p q : Projection) (js : List Container) → p.fresh ≡ true → length js ≤ length p.containers → q ≡ record p { lge = epoch; containers = js } → CutsContainers (encodings_of p) epoch p.containers js m n → CutsProjection epoch p q m n
+pub entry_fresh : (m n : Contents) (epoch : ℕ) (p q : Projection) (js : List Container) → p.fresh ≡ true → length js ≤ length p.containers → q ≡ record p { lge = epoch; containers = js } → CutsContainers (written_of p) epoch p.containers js m n → CutsProjection epoch p q m n
 entry_fresh m n epoch p q js fresh fewer is cuts mark = subst (IsCutEntry m n mark epoch p) (sym is) (record {
   shape = sym (ap (λ (b : Bool). cond b (record (shape_of p) { lge = epoch }) (shape_of p)) fresh);
   rows = subst (λ (b : Bool). OnTrue b (CutsRows m n mark epoch p (record p { lge = epoch; containers = js }))) (sym fresh)
@@ -60,21 +62,21 @@ entry_stale m n epoch p q js stale fewer none is mark = subst (IsCutEntry m n ma
 
 -- whichever it was
 pub entry_cut : (epoch lge : ℕ) (p q : Projection) (js : List Container) (found left : Option Contents) → length js ≤ length p.containers → lge ≡ cond p.fresh epoch p.lge → q ≡ record p { lge = lge; containers = js }
-    → OnTrue p.fresh (Between (CutsContainers (encodings_of p) epoch p.containers js) found left) → OnFalse p.fresh (js ≡ []) → Between (CutsProjection epoch p q) found left
+    → OnTrue p.fresh (Between (CutsContainers (written_of p) epoch p.containers js) found left) → OnFalse p.fresh (js ≡ []) → Between (CutsProjection epoch p q) found left
 entry_cut epoch lge p q js found left fewer lge_is is cuts none m n before after = by p.fresh refl lge_is cuts none
   where
-    by : (b : Bool) → p.fresh ≡ b → lge ≡ cond b epoch p.lge → OnTrue b (Between (CutsContainers (encodings_of p) epoch p.containers js) found left) → OnFalse b (js ≡ []) → CutsProjection epoch p q m n
+    by : (b : Bool) → p.fresh ≡ b → lge ≡ cond b epoch p.lge → OnTrue b (Between (CutsContainers (written_of p) epoch p.containers js) found left) → OnFalse b (js ≡ []) → CutsProjection epoch p q m n
     by true fresh le cuts none = entry_fresh m n epoch p q js fresh fewer (is ∙ ap (λ (e : ℕ). record p { lge = e; containers = js }) le) (cuts m n before after)
     by false stale le cuts none = entry_stale m n epoch p q js stale fewer none (is ∙ ap (λ (e : ℕ). record p { lge = e; containers = js }) le)
 
-pub entry_loads : (next lge : ℕ) (p q : Projection) (js : List Container) → next ≤ 2 ^ 62 → q ≡ record p { lge = lge; containers = js } → All (IsBelow next (length p.columns)) js → IsLoadable p → IsLoadable q
+pub entry_loads : (next lge : ℕ) (p q : Projection) (js : List Container) → next ≤ 2 ^ 62 → q ≡ record p { lge = lge; containers = js } → All (IsBelow next p.columns) js → IsLoadable p → IsLoadable q
 entry_loads next lge p q js le is below loads = subst IsLoadable (sym is) (record {
-  files = All-weaker (IsBelow next (length p.columns)) (HasFileNumbers (length p.columns)) (λ k h. let end = h.files in omega (arith, le, end)) js below;
-  vectors = All-weaker (IsBelow next (length p.columns)) HasVectorNumber (λ k h. number_low next k.marks le h.vector) js below;
+  files = All-weaker (IsBelow next p.columns) (IsReadable p.columns) (λ k h. let end = h.files in record { of_columns = h.of_columns; numbers = omega (arith, le, end) }) js below;
+  vectors = All-weaker (IsBelow next p.columns) HasVectorNumber (λ k h. number_low next k.marks le h.vector) js below;
   sort = loads.sort;
 })
 
-pub entry_listed : (next lge : ℕ) (p q : Projection) (js : List Container) → q ≡ record p { lge = lge; containers = js } → All (IsBelow next (length p.columns)) js → IsListedBelow next q
+pub entry_listed : (next lge : ℕ) (p q : Projection) (js : List Container) → q ≡ record p { lge = lge; containers = js } → All (IsBelow next p.columns) js → IsListedBelow next q
 entry_listed next lge p q js is below = subst (IsListedBelow next) (sym is) below
 
 -- ---- an entry among others
@@ -247,8 +249,9 @@ vector_below next None is = tt
 vector_below next (Some n) is = is.1
 
 entry_valid : (c : Catalogue) (t : kept.Table) (p : Projection) → IsProjection c t p → IsListedBelow c.next p
-entry_valid c t p is =
-    All-weaker (IsContainer c.next (length p.columns) p.lge) (IsBelow c.next (length p.columns)) (λ k h. record { files = h.files.1; vector = vector_below c.next k.marks h.vector }) p.containers is.containers
+entry_valid c t p is = λ i d at.
+    let of = is.containers i d at in
+    record { of_columns = valid_of_columns c t p is i d at; files = of.files.1; vector = vector_below c.next (get_or p.containers i d).marks of.vector }
 
 pub valid_below : (c : Catalogue) → IsValid c → All (IsTableBelow c.next) c.tables
 valid_below c valid =

@@ -6,7 +6,7 @@ ghost use Rattle.std.specs.List.{All};
 ghost use Rattle.common_laws.specs.Causes.{HasCause};
 ghost use Rattle.catalog_types.specs.Numbers.{number_count};
 ghost use Rattle.col_disk.specs.Moved.{Moved, NoName};
-ghost use Rattle.ros_container.specs.Encodings.{encodings_of};
+ghost use Rattle.ros_container.specs.Encodings.{written_of};
 ghost use Rattle.container_writer.specs.Writing.{DataFrom};
 ghost use Rattle.proj_store.specs.Sound.{IsLoadable};
 ghost use Rattle.container_cut.specs.Listed.{IsBelow, IsListedBelow};
@@ -15,7 +15,7 @@ ghost use Rattle.cut_job.specs.Cutting.{CutsProjection, CutsProjections};
 ghost use Rattle.container_cut.specs.Blamed.{BlamesProjection};
 ghost use Rattle.cut_job.specs.Blamed.{BlamesProjections};
 
-use catalog_types::{Container, Projection};
+use catalog_types::{Container, Projection, copy_proj_columns};
 use col_disk::{Disk, StoreFault};
 use col_value::List;
 use container_cut::{CutContainers, cut_containers};
@@ -38,7 +38,7 @@ fn with_containers(
     ensures { IfOk result (λ q. q ≡ record p.now { lge = lge; containers = containers.items }) }
 {
     let name = p.name.copy(alloc)?;
-    let columns = List::new(Vec::from_slice(alloc, p.columns.as_slice())?);
+    let columns = List::new(copy_proj_columns(alloc, p.columns.as_slice())?);
     let sort = List::new(Vec::from_slice(alloc, p.sort.as_slice())?);
     Ok(Projection {
         name,
@@ -68,10 +68,10 @@ fn containers_after<D: Disk>(
 ) -> Result<CutContainers, StoreFault>
     requires numbers { next ≤ 2 ^ 62 }
     requires below { IsListedBelow next p.now }
-    ensures cut { IfOk result (λ r. OnTrue p.now.fresh (Between (CutsContainers (encodings_of p.now) epoch p.now.containers r.containers.items) (D.holds disk.old) (D.holds disk.new))) }
+    ensures cut { IfOk result (λ r. OnTrue p.now.fresh (Between (CutsContainers (written_of p.now) epoch p.now.containers r.containers.items) (D.holds disk.old) (D.holds disk.new))) }
     ensures stale { IfOk result (λ r. OnFalse p.now.fresh (r.containers.items ≡ [])) }
     ensures next { IfOk result (λ r. (next ≤ r.next) × (r.next ≤ 2 ^ 62)) }
-    ensures below { IfOk result (λ r. All (IsBelow r.next (length p.now.columns)) r.containers.items) }
+    ensures below { IfOk result (λ r. All (IsBelow r.next p.now.columns) r.containers.items) }
     ensures count { IfOk result (λ r. length r.containers.items ≤ length p.now.containers) }
     ensures few { IfOk result (λ r. r.next ≤ next + number_count p.now) }
     ensures blamed { IfErr result (BlamesProjection p.now (D.holds disk.old)) }

@@ -38,10 +38,6 @@ at_some P [] i d is = absurd is
 at_some P (x ∷ xs) zero d is = is
 at_some P (x ∷ xs) (suc i) d is = at_some P xs i d is
 
--- an entry of no container
-abbrev pub blank : Container
-blank = record { base = 0; rows = 0; least_epoch = 0; greatest_epoch = 0; level = 0; marks = None; greatest_mark = 0 }
-
 abbrev pub beside : List Mark → List Mark → Beside
 beside held fresh = record { held = held; fresh = fresh }
 
@@ -58,14 +54,14 @@ kept_here (k ∷ ks) (b ∷ bs) (suc i) d held fresh all lt first second = kept_
 -- what was opened of the container at a place
 pub opened_at : (p : Projected) (shape : Projection) (ks : List Container) (i : ℕ) (d : Container) (held fresh : List Mark) (places : List (Option ℕ)) (holds : Option Contents) (o : Opening)
     → shape ≡ p.entry → ks ≡ shape.containers → i < length ks → IsSomeAnd (slice_get p.beside i) (λ b. held ≡ b.held) → IsSomeAnd (slice_get p.beside i) (λ b. fresh ≡ b.fresh)
-    → HasOpened (get_or ks i d) (length shape.columns) (beside held fresh) places holds o → HasOpenedAt p i places holds o
+    → HasOpened (written_of shape) (get_or ks i d) (length shape.columns) (beside held fresh) places holds o → HasOpenedAt p i places holds o
 opened_at p shape ks i d held fresh places holds o same are lt first second has =
-    subst (λ (cs : List Container). IsSomeAnd (slice_get cs i) (λ k. IsSomeAnd (slice_get p.beside i) (λ b. HasOpened k (length p.entry.columns) b places holds o))) (are ∙ ap (λ (s : Projection). s.containers) same)
-    (some_at (λ k. IsSomeAnd (slice_get p.beside i) (λ b. HasOpened k (length p.entry.columns) b places holds o)) ks i d lt
-    (by p.beside i first second (subst (λ (s : Projection). HasOpened (get_or ks i d) (length s.columns) (beside held fresh) places holds o) same has)))
+    subst (λ (cs : List Container). IsSomeAnd (slice_get cs i) (λ k. IsSomeAnd (slice_get p.beside i) (λ b. HasOpened (written_of p.entry) k (length p.entry.columns) b places holds o))) (are ∙ ap (λ (s : Projection). s.containers) same)
+    (some_at (λ k. IsSomeAnd (slice_get p.beside i) (λ b. HasOpened (written_of p.entry) k (length p.entry.columns) b places holds o)) ks i d lt
+    (by p.beside i first second (subst (λ (s : Projection). HasOpened (written_of s) (get_or ks i d) (length s.columns) (beside held fresh) places holds o) same has)))
   where
     by : (bs : List Beside) (j : ℕ) → IsSomeAnd (slice_get bs j) (λ b. held ≡ b.held) → IsSomeAnd (slice_get bs j) (λ b. fresh ≡ b.fresh)
-        → HasOpened (get_or ks i d) (length p.entry.columns) (beside held fresh) places holds o → IsSomeAnd (slice_get bs j) (λ b. HasOpened (get_or ks i d) (length p.entry.columns) b places holds o)
+        → HasOpened (written_of p.entry) (get_or ks i d) (length p.entry.columns) (beside held fresh) places holds o → IsSomeAnd (slice_get bs j) (λ b. HasOpened (written_of p.entry) (get_or ks i d) (length p.entry.columns) b places holds o)
     by [] j first second has = absurd first
-    by (b ∷ bs) zero first second has = subst (λ (x : Beside). HasOpened (get_or ks i d) (length p.entry.columns) x places holds o) (beside_is b held fresh first second) has
+    by (b ∷ bs) zero first second has = subst (λ (x : Beside). HasOpened (written_of p.entry) (get_or ks i d) (length p.entry.columns) x places holds o) (beside_is b held fresh first second) has
     by (b ∷ bs) (suc j) first second has = by bs j first second has

@@ -6,17 +6,16 @@ use Rattle.std.proofs.lemmas.List.Folds.{list_any-append}
 use Rattle.common_laws.specs.Maps.{Contents}
 use Rattle.catalog_types.specs.declared.catalogue.Container.{Container}
 use Rattle.catalog_types.specs.declared.catalogue.Projection.{Projection}
-use Rattle.col_value.specs.declared.kinds.Encoding.{Encoding}
 use Rattle.col_value.specs.declared.row.Asked.{Asked}
 use Rattle.col_value.specs.declared.row.Stamped.{Stamped}
 use Rattle.del_vector.specs.declared.mark.Mark.{Mark}
-use Rattle.ros_container.specs.Encodings.{encodings_of}
+use Rattle.ros_container.specs.Encodings.{Written, written_of}
 use Rattle.row_history.specs.History.{is_retained}
 use Rattle.stored_rows.specs.Held.{HoldsMarked, stamped_from}
 use Rattle.stored_rows.specs.Stored.{Beside, Projected, Stores, StoresRows, mark_in}
 use Rattle.exec_scan.specs.Retaining.{is_kept, keeps_from, KeepsAt}
 use Rattle.exec_scan.proofs.Handed.{beside, some_at}
-use Rattle.proj_store.proofs.BlockRows.{container_long}
+use Rattle.ros_container.proofs.Long.{container_long}
 
 -- the same epochs keep the same rows
 pub same_keeps : (mark : ℕ) (f g : ℕ → Option ℕ) → ((i : ℕ) → f i ≡ g i) → (first count : ℕ) → keeps_from mark f first count ≡ keeps_from mark g first count
@@ -27,7 +26,7 @@ rows_keep : (mark : ℕ) (f : ℕ → Option ℕ) (first : ℕ) (rows : List Ask
 rows_keep mark f first [] = refl
 rows_keep mark f first (a ∷ rows) = ap (λ (b : Bool). is_kept mark (f first) || b) (rows_keep mark f (first + 1) rows)
 
-held_keep : (m : Contents) (es : List Encoding) (mark : ℕ) (k : Container) (b : Beside) (rows : List Stamped) → HoldsMarked m es k (mark_in b) rows → list_any (is_retained mark) rows ≡ keeps_from mark (mark_in b) 0 k.rows
+held_keep : (m : Contents) (es : List Written) (mark : ℕ) (k : Container) (b : Beside) (rows : List Stamped) → HoldsMarked m es k (mark_in b) rows → list_any (is_retained mark) rows ≡ keeps_from mark (mark_in b) 0 k.rows
 held_keep m es mark k b rows (asked, held, are) =
     ap (list_any (is_retained mark)) are ∙ rows_keep mark (mark_in b) 0 asked ∙ ap (keeps_from mark (mark_in b) 0) (container_long m es k asked held)
 
@@ -50,8 +49,8 @@ keeps_here mark p shape ks i d held fresh keeps same are lt first second is =
 -- of the containers before a place no row is retained
 abbrev pub NoneBefore : ℕ → Projected → ℕ → Type 0
 NoneBefore mark p i =
-    (m : Contents) (saved : List Stamped) → StoresRows m (encodings_of p.entry) p.entry.containers p.beside saved
-    → (rest : List Stamped) × StoresRows m (encodings_of p.entry) (drop i p.entry.containers) (drop i p.beside) rest × (list_any (is_retained mark) saved ≡ list_any (is_retained mark) rest)
+    (m : Contents) (saved : List Stamped) → StoresRows m (written_of p.entry) p.entry.containers p.beside saved
+    → (rest : List Stamped) × StoresRows m (written_of p.entry) (drop i p.entry.containers) (drop i p.beside) rest × (list_any (is_retained mark) saved ≡ list_any (is_retained mark) rest)
 
 pub none_yet : (mark : ℕ) (p : Projected) → NoneBefore mark p 0
 none_yet mark p m saved stores = (saved, stores, refl)
@@ -60,7 +59,7 @@ abbrev Two : ℕ → List Container → List Beside → ℕ → Bool → Type 0
 Two mark ks bs i keeps = IsSomeAnd (slice_get ks i) (λ k. IsSomeAnd (slice_get bs i) (λ b. keeps ≡ keeps_from mark (mark_in b) 0 k.rows))
 
 -- the rows of the container at a place, and those behind it
-split_at : (m : Contents) (es : List Encoding) (mark : ℕ) (ks : List Container) (bs : List Beside) (i : ℕ) (keeps : Bool) (rows : List Stamped) → Two mark ks bs i keeps → StoresRows m es (drop i ks) (drop i bs) rows
+split_at : (m : Contents) (es : List Written) (mark : ℕ) (ks : List Container) (bs : List Beside) (i : ℕ) (keeps : Bool) (rows : List Stamped) → Two mark ks bs i keeps → StoresRows m es (drop i ks) (drop i bs) rows
     → (rest : List Stamped) × StoresRows m es (drop (suc i) ks) (drop (suc i) bs) rest × (list_any (is_retained mark) rows ≡ (keeps || list_any (is_retained mark) rest))
 split_at m es mark [] bs i keeps rows two stores = absurd two
 split_at m es mark (k ∷ ks) [] i keeps rows two stores = by i (slice_get (k ∷ ks) i) two
@@ -80,17 +79,17 @@ split_at m es mark (k ∷ ks) (b ∷ bs) (suc i) keeps rows two stores = split_a
 pub none_next : (mark : ℕ) (p : Projected) (i : ℕ) (keeps : Bool) → keeps ≡ false → KeepsAt mark p i keeps → NoneBefore mark p i → NoneBefore mark p (i + 1)
 none_next mark p i keeps off at none m saved stores =
     let (left, there, same) = none m saved stores in
-    let (rest, behind, is) = split_at m (encodings_of p.entry) mark p.entry.containers p.beside i keeps left at there in
+    let (rest, behind, is) = split_at m (written_of p.entry) mark p.entry.containers p.beside i keeps left at there in
     let next : suc i ≡ i + 1 = omega arith in (
       rest,
-      subst (λ (n : ℕ). StoresRows m (encodings_of p.entry) (drop n p.entry.containers) (drop n p.beside) rest) next behind,
+      subst (λ (n : ℕ). StoresRows m (written_of p.entry) (drop n p.entry.containers) (drop n p.beside) rest) next behind,
       same ∙ is ∙ ap (λ (b : Bool). b || list_any (is_retained mark) rest) off,
     )
 
 pub one_found : (mark : ℕ) (p : Projected) (i : ℕ) (keeps : Bool) → keeps ≡ true → KeepsAt mark p i keeps → NoneBefore mark p i → (m : Contents) (rows : List Stamped) → Stores m p rows → true ≡ list_any (is_retained mark) rows
 one_found mark p i keeps on at none m rows (saved, stores, are) =
     let (left, there, same) = none m saved stores in
-    let (rest, behind, is) = split_at m (encodings_of p.entry) mark p.entry.containers p.beside i keeps left at there in
+    let (rest, behind, is) = split_at m (written_of p.entry) mark p.entry.containers p.beside i keeps left at there in
     sym (ap (list_any (is_retained mark)) are ∙ list_any-append (is_retained mark) saved p.unsaved
     ∙ ap (λ (b : Bool). b || list_any (is_retained mark) p.unsaved) (same ∙ is ∙ ap (λ (b : Bool). b || list_any (is_retained mark) rest) on))
 
@@ -109,7 +108,7 @@ memory_left mark p i keeps end none is m rows (saved, stores, are) =
     drop_all (k ∷ ks) zero at = absurd (omega (arith, at))
     drop_all (k ∷ ks) (suc j) at = drop_all ks j (omega (arith, at))
 
-    past : (ks : List Container) (bs : List Beside) (xs : List Stamped) → ks ≡ [] → StoresRows m (encodings_of p.entry) ks bs xs → xs ≡ []
+    past : (ks : List Container) (bs : List Beside) (xs : List Stamped) → ks ≡ [] → StoresRows m (written_of p.entry) ks bs xs → xs ≡ []
     past [] [] xs none left = left
     past [] (b ∷ bs) xs none left = absurd left
     past (k ∷ ks) bs xs none left = absurd (cc)

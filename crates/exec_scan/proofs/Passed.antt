@@ -13,11 +13,9 @@ use Rattle.common_laws.specs.Maps.{Contents}
 use Rattle.common_laws.proofs.BagLaws.{count_append}
 use Rattle.common_laws.proofs.Truths.{and_true}
 use Rattle.catalog_types.specs.declared.catalogue.Container.{Container}
-use Rattle.catalog_types.specs.declared.catalogue.ProjColumn.{ProjColumn}
 use Rattle.catalog_types.specs.declared.catalogue.Projection.{Projection}
 use Rattle.col_file.specs.Read.{is_between}
 use Rattle.col_value.specs.Order.{value_cmp}
-use Rattle.col_value.specs.declared.kinds.Encoding.{Encoding}
 use Rattle.col_value.specs.declared.row.Asked.{Asked}
 use Rattle.col_value.specs.declared.row.Stamped.{Stamped}
 use Rattle.col_value.specs.declared.value.Value.{Value}
@@ -26,7 +24,7 @@ use Rattle.pos_index.specs.Index.{blocks}
 use Rattle.pos_index.specs.declared.index.Entry.{Entry}
 use Rattle.pos_index.specs.declared.index.PosIndex.{PosIndex}
 use Rattle.row_history.specs.History.{is_visible, visible}
-use Rattle.ros_container.specs.Encodings.{encodings_of}
+use Rattle.ros_container.specs.Encodings.{written_as, Written, written_of}
 use Rattle.ros_container.specs.Held.{HoldsContainer}
 use Rattle.ros_container.specs.Rows.{stored_values}
 use Rattle.stored_rows.specs.Stored.{Beside}
@@ -43,43 +41,43 @@ use Rattle.exec_scan.proofs.Blocks.{column_is}
 
 -- the values of a block lie between the two of its entry
 abbrev pub Between : Type 0
-Between = (m : Contents) (encodings : List Encoding) (k : Container) (i b : ℕ) (at : PosIndex) (rows : List Asked) → i ≤ length encodings → IsIndexOf k.rows at → HasIndex k i at (Some m) → HoldsContainer m encodings k rows → b < blocks k.rows
-    → WhereSome (slice_get at.entries b) (λ e. list_all (is_between e) (stored_values (length encodings) i (rows_in b rows)) ≡ true)
+Between = (m : Contents) (written : List Written) (k : Container) (i b : ℕ) (at : PosIndex) (rows : List Asked) → i ≤ length written → IsIndexOf k.rows at → HasIndex written k i at (Some m) → HoldsContainer m written k rows → b < blocks k.rows
+    → WhereSome (slice_get at.entries b) (λ e. list_all (is_between e) (stored_values (length written) i (rows_in b rows)) ≡ true)
 
 abbrev AreOwnOf : ℕ → List (Option ℕ) → Type 0
 AreOwnOf columns ps = All (λ o. IfSome o (λ i. i < columns)) ps
 
-pub own_encodings : (p : Projection) (ps : List (Option ℕ)) → AreOwn p ps → AreOwnOf (length (encodings_of p)) ps
-own_encodings p ps own = subst (λ (n : ℕ). AreOwnOf n ps) (sym (length-map p.columns (λ (k : ProjColumn). k.encoding))) own
+pub own_encodings : (p : Projection) (ps : List (Option ℕ)) → AreOwn p ps → AreOwnOf (length (written_of p)) ps
+own_encodings p ps own = subst (λ (n : ℕ). AreOwnOf n ps) (sym (length-map p.columns written_as)) own
 
 -- ---- a column that has an index
 
-record IsColumn (columns : ℕ) (k : Container) (holds : Option Contents) (ps : List (Option ℕ)) (c : ℕ) (at : PosIndex) : Type 0 where
+record IsColumn (es : List Written) (columns : ℕ) (k : Container) (holds : Option Contents) (ps : List (Option ℕ)) (c : ℕ) (at : PosIndex) : Type 0 where
   place : ℕ
   here : get_or ps c None ≡ Some place
   own : place < columns
   index : IsIndexOf k.rows at
-  held : HasIndex k place at holds
+  held : HasIndex es k place at holds
 
-one_column : (columns : ℕ) (k : Container) (holds : Option Contents) (o : Option ℕ) (x : Option PosIndex) (at : PosIndex) → x ≡ Some at → IsNeeded k.rows o x → HoldsNeeded k holds o x → IfSome o (λ i. i < columns)
-    → (place : ℕ) × (o ≡ Some place) × (place < columns) × IsIndexOf k.rows at × HasIndex k place at holds
-one_column columns k holds None None at is needed held own = absurd (cc)
-one_column columns k holds None (Some y) at is needed held own = absurd needed
-one_column columns k holds (Some place) None at is needed held own = absurd needed
-one_column columns k holds (Some place) (Some y) at is needed held own =
+one_column : (es : List Written) (columns : ℕ) (k : Container) (holds : Option Contents) (o : Option ℕ) (x : Option PosIndex) (at : PosIndex) → x ≡ Some at → IsNeeded k.rows o x → HoldsNeeded es k holds o x → IfSome o (λ i. i < columns)
+    → (place : ℕ) × (o ≡ Some place) × (place < columns) × IsIndexOf k.rows at × HasIndex es k place at holds
+one_column es columns k holds None None at is needed held own = absurd (cc)
+one_column es columns k holds None (Some y) at is needed held own = absurd needed
+one_column es columns k holds (Some place) None at is needed held own = absurd needed
+one_column es columns k holds (Some place) (Some y) at is needed held own =
     let same : y ≡ at = cc in
-    (place, refl, own, subst (λ (z : PosIndex). IsIndexOf k.rows z) same needed, subst (λ (z : PosIndex). HasIndex k place z holds) same held)
+    (place, refl, own, subst (λ (z : PosIndex). IsIndexOf k.rows z) same needed, subst (λ (z : PosIndex). HasIndex es k place z holds) same held)
 
-column_here : (columns : ℕ) (k : Container) (holds : Option Contents) (ps : List (Option ℕ)) (xs : List (Option PosIndex)) (c : ℕ) (at : PosIndex) → get_or xs c None ≡ Some at
-    → AllZip (IsNeeded k.rows) ps xs → AllZip (HoldsNeeded k holds) ps xs → AreOwnOf columns ps → IsColumn columns k holds ps c at
-column_here columns k holds [] [] c at is needed held own = absurd (cc)
-column_here columns k holds [] (x ∷ xs) c at is needed held own = absurd needed
-column_here columns k holds (o ∷ ps) [] c at is needed held own = absurd needed
-column_here columns k holds (o ∷ ps) (x ∷ xs) zero at is needed held own =
-    let one = one_column columns k holds o x at is needed.0 held.0 (All-head (λ (q : Option ℕ). IfSome q (λ i. i < columns)) o ps own) in
+column_here : (es : List Written) (columns : ℕ) (k : Container) (holds : Option Contents) (ps : List (Option ℕ)) (xs : List (Option PosIndex)) (c : ℕ) (at : PosIndex) → get_or xs c None ≡ Some at
+    → AllZip (IsNeeded k.rows) ps xs → AllZip (HoldsNeeded es k holds) ps xs → AreOwnOf columns ps → IsColumn es columns k holds ps c at
+column_here es columns k holds [] [] c at is needed held own = absurd (cc)
+column_here es columns k holds [] (x ∷ xs) c at is needed held own = absurd needed
+column_here es columns k holds (o ∷ ps) [] c at is needed held own = absurd needed
+column_here es columns k holds (o ∷ ps) (x ∷ xs) zero at is needed held own =
+    let one = one_column es columns k holds o x at is needed.0 held.0 (All-head (λ (q : Option ℕ). IfSome q (λ i. i < columns)) o ps own) in
     record { place = one.0; here = one.1; own = one.2; index = one.3; held = one.4 }
-column_here columns k holds (o ∷ ps) (x ∷ xs) (suc c) at is needed held own =
-    let more = column_here columns k holds ps xs c at is needed.1 held.1 (All-tail (λ (q : Option ℕ). IfSome q (λ i. i < columns)) o ps own) in
+column_here es columns k holds (o ∷ ps) (x ∷ xs) (suc c) at is needed held own =
+    let more = column_here es columns k holds ps xs c at is needed.1 held.1 (All-tail (λ (q : Option ℕ). IfSome q (λ i. i < columns)) o ps own) in
     record { place = more.place; here = more.here; own = more.own; index = more.index; held = more.held }
 
 -- ---- rows whose values in a column lie out of a bound
@@ -115,22 +113,22 @@ rows_out bounds i b e ps place (a ∷ rows) at here misses all =
     (rows_out bounds i b e ps place rows at here misses two.1)
 
 -- the rows of a block that is passed over
-pub passed_out : Between → (m : Contents) (es : List Encoding) (k : Container) (holds : Option Contents) (ps : List (Option ℕ)) {columns : ℕ} {kept : Beside} (o : Opening) (asked : List Asked) (bounds : List Bound) (j : ℕ) → holds ≡ Some m
-    → HoldsContainer m es k asked → AreOwnOf (length es) ps → HasOpened k columns kept ps holds o → IsOpening k.rows ps o → j < blocks k.rows → IsPassed bounds o.indexes j → AreOut bounds ps (rows_in j asked)
+pub passed_out : Between → (m : Contents) (es : List Written) (k : Container) (holds : Option Contents) (ps : List (Option ℕ)) {columns : ℕ} {kept : Beside} (o : Opening) (asked : List Asked) (bounds : List Bound) (j : ℕ) → holds ≡ Some m
+    → HoldsContainer m es k asked → AreOwnOf (length es) ps → HasOpened es k columns kept ps holds o → IsOpening k.rows ps o → j < blocks k.rows → IsPassed bounds o.indexes j → AreOut bounds ps (rows_in j asked)
 passed_out between m es k holds ps o asked bounds j told held own has opening below (i, some) = by (slice_get bounds i) refl some
   where
-    entry : (b : Bound) (at : PosIndex) (q : Option Entry) → slice_get bounds i ≡ Some b → IsColumn (length es) k holds ps b.column at
-        → ((place : ℕ) → place < length es → HasIndex k place at (Some m) → WhereSome q (λ e. list_all (is_between e) (stored_values (length es) place (rows_in j asked)) ≡ true)) → IsSomeAnd q (MissesEntry b) → AreOut bounds ps (rows_in j asked)
+    entry : (b : Bound) (at : PosIndex) (q : Option Entry) → slice_get bounds i ≡ Some b → IsColumn es (length es) k holds ps b.column at
+        → ((place : ℕ) → place < length es → HasIndex es k place at (Some m) → WhereSome q (λ e. list_all (is_between e) (stored_values (length es) place (rows_in j asked)) ≡ true)) → IsSomeAnd q (MissesEntry b) → AreOut bounds ps (rows_in j asked)
     entry b at None is column all misses = absurd misses
     entry b at (Some e) is column all misses =
         rows_out bounds i b e ps column.place (rows_in j asked) is column.here misses
         (subst (λ (vs : List Value). list_all (is_between e) vs ≡ true) (column_is (length es) column.place (rows_in j asked) column.own)
-        (all column.place column.own (subst (λ (h : Option Contents). HasIndex k column.place at h) told column.held)))
+        (all column.place column.own (subst (λ (h : Option Contents). HasIndex es k column.place at h) told column.held)))
 
     index : (b : Bound) (x : Option PosIndex) → slice_get bounds i ≡ Some b → get_or o.indexes b.column None ≡ x → IsSomeAnd x (λ at. IsSomeAnd (slice_get at.entries j) (MissesEntry b)) → AreOut bounds ps (rows_in j asked)
     index b None is at misses = absurd misses
     index b (Some x) is at misses =
-        let column = column_here (length es) k holds ps o.indexes b.column x at opening.needed has.held own in
+        let column = column_here es (length es) k holds ps o.indexes b.column x at opening.needed has.held own in
         entry b x (slice_get x.entries j) is column
         (λ place lt index. between m es k place j x asked (omega (arith, lt)) column.index index held below) misses
 

@@ -1,4 +1,5 @@
 -- A step of a scan.
+use Rattle.catalog_types.specs.Blank.{blank_container as blank}
 use Rattle.std.proofs.Common.{◌≡◌, ◌⊎◌, inl, inr, Bool, false, ℕ, zero, suc, ◌+◌, ◌-◌, ◌*◌, ◌≤◌, ◌<◌, ◌++◌, min, List, [], ◌∷◌, length, map, take, drop, get_or, refl, sym, ap, ap₂, ◌∙◌, arith, subst}
 use Rattle.std.specs.Prelude.{Option, Some, None, IsSomeAnd, slice_range, sum_by}
 use Rattle.std.specs.List.{All, slice_get}
@@ -12,12 +13,11 @@ use Rattle.catalog_types.specs.declared.catalogue.Container.{Container}
 use Rattle.catalog_types.specs.declared.catalogue.Projection.{Projection}
 use Rattle.col_disk.specs.declared.disk.StoreFault.{StoreFault}
 use Rattle.col_disk.specs.declared.disk.StoreFault.TheVariants.{Disk, Damaged, Memory}
-use Rattle.col_value.specs.declared.kinds.Encoding.{Encoding}
 use Rattle.col_value.specs.declared.row.Asked.{Asked}
 use Rattle.col_value.specs.declared.row.Stamped.{Stamped}
 use Rattle.pos_index.specs.Index.{blocks}
 use Rattle.row_history.specs.History.{stamped}
-use Rattle.ros_container.specs.Encodings.{encodings_of}
+use Rattle.ros_container.specs.Encodings.{Written, written_of}
 use Rattle.ros_container.specs.Held.{BlamesContainer, HoldsContainer}
 use Rattle.ros_container.proofs.Blames.{blamed_holds_none}
 use Rattle.stored_rows.specs.Held.{stamped_from}
@@ -34,8 +34,8 @@ use Rattle.exec_scan.specs.Passing.{AreOut, IsPassed}
 use Rattle.exec_scan.specs.Reading.{OfBlock, ShowsRows}
 use Rattle.col_disk.specs.Faults.{IsUnblamed}
 use Rattle.exec_scan.specs.Scanning.{AreLeft, AreOwn, BlamesContainerAt, Gives, HasOpenedAt, IsScanOf, Place, rows_passed, steps_left}
-use Rattle.exec_scan.proofs.Handed.{at_some, blank, some_at}
-use Rattle.proj_store.proofs.BlockRows.{container_long}
+use Rattle.exec_scan.proofs.Handed.{at_some, some_at}
+use Rattle.ros_container.proofs.Long.{container_long}
 use Rattle.exec_scan.proofs.Passed.{Between, own_encodings, passed_out, shows, shows_later, ShowsAll}
 
 abbrev pub at_place : ℕ → List (Option ℕ) → List Bound → Bool → ℕ → ℕ → Option Opening → ℕ → Place
@@ -44,7 +44,7 @@ at_place e ps w st i b o t = record { epoch = e; places = ps; bounds = w; stamps
 -- ---- the container at a place
 
 -- the rows from a container on: its own, and those behind it
-record StoresAt (m : Contents) (es : List Encoding) (ks : List Container) (bs : List Beside) (i : ℕ) (saved : List Stamped) : Type 0 where
+record StoresAt (m : Contents) (es : List Written) (ks : List Container) (bs : List Beside) (i : ℕ) (saved : List Stamped) : Type 0 where
   entry : Container
   kept : Beside
   at : slice_get ks i ≡ Some entry
@@ -55,7 +55,7 @@ record StoresAt (m : Contents) (es : List Encoding) (ks : List Container) (bs : 
   rest : StoresRows m es (drop (suc i) ks) (drop (suc i) bs) more
   all : saved ≡ stamped_from 0 (mark_in kept) asked ++ more
 
-stores_at : (m : Contents) (es : List Encoding) (ks : List Container) (bs : List Beside) (i : ℕ) (saved : List Stamped) → i < length ks → StoresRows m es (drop i ks) (drop i bs) saved → StoresAt m es ks bs i saved
+stores_at : (m : Contents) (es : List Written) (ks : List Container) (bs : List Beside) (i : ℕ) (saved : List Stamped) → i < length ks → StoresRows m es (drop i ks) (drop i bs) saved → StoresAt m es ks bs i saved
 stores_at m es [] bs i saved lt is = absurd (omega (arith, lt))
 stores_at m es (k ∷ ks) [] zero saved lt is = absurd is
 stores_at m es (k ∷ ks) (b ∷ bs) zero saved lt (here, more, vector, (asked, held, are), behind, all) = record {
@@ -92,14 +92,14 @@ one_at : {X : Type 0} (P : X → Type 0) (o : Option X) (x : X) → o ≡ Some x
 one_at P o x is has = subst (λ (q : Option _). IsSomeAnd q P) (sym is) has
 
 opened_here : (p : Projected) (i : ℕ) (ps : List (Option ℕ)) (holds : Option Contents) (opened : Opening) (k : Container) (b : Beside) → slice_get p.entry.containers i ≡ Some k → slice_get p.beside i ≡ Some b
-    → HasOpenedAt p i ps holds opened → HasOpened k (length p.entry.columns) b ps holds opened
+    → HasOpenedAt p i ps holds opened → HasOpened (written_of p.entry) k (length p.entry.columns) b ps holds opened
 opened_here p i ps holds opened k b at beside_at has =
-    at_one (λ x. HasOpened k (length p.entry.columns) x ps holds opened) (slice_get p.beside i) b beside_at
-    (at_one (λ c. IsSomeAnd (slice_get p.beside i) (λ x. HasOpened c (length p.entry.columns) x ps holds opened)) (slice_get p.entry.containers i) k at has)
+    at_one (λ x. HasOpened (written_of p.entry) k (length p.entry.columns) x ps holds opened) (slice_get p.beside i) b beside_at
+    (at_one (λ c. IsSomeAnd (slice_get p.beside i) (λ x. HasOpened (written_of p.entry) c (length p.entry.columns) x ps holds opened)) (slice_get p.entry.containers i) k at has)
 
 -- ---- a file that is blamed
 
-unblamed_of : (es : List Encoding) (k : Container) (m : Contents) (holds : Option Contents) (fault : StoreFault) (asked : List Asked) → holds ≡ Some m → HoldsContainer m es k asked → BlamesContainer es k holds fault → IsUnblamed fault
+unblamed_of : (es : List Written) (k : Container) (m : Contents) (holds : Option Contents) (fault : StoreFault) (asked : List Asked) → holds ≡ Some m → HoldsContainer m es k asked → BlamesContainer es k holds fault → IsUnblamed fault
 unblamed_of es k m holds (Damaged q) asked told held blames = blamed_holds_none es k holds (Damaged q) blames m told asked held
 unblamed_of es k m holds Disk asked told held blames = tt
 unblamed_of es k m holds Memory asked told held blames = tt
@@ -107,8 +107,8 @@ unblamed_of es k m holds Memory asked told held blames = tt
 pub unblamed_at : (m : Contents) (holds : Option Contents) (p : Projected) (e : ℕ) (ps : List (Option ℕ)) (w : List Bound) (st : Bool) (i b : ℕ) (o : Option Opening) (t : ℕ) (left : List Stamped) (fault : StoreFault) → holds ≡ Some m → i < length p.entry.containers
     → AreLeft m p (at_place e ps w st i b o t) left → BlamesContainerAt p.entry i holds fault → IsUnblamed fault
 unblamed_at m holds p e ps w st i b o t left fault told lt are blames =
-    let s = stores_at m (encodings_of p.entry) p.entry.containers p.beside i are.saved lt are.stored in
-    unblamed_of (encodings_of p.entry) s.entry m holds fault s.asked told s.held (at_one (λ k. BlamesContainer (encodings_of p.entry) k holds fault) (slice_get p.entry.containers i) s.entry s.at blames)
+    let s = stores_at m (written_of p.entry) p.entry.containers p.beside i are.saved lt are.stored in
+    unblamed_of (written_of p.entry) s.entry m holds fault s.asked told s.held (at_one (λ k. BlamesContainer (written_of p.entry) k holds fault) (slice_get p.entry.containers i) s.entry s.at blames)
 
 -- ---- how many rows were handed over
 
@@ -243,16 +243,16 @@ pub done_gives : Between → (m : Contents) (holds : Option Contents) (p : Proje
     → AreOwn p.entry ps → HasOpenedAt p i ps holds opened → IsSomeAnd (slice_get p.entry.containers i) (λ k. IsOpening k.rows ps opened) → ((j : ℕ) → b ≤ j → j < c → IsPassed w opened.indexes j)
     → AreLeft m p (at_place e ps w st i b o t) left → Gives m p (at_place e ps w st i b o t) (at_place e ps w st (i + 1) 0 none t) left (Some shown)
 done_gives between m holds p e ps w st i b c o none opened t shown shape ks left told same are_ks lt past is_none no_row no_epoch owned has opening misses are =
-    let s = stores_at m (encodings_of p.entry) p.entry.containers p.beside i are.saved lt are.stored in
+    let s = stores_at m (written_of p.entry) p.entry.containers p.beside i are.saved lt are.stored in
     let ks_are : ks ≡ p.entry.containers = are_ks ∙ ap (λ (x : Projection). x.containers) same in
     let entry : get_or ks i blank ≡ s.entry = ap (λ (xs : List Container). get_or xs i blank) ks_are ∙ got p.entry.containers i s.entry blank s.at in
     let mark = mark_in s.kept in
     let here = stamped_from 0 mark s.asked in
-    let long = container_long m (encodings_of p.entry) s.entry s.asked s.held in
+    let long = container_long m (written_of p.entry) s.entry s.asked s.held in
     let many : length here ≡ s.entry.rows = stamped_long mark 0 s.asked ∙ long in
     let behind : blocks s.entry.rows ≤ c = subst (λ (k : Container). blocks k.rows ≤ c) entry past in
     let skip = skipped_rest w ps mark s.asked s.entry.rows b long
-    (λ j from below. passed_out between m (encodings_of p.entry) s.entry holds ps opened s.asked w j told s.held (own_encodings p.entry ps owned)
+    (λ j from below. passed_out between m (written_of p.entry) s.entry holds ps opened s.asked w j told s.held (own_encodings p.entry ps owned)
     (opened_here p i ps holds opened s.entry s.kept s.at s.beside_at has) (at_one (λ k. IsOpening k.rows ps opened) (slice_get p.entry.containers i) s.entry s.at opening) below (misses j from (omega (arith, below, behind)))) in
     let first : min (1024 * b) s.entry.rows ≤ length here = omega (arith, many) in
     let next : suc i ≡ i + 1 = omega arith in
@@ -267,7 +267,7 @@ done_gives between m holds p e ps w st i b c o none opened t shown shape ks left
       shows (at_place e ps w st i b o t) [] skip.passed skip.passed shown (sym (append-nil skip.passed)) skip.out (record { rows = no_row; inserted = λ stamps. no_epoch }),
       record {
         saved = s.more;
-        stored = subst (λ (n : ℕ). StoresRows m (encodings_of p.entry) (drop n p.entry.containers) (drop n p.beside) s.more) next s.rest;
+        stored = subst (λ (n : ℕ). StoresRows m (written_of p.entry) (drop n p.entry.containers) (drop n p.beside) s.more) next s.rest;
         at_hand = subst (λ (q : Option Opening). IfSome q (HasOpenedAt p (i + 1) ps (Some m))) (sym is_none) tt;
         left = ap (λ (n : ℕ). drop n s.more ++ drop t p.unsaved) (sym (passed_none p.entry e ps w st (i + 1) none t));
       },
@@ -278,24 +278,24 @@ done_gives between m holds p e ps w st i b c o none opened t shown shape ks left
 pub block_gives : Between → (m : Contents) (holds : Option Contents) (p : Projected) (e : ℕ) (ps : List (Option ℕ)) (w : List Bound) (st : Bool) (i b c : ℕ) (o : Option Opening) (opened : Opening) (t : ℕ) (shown : Shown) (shape : Projection) (ks : List Container)
     (left : List Stamped) → holds ≡ Some m → shape ≡ p.entry → ks ≡ shape.containers → i < length p.entry.containers → b ≤ c → c < blocks (get_or ks i blank).rows
     → AreOwn p.entry ps → HasOpenedAt p i ps holds opened → IsSomeAnd (slice_get p.entry.containers i) (λ k. IsOpening k.rows ps opened) → ((j : ℕ) → b ≤ j → j < c → IsPassed w opened.indexes j)
-    → ((bes : Beside) → HasOpened (get_or ks i blank) (length shape.columns) bes ps holds opened → OfBlock (ShowsRows e ps w st (mark_in bes) (1024 * c) shown) holds (encodings_of shape) (get_or ks i blank) c)
+    → ((bes : Beside) → HasOpened (written_of shape) (get_or ks i blank) (length shape.columns) bes ps holds opened → OfBlock (ShowsRows e ps w st (mark_in bes) (1024 * c) shown) holds (written_of shape) (get_or ks i blank) c)
     → AreLeft m p (at_place e ps w st i b o t) left → Gives m p (at_place e ps w st i b o t) (at_place e ps w st i (c + 1) (Some opened) t) left (Some shown)
 block_gives between m holds p e ps w st i b c o opened t shown shape ks left told same are_ks lt from below owned has opening misses found are =
-    let s = stores_at m (encodings_of p.entry) p.entry.containers p.beside i are.saved lt are.stored in
+    let s = stores_at m (written_of p.entry) p.entry.containers p.beside i are.saved lt are.stored in
     let ks_are : ks ≡ p.entry.containers = are_ks ∙ ap (λ (x : Projection). x.containers) same in
     let entry : get_or ks i blank ≡ s.entry = ap (λ (xs : List Container). get_or xs i blank) ks_are ∙ got p.entry.containers i s.entry blank s.at in
     let mark = mark_in s.kept in
     let here = stamped_from 0 mark s.asked in
-    let long = container_long m (encodings_of p.entry) s.entry s.asked s.held in
+    let long = container_long m (written_of p.entry) s.entry s.asked s.held in
     let within : c < blocks s.entry.rows = subst (λ (k : Container). c < blocks k.rows) entry below in
-    let own : HasOpened s.entry (length p.entry.columns) s.kept ps holds opened = opened_here p i ps holds opened s.entry s.kept s.at s.beside_at has in
-    let shape_own : HasOpened (get_or ks i blank) (length shape.columns) s.kept ps holds opened =
-    subst (λ (k : Container). HasOpened k (length shape.columns) s.kept ps holds opened) (sym entry)
-    (subst (λ (x : Projection). HasOpened s.entry (length x.columns) s.kept ps holds opened) (sym same) own) in
-    let shape_held : HoldsContainer m (encodings_of shape) (get_or ks i blank) s.asked =
-    subst (λ (k : Container). HoldsContainer m (encodings_of shape) k s.asked) (sym entry) (subst (λ (x : Projection). HoldsContainer m (encodings_of x) s.entry s.asked) (sym same) s.held) in
+    let own : HasOpened (written_of p.entry) s.entry (length p.entry.columns) s.kept ps holds opened = opened_here p i ps holds opened s.entry s.kept s.at s.beside_at has in
+    let shape_own : HasOpened (written_of shape) (get_or ks i blank) (length shape.columns) s.kept ps holds opened =
+    subst (λ (k : Container). HasOpened (written_of shape) k (length shape.columns) s.kept ps holds opened) (sym entry)
+    (subst (λ (x : Projection). HasOpened (written_of x) s.entry (length x.columns) s.kept ps holds opened) (sym same) own) in
+    let shape_held : HoldsContainer m (written_of shape) (get_or ks i blank) s.asked =
+    subst (λ (k : Container). HoldsContainer m (written_of shape) k s.asked) (sym entry) (subst (λ (x : Projection). HoldsContainer m (written_of x) s.entry s.asked) (sym same) s.held) in
     let skip = skipped w ps mark s.asked s.entry.rows (c - b) b c long (omega (arith, from)) (omega (arith, within))
-    (λ j first upto. passed_out between m (encodings_of p.entry) s.entry holds ps opened s.asked w j told s.held (own_encodings p.entry ps owned) own
+    (λ j first upto. passed_out between m (written_of p.entry) s.entry holds ps opened s.asked w j told s.held (own_encodings p.entry ps owned) own
     (at_one (λ k. IsOpening k.rows ps opened) (slice_get p.entry.containers i) s.entry s.at opening) (omega (arith, upto, within)) (misses j first upto)) in
     let came = stamped_from (1024 * c) mark (rows_in c s.asked) in
     let next = skip.passed ++ came in
@@ -328,19 +328,19 @@ block_gives between m holds p e ps w st i b c o opened t shown shape ks left tol
 
 pub block_unblamed : (m : Contents) (holds : Option Contents) (p : Projected) (e : ℕ) (ps : List (Option ℕ)) (w : List Bound) (st : Bool) (i b : ℕ) (o : Option Opening) (opened : Opening) (t : ℕ) (shape : Projection) (ks : List Container)
     (left : List Stamped) (fault : StoreFault) → holds ≡ Some m → shape ≡ p.entry → ks ≡ shape.containers → i < length p.entry.containers → HasOpenedAt p i ps holds opened
-    → ((bes : Beside) → HasOpened (get_or ks i blank) (length shape.columns) bes ps holds opened → BlamesContainer (encodings_of shape) (get_or ks i blank) holds fault)
+    → ((bes : Beside) → HasOpened (written_of shape) (get_or ks i blank) (length shape.columns) bes ps holds opened → BlamesContainer (written_of shape) (get_or ks i blank) holds fault)
     → AreLeft m p (at_place e ps w st i b o t) left → IsUnblamed fault
 block_unblamed m holds p e ps w st i b o opened t shape ks left fault told same are_ks lt has blames are =
-    let s = stores_at m (encodings_of p.entry) p.entry.containers p.beside i are.saved lt are.stored in
+    let s = stores_at m (written_of p.entry) p.entry.containers p.beside i are.saved lt are.stored in
     let ks_are : ks ≡ p.entry.containers = are_ks ∙ ap (λ (x : Projection). x.containers) same in
     let entry : get_or ks i blank ≡ s.entry = ap (λ (xs : List Container). get_or xs i blank) ks_are ∙ got p.entry.containers i s.entry blank s.at in
-    let own : HasOpened s.entry (length p.entry.columns) s.kept ps holds opened = opened_here p i ps holds opened s.entry s.kept s.at s.beside_at has in
-    let shape_own : HasOpened (get_or ks i blank) (length shape.columns) s.kept ps holds opened =
-    subst (λ (k : Container). HasOpened k (length shape.columns) s.kept ps holds opened) (sym entry)
-    (subst (λ (x : Projection). HasOpened s.entry (length x.columns) s.kept ps holds opened) (sym same) own) in
-    let shape_held : HoldsContainer m (encodings_of shape) (get_or ks i blank) s.asked =
-    subst (λ (k : Container). HoldsContainer m (encodings_of shape) k s.asked) (sym entry) (subst (λ (x : Projection). HoldsContainer m (encodings_of x) s.entry s.asked) (sym same) s.held) in
-    unblamed_of (encodings_of shape) (get_or ks i blank) m holds fault s.asked told shape_held (blames s.kept shape_own)
+    let own : HasOpened (written_of p.entry) s.entry (length p.entry.columns) s.kept ps holds opened = opened_here p i ps holds opened s.entry s.kept s.at s.beside_at has in
+    let shape_own : HasOpened (written_of shape) (get_or ks i blank) (length shape.columns) s.kept ps holds opened =
+    subst (λ (k : Container). HasOpened (written_of shape) k (length shape.columns) s.kept ps holds opened) (sym entry)
+    (subst (λ (x : Projection). HasOpened (written_of x) s.entry (length x.columns) s.kept ps holds opened) (sym same) own) in
+    let shape_held : HoldsContainer m (written_of shape) (get_or ks i blank) s.asked =
+    subst (λ (k : Container). HoldsContainer m (written_of shape) k s.asked) (sym entry) (subst (λ (x : Projection). HoldsContainer m (written_of x) s.entry s.asked) (sym same) s.held) in
+    unblamed_of (written_of shape) (get_or ks i blank) m holds fault s.asked told shape_held (blames s.kept shape_own)
 
 -- what was at hand before is at hand now
 pub handed : (p : Projected) (i : ℕ) (ps qs : List (Option ℕ)) (o q : Option Opening) (m : Contents) (holds : Option Contents) (opened : Opening) → q ≡ o → qs ≡ ps → holds ≡ Some m → IfSome o (HasOpenedAt p i ps (Some m))
@@ -417,7 +417,7 @@ slice_mapped xs a b = ap (take (b - a)) (dropped a xs) ∙ taken (b - a) (drop a
     taken (suc n) [] = refl
     taken (suc n) (y ∷ ys) = ap (λ (zs : List Stamped). stamp y ∷ zs) (taken n ys)
 
-nothing_saved : (m : Contents) (es : List Encoding) (bs : List Beside) (saved : List Stamped) → StoresRows m es [] bs saved → saved ≡ []
+nothing_saved : (m : Contents) (es : List Written) (bs : List Beside) (saved : List Stamped) → StoresRows m es [] bs saved → saved ≡ []
 nothing_saved m es [] saved is = is
 nothing_saved m es (b ∷ bs) saved is = absurd is
 
@@ -431,8 +431,8 @@ drop_none (suc n) = refl
 -- behind the last container no row of one is left
 memory_left : (m : Contents) (p : Projected) (s : Place) (left : List Stamped) → length p.entry.containers ≤ s.container → AreLeft m p s left → left ≡ drop s.taken p.unsaved
 memory_left m p s left past are =
-    let none : are.saved ≡ [] = nothing_saved m (encodings_of p.entry) (drop s.container p.beside) are.saved
-    (subst (λ (ks : List Container). StoresRows m (encodings_of p.entry) ks (drop s.container p.beside) are.saved) (drop_past s.container p.entry.containers past) are.stored) in
+    let none : are.saved ≡ [] = nothing_saved m (written_of p.entry) (drop s.container p.beside) are.saved
+    (subst (λ (ks : List Container). StoresRows m (written_of p.entry) ks (drop s.container p.beside) are.saved) (drop_past s.container p.entry.containers past) are.stored) in
     are.left ∙ ap (λ (xs : List Stamped). drop (rows_passed p.entry s) xs ++ drop s.taken p.unsaved) none ∙ ap (λ (xs : List Stamped). xs ++ drop s.taken p.unsaved) (drop_none (rows_passed p.entry s))
 
 pub memory_gives : (m : Contents) (p : Projected) (e : ℕ) (ps : List (Option ℕ)) (w : List Bound) (st : Bool) (i b : ℕ) (o : Option Opening) (t upto : ℕ) (rows : List Held) (shown : Shown) (left : List Stamped)
@@ -442,8 +442,8 @@ memory_gives m p e ps w st i b o t upto rows shown left stamps past le is are =
     let all = memory_left m p (at_place e ps w st i b o t) left past are in
     let next = slice_range p.unsaved t upto in
     let seen : map stamp (slice_range rows t upto) ≡ next = sym (slice_mapped rows t upto) ∙ ap (λ (xs : List Stamped). slice_range xs t upto) stamps in
-    let none : are.saved ≡ [] = nothing_saved m (encodings_of p.entry) (drop i p.beside) are.saved
-    (subst (λ (ks : List Container). StoresRows m (encodings_of p.entry) ks (drop i p.beside) are.saved) (drop_past i p.entry.containers past) are.stored) in
+    let none : are.saved ≡ [] = nothing_saved m (written_of p.entry) (drop i p.beside) are.saved
+    (subst (λ (ks : List Container). StoresRows m (written_of p.entry) ks (drop i p.beside) are.saved) (drop_past i p.entry.containers past) are.stored) in
     let n = rows_passed p.entry (at_place e ps w st i b o upto) in (
       next,
       drop upto p.unsaved,

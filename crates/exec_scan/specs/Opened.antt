@@ -3,6 +3,7 @@ use Rattle.std.specs.Prelude.{ℕ, ◌≡◌, ◌<◌, List, Option, Some, None,
 use Rattle.std.specs.List.{AllZip}
 use Rattle.catalog_types.specs.declared.catalogue.Container.{Container}
 use Rattle.pos_index.specs.declared.index.PosIndex.{PosIndex}
+use Rattle.ros_container.specs.Encodings.{Written}
 use Rattle.stored_rows.specs.Stored.{Beside, mark_in}
 use Rattle.container_blocks.specs.Blocks.{IsIndexOf, HasIndex}
 use Rattle.common_laws.specs.Maps.{Contents}
@@ -24,18 +25,18 @@ pub record IsOpening (rows : ℕ) (places : List (Option ℕ)) (o : Opening) : T
   pub needed : AllZip (IsNeeded rows) places o.indexes
   pub epochs_fit : IsIndexOf rows o.epochs
 
--- the index of a needed column is the one that its file holds
-abbrev pub HoldsNeeded : Container → Option Contents → Option ℕ → Option PosIndex → Type 0
-HoldsNeeded k holds None index = Unit {0}
-HoldsNeeded k holds (Some place) None = ⊥
-HoldsNeeded k holds (Some place) (Some at) = HasIndex k place at holds
+-- the index of a needed column is the one that it has
+abbrev pub HoldsNeeded : List Written → Container → Option Contents → Option ℕ → Option PosIndex → Type 0
+HoldsNeeded written k holds None index = Unit {0}
+HoldsNeeded written k holds (Some place) None = ⊥
+HoldsNeeded written k holds (Some place) (Some at) = HasIndex written k place at holds
 
 -- so it is of each column
-abbrev pub HoldsAll : Container → Option Contents → List (Option ℕ) → List (Option PosIndex) → Type 0
-HoldsAll k holds places indexes = AllZip (HoldsNeeded k holds) places indexes
+abbrev pub HoldsAll : List Written → Container → Option Contents → List (Option ℕ) → List (Option PosIndex) → Type 0
+HoldsAll written k holds places indexes = AllZip (HoldsNeeded written k holds) places indexes
 
 -- these are what the files of the container hold, and each row has its delete epoch
-pub record HasOpened (k : Container) (columns : ℕ) (b : Beside) (places : List (Option ℕ)) (holds : Option Contents) (o : Opening) : Type 0 where
-  pub held : HoldsAll k holds places o.indexes
-  pub epochs_held : HasIndex k columns o.epochs holds
+pub record HasOpened (written : List Written) (k : Container) (columns : ℕ) (b : Beside) (places : List (Option ℕ)) (holds : Option Contents) (o : Opening) : Type 0 where
+  pub held : HoldsAll written k holds places o.indexes
+  pub epochs_held : HasIndex written k columns o.epochs holds
   pub deleted : (i : ℕ) → i < k.rows → slice_index_or o.deletes i None ≡ mark_in b i

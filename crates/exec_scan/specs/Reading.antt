@@ -5,10 +5,10 @@ use Rattle.std.specs.Option.{IfSome, option_map_or}
 use Rattle.catalog_types.specs.declared.catalogue.Container.{Container}
 use Rattle.common_laws.specs.Maps.{Contents}
 use Rattle.col_value.specs.Order.{IsValue}
-use Rattle.col_value.specs.declared.kinds.Encoding.{Encoding}
 use Rattle.col_value.specs.declared.row.Asked.{Asked}
 use Rattle.col_value.specs.declared.value.Value.{Value}
 use Rattle.col_value.specs.declared.value.Value.TheVariants as value
+use Rattle.ros_container.specs.Encodings.{Written}
 use Rattle.ros_container.specs.Held.{HoldsContainer}
 use Rattle.stored_rows.specs.Held.{stamped_from}
 use Rattle.container_blocks.specs.Blocks.{rows_in}
@@ -19,8 +19,8 @@ use Rattle.exec_scan.specs.Batches.{Shown}
 use Rattle.exec_scan.specs.Scanning.{Shows, start}
 
 -- where a disk tells its contents, and the container holds rows, P holds of the rows of block b
-abbrev pub OfBlock : (List Asked → Type 0) → Option Contents → List Encoding → Container → ℕ → Type 0
-OfBlock P holds encodings k b = (m : Contents) → holds ≡ Some m → (rows : List Asked) → HoldsContainer m encodings k rows → P (rows_in b rows)
+abbrev pub OfBlock : (List Asked → Type 0) → Option Contents → List Written → Container → ℕ → Type 0
+OfBlock P holds written k b = (m : Contents) → holds ≡ Some m → (rows : List Asked) → HoldsContainer m written k rows → P (rows_in b rows)
 
 -- by these epochs the same rows were inserted up to an epoch
 abbrev pub AreInserted : ℕ → List ℕ → List Asked → Type 0

@@ -8,7 +8,7 @@ use Rattle.col_disk.specs.declared.disk.StoreFault.{StoreFault}
 use Rattle.catalog_types.specs.declared.catalogue.Projection.{Projection}
 use Rattle.col_value.specs.declared.row.Stamped.{Stamped}
 use Rattle.pos_index.specs.Index.{blocks}
-use Rattle.ros_container.specs.Encodings.{encodings_of}
+use Rattle.ros_container.specs.Encodings.{written_of}
 use Rattle.ros_container.specs.Held.{BlamesContainer}
 use Rattle.row_history.specs.History.{is_visible, visible}
 use Rattle.stored_rows.specs.Stored.{Projected, StoresRows}
@@ -50,14 +50,14 @@ steps_left p unsaved s = (sum_by (λ k. blocks k.rows + 1) (drop s.container p.c
 -- the container at this place is read as its files are
 abbrev pub HasOpenedAt : Projected → ℕ → List (Option ℕ) → Option Contents → Opening → Type 0
 HasOpenedAt p i places holds o =
-    IsSomeAnd (slice_get p.entry.containers i) (λ k. IsSomeAnd (slice_get p.beside i) (λ b. HasOpened k (length p.entry.columns) b places holds o))
+    IsSomeAnd (slice_get p.entry.containers i) (λ k. IsSomeAnd (slice_get p.beside i) (λ b. HasOpened (written_of p.entry) k (length p.entry.columns) b places holds o))
 
 abbrev pub IsAtHand : Option Contents → Projected → Place → Type 0
 IsAtHand holds p s = IfSome s.opened (HasOpenedAt p s.container s.places holds)
 
 -- the files of the container at this place are to blame
 abbrev pub BlamesContainerAt : Projection → ℕ → Option Contents → StoreFault → Type 0
-BlamesContainerAt p i holds fault = IsSomeAnd (slice_get p.containers i) (λ k. BlamesContainer (encodings_of p) k holds fault)
+BlamesContainerAt p i holds fault = IsSomeAnd (slice_get p.containers i) (λ k. BlamesContainer (written_of p) k holds fault)
 
 -- how many rows of the container at hand were handed over
 abbrev pub rows_passed : Projection → Place → ℕ
@@ -66,7 +66,7 @@ rows_passed p s = option_map_or (λ k. min (1024 * s.block) k.rows) (slice_get p
 -- these rows are left of what the projection stores: of its containers, and then those in memory
 pub record AreLeft (m : Contents) (p : Projected) (s : Place) (rows : List Stamped) : Type 0 where
   pub saved : List Stamped
-  pub stored : StoresRows m (encodings_of p.entry) (drop s.container p.entry.containers) (drop s.container p.beside) saved
+  pub stored : StoresRows m (written_of p.entry) (drop s.container p.entry.containers) (drop s.container p.beside) saved
   pub at_hand : IsAtHand (Some m) p s
   pub left : rows ≡ drop (rows_passed p.entry s) saved ++ drop s.taken p.unsaved
 

@@ -6,9 +6,9 @@ ghost use Rattle.std.specs.Option.{IfSome};
 ghost use Rattle.common_laws.specs.Causes.{HasCause};
 ghost use Rattle.col_disk.specs.Moved.{Moved, NoName};
 ghost use Rattle.pos_index.specs.Index.{blocks};
-ghost use Rattle.ros_container.specs.Encodings.{encodings_of};
+ghost use Rattle.ros_container.specs.Encodings.{written_of};
 ghost use Rattle.ros_container.specs.Held.{BlamesContainer};
-ghost use Rattle.proj_store.specs.Sound.{HasFileNumbers};
+ghost use Rattle.ros_container.specs.Readable.{IsReadable};
 ghost use Rattle.exec_scan.specs.Opened.{HoldsAll, HoldsNeeded, IsNeeded};
 ghost use Rattle.exec_scan.specs.Reading.{AreLong, Fills, FillsRows, FillsUpto, IsColumn, IsLong, NarrowsBy, OfBlock, ReadsAlive};
 ghost use Rattle.exec_scan.specs.Scanning.{AreOwn};
@@ -44,13 +44,13 @@ fn read_column<D: Disk>(
     index: &Option<PosIndex>,
     k: usize,
 ) -> Result<Option<Block>, StoreFault>
-    requires numbers { HasFileNumbers (length shape.now.columns) entry.now }
+    requires numbers { IsReadable shape.now.columns entry.now }
     requires own { IfSome place (λ i. i < length shape.now.columns) }
     requires needed { IsNeeded entry.now.rows place index.now }
     requires block { k < blocks entry.now.rows }
-    ensures found { IfOk result (λ v. HoldsNeeded entry.now (D.holds disk.old) place index.now → OfBlock (IsColumn place v) (D.holds disk.old) (encodings_of shape.now) entry.now k) }
+    ensures found { IfOk result (λ v. HoldsNeeded (written_of shape.now) entry.now (D.holds disk.old) place index.now → OfBlock (IsColumn place v) (D.holds disk.old) (written_of shape.now) entry.now k) }
     ensures long { IfOk result (IsLong (min 1024 (entry.now.rows - 1024 * k))) }
-    ensures blamed { IfErr result (λ fault. HoldsNeeded entry.now (D.holds disk.old) place index.now → BlamesContainer (encodings_of shape.now) entry.now (D.holds disk.old) fault) }
+    ensures blamed { IfErr result (λ fault. HoldsNeeded (written_of shape.now) entry.now (D.holds disk.old) place index.now → BlamesContainer (written_of shape.now) entry.now (D.holds disk.old) fault) }
     ensures kept { D.holds disk.new ≡ D.holds disk.old }
     ensures moved { Moved ⟦<D as Disk>⟧ NoName NoName disk.old disk.new }
     ensures cause { HasCause StoreFault.Disk (D.faults disk.old) (D.faults disk.new) result }
@@ -76,7 +76,7 @@ fn fill_column<D: Disk>(
     column: usize,
     columns: &mut [Option<Block>],
 ) -> Result<(), StoreFault>
-    requires numbers { HasFileNumbers (length shape.now.columns) entry.now }
+    requires numbers { IsReadable shape.now.columns entry.now }
     requires own { AreOwn shape.now places.now }
     requires needed { AllZip (IsNeeded entry.now.rows) places.now indexes.now }
     requires block { k < blocks entry.now.rows }
@@ -85,8 +85,8 @@ fn fill_column<D: Disk>(
     requires long { AreLong (min 1024 (entry.now.rows - 1024 * k)) columns.old }
     ensures width { length columns.new ≡ length columns.old }
     ensures long { OnOk result (AreLong (min 1024 (entry.now.rows - 1024 * k)) columns.new) }
-    ensures fills { OnOk result (HoldsAll entry.now (D.holds disk.old) places.now indexes.now → OfBlock (Fills column places.now columns.old columns.new) (D.holds disk.old) (encodings_of shape.now) entry.now k) }
-    ensures blamed { IfErr result (λ fault. HoldsAll entry.now (D.holds disk.old) places.now indexes.now → BlamesContainer (encodings_of shape.now) entry.now (D.holds disk.old) fault) }
+    ensures fills { OnOk result (HoldsAll (written_of shape.now) entry.now (D.holds disk.old) places.now indexes.now → OfBlock (Fills column places.now columns.old columns.new) (D.holds disk.old) (written_of shape.now) entry.now k) }
+    ensures blamed { IfErr result (λ fault. HoldsAll (written_of shape.now) entry.now (D.holds disk.old) places.now indexes.now → BlamesContainer (written_of shape.now) entry.now (D.holds disk.old) fault) }
     ensures kept { D.holds disk.new ≡ D.holds disk.old }
     ensures moved { Moved ⟦<D as Disk>⟧ NoName NoName disk.old disk.new }
     ensures cause { HasCause StoreFault.Disk (D.faults disk.old) (D.faults disk.new) result }
@@ -124,7 +124,7 @@ fn narrow_by<D: Disk>(
     columns: &mut [Option<Block>],
     alive: &mut [bool],
 ) -> Result<(), StoreFault>
-    requires numbers { HasFileNumbers (length shape.now.columns) entry.now }
+    requires numbers { IsReadable shape.now.columns entry.now }
     requires own { AreOwn shape.now places.now }
     requires needed { AllZip (IsNeeded entry.now.rows) places.now indexes.now }
     requires block { k < blocks entry.now.rows }
@@ -134,8 +134,8 @@ fn narrow_by<D: Disk>(
     ensures width { length columns.new ≡ length columns.old }
     ensures long { OnOk result (AreLong (min 1024 (entry.now.rows - 1024 * k)) columns.new) }
     ensures alive { length alive.new ≡ length alive.old }
-    ensures narrows { OnOk result (HoldsAll entry.now (D.holds disk.old) places.now indexes.now → OfBlock (NarrowsBy (bound.now ∷ []) places.now columns.old columns.new alive.old alive.new) (D.holds disk.old) (encodings_of shape.now) entry.now k) }
-    ensures blamed { IfErr result (λ fault. HoldsAll entry.now (D.holds disk.old) places.now indexes.now → BlamesContainer (encodings_of shape.now) entry.now (D.holds disk.old) fault) }
+    ensures narrows { OnOk result (HoldsAll (written_of shape.now) entry.now (D.holds disk.old) places.now indexes.now → OfBlock (NarrowsBy (bound.now ∷ []) places.now columns.old columns.new alive.old alive.new) (D.holds disk.old) (written_of shape.now) entry.now k) }
+    ensures blamed { IfErr result (λ fault. HoldsAll (written_of shape.now) entry.now (D.holds disk.old) places.now indexes.now → BlamesContainer (written_of shape.now) entry.now (D.holds disk.old) fault) }
     ensures kept { D.holds disk.new ≡ D.holds disk.old }
     ensures moved { Moved ⟦<D as Disk>⟧ NoName NoName disk.old disk.new }
     ensures cause { HasCause StoreFault.Disk (D.faults disk.old) (D.faults disk.new) result }
@@ -168,7 +168,7 @@ fn narrow<D: Disk>(
     columns: &mut [Option<Block>],
     alive: &mut [bool],
 ) -> Result<(), StoreFault>
-    requires numbers { HasFileNumbers (length shape.now.columns) entry.now }
+    requires numbers { IsReadable shape.now.columns entry.now }
     requires own { AreOwn shape.now places.now }
     requires needed { AllZip (IsNeeded entry.now.rows) places.now indexes.now }
     requires block { k < blocks entry.now.rows }
@@ -178,8 +178,8 @@ fn narrow<D: Disk>(
     ensures width { length columns.new ≡ length columns.old }
     ensures long { OnOk result (AreLong (min 1024 (entry.now.rows - 1024 * k)) columns.new) }
     ensures alive { length alive.new ≡ length alive.old }
-    ensures narrows { OnOk result (HoldsAll entry.now (D.holds disk.old) places.now indexes.now → OfBlock (NarrowsBy bounds.now places.now columns.old columns.new alive.old alive.new) (D.holds disk.old) (encodings_of shape.now) entry.now k) }
-    ensures blamed { IfErr result (λ fault. HoldsAll entry.now (D.holds disk.old) places.now indexes.now → BlamesContainer (encodings_of shape.now) entry.now (D.holds disk.old) fault) }
+    ensures narrows { OnOk result (HoldsAll (written_of shape.now) entry.now (D.holds disk.old) places.now indexes.now → OfBlock (NarrowsBy bounds.now places.now columns.old columns.new alive.old alive.new) (D.holds disk.old) (written_of shape.now) entry.now k) }
+    ensures blamed { IfErr result (λ fault. HoldsAll (written_of shape.now) entry.now (D.holds disk.old) places.now indexes.now → BlamesContainer (written_of shape.now) entry.now (D.holds disk.old) fault) }
     ensures kept { D.holds disk.new ≡ D.holds disk.old }
     ensures moved { Moved ⟦<D as Disk>⟧ NoName NoName disk.old disk.new }
     ensures cause { HasCause StoreFault.Disk (D.faults disk.old) (D.faults disk.new) result }
@@ -209,7 +209,7 @@ fn fill_columns<D: Disk>(
     k: usize,
     columns: &mut [Option<Block>],
 ) -> Result<(), StoreFault>
-    requires numbers { HasFileNumbers (length shape.now.columns) entry.now }
+    requires numbers { IsReadable shape.now.columns entry.now }
     requires own { AreOwn shape.now places.now }
     requires needed { AllZip (IsNeeded entry.now.rows) places.now indexes.now }
     requires block { k < blocks entry.now.rows }
@@ -217,8 +217,8 @@ fn fill_columns<D: Disk>(
     requires long { AreLong (min 1024 (entry.now.rows - 1024 * k)) columns.old }
     ensures width { length columns.new ≡ length columns.old }
     ensures long { OnOk result (AreLong (min 1024 (entry.now.rows - 1024 * k)) columns.new) }
-    ensures fills { OnOk result (HoldsAll entry.now (D.holds disk.old) places.now indexes.now → OfBlock (FillsUpto places.now (length places.now) columns.old columns.new) (D.holds disk.old) (encodings_of shape.now) entry.now k) }
-    ensures blamed { IfErr result (λ fault. HoldsAll entry.now (D.holds disk.old) places.now indexes.now → BlamesContainer (encodings_of shape.now) entry.now (D.holds disk.old) fault) }
+    ensures fills { OnOk result (HoldsAll (written_of shape.now) entry.now (D.holds disk.old) places.now indexes.now → OfBlock (FillsUpto places.now (length places.now) columns.old columns.new) (D.holds disk.old) (written_of shape.now) entry.now k) }
+    ensures blamed { IfErr result (λ fault. HoldsAll (written_of shape.now) entry.now (D.holds disk.old) places.now indexes.now → BlamesContainer (written_of shape.now) entry.now (D.holds disk.old) fault) }
     ensures kept { D.holds disk.new ≡ D.holds disk.old }
     ensures moved { Moved ⟦<D as Disk>⟧ NoName NoName disk.old disk.new }
     ensures cause { HasCause StoreFault.Disk (D.faults disk.old) (D.faults disk.new) result }
@@ -246,7 +246,7 @@ fn fill_alive<D: Disk>(
     columns: &mut [Option<Block>],
     alive: &[bool],
 ) -> Result<(), StoreFault>
-    requires numbers { HasFileNumbers (length shape.now.columns) entry.now }
+    requires numbers { IsReadable shape.now.columns entry.now }
     requires own { AreOwn shape.now places.now }
     requires needed { AllZip (IsNeeded entry.now.rows) places.now indexes.now }
     requires block { k < blocks entry.now.rows }
@@ -254,8 +254,8 @@ fn fill_alive<D: Disk>(
     requires long { AreLong (min 1024 (entry.now.rows - 1024 * k)) columns.old }
     ensures width { length columns.new ≡ length columns.old }
     ensures long { OnOk result (AreLong (min 1024 (entry.now.rows - 1024 * k)) columns.new) }
-    ensures fills { OnOk result (HoldsAll entry.now (D.holds disk.old) places.now indexes.now → OfBlock (FillsRows places.now alive.now columns.old columns.new) (D.holds disk.old) (encodings_of shape.now) entry.now k) }
-    ensures blamed { IfErr result (λ fault. HoldsAll entry.now (D.holds disk.old) places.now indexes.now → BlamesContainer (encodings_of shape.now) entry.now (D.holds disk.old) fault) }
+    ensures fills { OnOk result (HoldsAll (written_of shape.now) entry.now (D.holds disk.old) places.now indexes.now → OfBlock (FillsRows places.now alive.now columns.old columns.new) (D.holds disk.old) (written_of shape.now) entry.now k) }
+    ensures blamed { IfErr result (λ fault. HoldsAll (written_of shape.now) entry.now (D.holds disk.old) places.now indexes.now → BlamesContainer (written_of shape.now) entry.now (D.holds disk.old) fault) }
     ensures kept { D.holds disk.new ≡ D.holds disk.old }
     ensures moved { Moved ⟦<D as Disk>⟧ NoName NoName disk.old disk.new }
     ensures cause { HasCause StoreFault.Disk (D.faults disk.old) (D.faults disk.new) result }
@@ -282,7 +282,7 @@ pub fn columns_alive<D: Disk>(
     bounds: &[Bound],
     alive: &mut [bool],
 ) -> Result<Vec<Option<Block>>, StoreFault>
-    requires numbers { HasFileNumbers (length shape.now.columns) entry.now }
+    requires numbers { IsReadable shape.now.columns entry.now }
     requires own { AreOwn shape.now places.now }
     requires needed { AllZip (IsNeeded entry.now.rows) places.now indexes.now }
     requires block { k < blocks entry.now.rows }
@@ -290,8 +290,8 @@ pub fn columns_alive<D: Disk>(
     ensures width { IfOk result (λ v. length v.items ≡ length places.now) }
     ensures long { IfOk result (λ v. AreLong (length alive.new) v.items) }
     ensures alive { length alive.new ≡ length alive.old }
-    ensures found { IfOk result (λ v. HoldsAll entry.now (D.holds disk.old) places.now indexes.now → OfBlock (ReadsAlive bounds.now places.now alive.old alive.new v.items) (D.holds disk.old) (encodings_of shape.now) entry.now k) }
-    ensures blamed { IfErr result (λ fault. HoldsAll entry.now (D.holds disk.old) places.now indexes.now → BlamesContainer (encodings_of shape.now) entry.now (D.holds disk.old) fault) }
+    ensures found { IfOk result (λ v. HoldsAll (written_of shape.now) entry.now (D.holds disk.old) places.now indexes.now → OfBlock (ReadsAlive bounds.now places.now alive.old alive.new v.items) (D.holds disk.old) (written_of shape.now) entry.now k) }
+    ensures blamed { IfErr result (λ fault. HoldsAll (written_of shape.now) entry.now (D.holds disk.old) places.now indexes.now → BlamesContainer (written_of shape.now) entry.now (D.holds disk.old) fault) }
     ensures kept { D.holds disk.new ≡ D.holds disk.old }
     ensures moved { Moved ⟦<D as Disk>⟧ NoName NoName disk.old disk.new }
     ensures cause { HasCause StoreFault.Disk (D.faults disk.old) (D.faults disk.new) result }

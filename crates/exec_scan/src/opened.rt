@@ -5,9 +5,10 @@ ghost use Rattle.std.specs.Option.{IfSome};
 ghost use Rattle.std.specs.List.{All, AllZip, slice_get};
 ghost use Rattle.common_laws.specs.Causes.{HasCause};
 ghost use Rattle.col_disk.specs.Moved.{Moved, NoName};
-ghost use Rattle.ros_container.specs.Encodings.{encodings_of};
+ghost use Rattle.ros_container.specs.Encodings.{written_of};
 ghost use Rattle.ros_container.specs.Held.{BlamesContainer};
-ghost use Rattle.proj_store.specs.Sound.{HasFileNumbers, IsKept};
+ghost use Rattle.ros_container.specs.Readable.{IsReadable};
+ghost use Rattle.proj_store.specs.Sound.{IsKept};
 ghost use Rattle.stored_rows.specs.Stored.{Beside};
 ghost use Rattle.exec_scan.specs.Opened.{IsNeeded, HoldsNeeded, IsOpening, HasOpened};
 ghost use Rattle.exec_scan.specs.Scanning.{AreOwn};
@@ -45,11 +46,11 @@ fn index_at<D: Disk>(
     shape: &Projection,
     place: Option<usize>,
 ) -> Result<Option<PosIndex>, StoreFault>
-    requires numbers { HasFileNumbers (length shape.now.columns) entry.now }
+    requires numbers { IsReadable shape.now.columns entry.now }
     requires own { IfSome place (λ i. i < length shape.now.columns) }
     ensures needed { IfOk result (IsNeeded entry.now.rows place) }
-    ensures held { IfOk result (HoldsNeeded entry.now (D.holds disk.old) place) }
-    ensures blamed { IfErr result (BlamesContainer (encodings_of shape.now) entry.now (D.holds disk.old)) }
+    ensures held { IfOk result (HoldsNeeded (written_of shape.now) entry.now (D.holds disk.old) place) }
+    ensures blamed { IfErr result (BlamesContainer (written_of shape.now) entry.now (D.holds disk.old)) }
     ensures kept { D.holds disk.new ≡ D.holds disk.old }
     ensures moved { Moved ⟦<D as Disk>⟧ NoName NoName disk.old disk.new }
     ensures cause { HasCause StoreFault.Disk (D.faults disk.old) (D.faults disk.new) result }
@@ -71,11 +72,11 @@ fn indexes_of<D: Disk>(
     shape: &Projection,
     places: &[Option<usize>],
 ) -> Result<Vec<Option<PosIndex>>, StoreFault>
-    requires numbers { HasFileNumbers (length shape.now.columns) entry.now }
+    requires numbers { IsReadable shape.now.columns entry.now }
     requires own { AreOwn shape.now places.now }
     ensures needed { IfOk result (λ v. AllZip (IsNeeded entry.now.rows) places.now v.items) }
-    ensures held { IfOk result (λ v. AllZip (HoldsNeeded entry.now (D.holds disk.old)) places.now v.items) }
-    ensures blamed { IfErr result (BlamesContainer (encodings_of shape.now) entry.now (D.holds disk.old)) }
+    ensures held { IfOk result (λ v. AllZip (HoldsNeeded (written_of shape.now) entry.now (D.holds disk.old)) places.now v.items) }
+    ensures blamed { IfErr result (BlamesContainer (written_of shape.now) entry.now (D.holds disk.old)) }
     ensures kept { D.holds disk.new ≡ D.holds disk.old }
     ensures moved { Moved ⟦<D as Disk>⟧ NoName NoName disk.old disk.new }
     ensures cause { HasCause StoreFault.Disk (D.faults disk.old) (D.faults disk.new) result }
@@ -104,12 +105,12 @@ pub fn open<D: Disk>(
     fresh: &[Mark],
     places: &[Option<usize>],
 ) -> Result<Opened, StoreFault>
-    requires numbers { HasFileNumbers (length shape.now.columns) entry.now }
+    requires numbers { IsReadable shape.now.columns entry.now }
     requires own { AreOwn shape.now places.now }
     requires marks { IsKept entry.now (record { held = held.now; fresh = fresh.now }) }
     ensures opening { IfOk result (IsOpening entry.now.rows places.now) }
-    ensures opened { IfOk result (HasOpened entry.now (length shape.now.columns) (record { held = held.now; fresh = fresh.now }) places.now (D.holds disk.old)) }
-    ensures blamed { IfErr result (BlamesContainer (encodings_of shape.now) entry.now (D.holds disk.old)) }
+    ensures opened { IfOk result (HasOpened (written_of shape.now) entry.now (length shape.now.columns) (record { held = held.now; fresh = fresh.now }) places.now (D.holds disk.old)) }
+    ensures blamed { IfErr result (BlamesContainer (written_of shape.now) entry.now (D.holds disk.old)) }
     ensures kept { D.holds disk.new ≡ D.holds disk.old }
     ensures moved { Moved ⟦<D as Disk>⟧ NoName NoName disk.old disk.new }
     ensures cause { HasCause StoreFault.Disk (D.faults disk.old) (D.faults disk.new) result }

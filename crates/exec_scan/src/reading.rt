@@ -4,9 +4,9 @@ ghost use Rattle.std.specs.Prelude.{◌≡◌, ◌<◌, ◌*◌, length, IfOk, I
 ghost use Rattle.common_laws.specs.Causes.{HasCause};
 ghost use Rattle.col_disk.specs.Moved.{Moved, NoName};
 ghost use Rattle.pos_index.specs.Index.{blocks};
-ghost use Rattle.ros_container.specs.Encodings.{encodings_of};
+ghost use Rattle.ros_container.specs.Encodings.{written_of};
 ghost use Rattle.ros_container.specs.Held.{BlamesContainer};
-ghost use Rattle.proj_store.specs.Sound.{HasFileNumbers};
+ghost use Rattle.ros_container.specs.Readable.{IsReadable};
 ghost use Rattle.stored_rows.specs.Stored.{Beside as Kept, mark_in};
 ghost use Rattle.container_blocks.specs.Blocks.{IsIndexOf, HasIndex};
 ghost use Rattle.exec_scan.specs.Opened.{IsOpening, HasOpened};
@@ -36,12 +36,12 @@ fn inserted<D: Disk>(
     epoch: u64,
     stamps: bool,
 ) -> Result<Vec<u64>, StoreFault>
-    requires numbers { HasFileNumbers (length shape.now.columns) entry.now }
+    requires numbers { IsReadable shape.now.columns entry.now }
     requires index { IsIndexOf entry.now.rows at.now }
     requires block { k < blocks entry.now.rows }
-    ensures found { IfOk result (λ v. HasIndex entry.now (length shape.now.columns) at.now (D.holds disk.old) → OfBlock (AreInserted epoch v.items) (D.holds disk.old) (encodings_of shape.now) entry.now k) }
-    ensures told { IfOk result (λ v. HasIndex entry.now (length shape.now.columns) at.now (D.holds disk.old) → OfBlock (AreTold stamps v.items) (D.holds disk.old) (encodings_of shape.now) entry.now k) }
-    ensures blamed { IfErr result (λ fault. HasIndex entry.now (length shape.now.columns) at.now (D.holds disk.old) → BlamesContainer (encodings_of shape.now) entry.now (D.holds disk.old) fault) }
+    ensures found { IfOk result (λ v. HasIndex (written_of shape.now) entry.now (length shape.now.columns) at.now (D.holds disk.old) → OfBlock (AreInserted epoch v.items) (D.holds disk.old) (written_of shape.now) entry.now k) }
+    ensures told { IfOk result (λ v. HasIndex (written_of shape.now) entry.now (length shape.now.columns) at.now (D.holds disk.old) → OfBlock (AreTold stamps v.items) (D.holds disk.old) (written_of shape.now) entry.now k) }
+    ensures blamed { IfErr result (λ fault. HasIndex (written_of shape.now) entry.now (length shape.now.columns) at.now (D.holds disk.old) → BlamesContainer (written_of shape.now) entry.now (D.holds disk.old) fault) }
     ensures kept { D.holds disk.new ≡ D.holds disk.old }
     ensures moved { Moved ⟦<D as Disk>⟧ NoName NoName disk.old disk.new }
     ensures cause { HasCause StoreFault.Disk (D.faults disk.old) (D.faults disk.new) result }
@@ -69,12 +69,12 @@ pub fn read_block<D: Disk>(
     epoch: u64,
     stamps: bool,
 ) -> Result<Batch, StoreFault>
-    requires numbers { HasFileNumbers (length shape.now.columns) entry.now }
+    requires numbers { IsReadable shape.now.columns entry.now }
     requires own { AreOwn shape.now places.now }
     requires opening { IsOpening entry.now.rows places.now opened.now }
     requires block { k < blocks entry.now.rows }
-    ensures found { IfOk result (λ shown. (b : Kept) → HasOpened entry.now (length shape.now.columns) b places.now (D.holds disk.old) opened.now → OfBlock (ShowsRows epoch places.now bounds.now stamps (mark_in b) (1024 * k) shown) (D.holds disk.old) (encodings_of shape.now) entry.now k) }
-    ensures blamed { IfErr result (λ fault. (b : Kept) → HasOpened entry.now (length shape.now.columns) b places.now (D.holds disk.old) opened.now → BlamesContainer (encodings_of shape.now) entry.now (D.holds disk.old) fault) }
+    ensures found { IfOk result (λ shown. (b : Kept) → HasOpened (written_of shape.now) entry.now (length shape.now.columns) b places.now (D.holds disk.old) opened.now → OfBlock (ShowsRows epoch places.now bounds.now stamps (mark_in b) (1024 * k) shown) (D.holds disk.old) (written_of shape.now) entry.now k) }
+    ensures blamed { IfErr result (λ fault. (b : Kept) → HasOpened (written_of shape.now) entry.now (length shape.now.columns) b places.now (D.holds disk.old) opened.now → BlamesContainer (written_of shape.now) entry.now (D.holds disk.old) fault) }
     ensures kept { D.holds disk.new ≡ D.holds disk.old }
     ensures moved { Moved ⟦<D as Disk>⟧ NoName NoName disk.old disk.new }
     ensures cause { HasCause StoreFault.Disk (D.faults disk.old) (D.faults disk.new) result }

@@ -11,11 +11,11 @@ use Rattle.col_disk.specs.Calls.{Stepped}
 use Rattle.col_disk.specs.Moved.{Changed, Moved, NoName, Named}
 use Rattle.col_disk.specs.declared.disk.Disk.{Ghosts}
 use Rattle.col_disk.proofs.Moving.{moved_told, moved_wider, changed_kept}
-use Rattle.col_value.specs.declared.kinds.Encoding.{Encoding}
 use Rattle.col_value.specs.declared.row.Asked.{Asked}
 use Rattle.col_value.specs.declared.row.Stamped.{Stamped}
 use Rattle.row_history.specs.History.{stamped}
 use Rattle.catalog_types.specs.declared.catalogue.Container.{Container}
+use Rattle.ros_container.specs.Encodings.{Written}
 use Rattle.ros_container.specs.Held.{HoldsContainer}
 use Rattle.ros_container.proofs.Kept.{rows_kept}
 use Rattle.del_vector.specs.declared.mark.Mark.{Mark}
@@ -42,34 +42,34 @@ later_data disk base next le moved = moved_wider disk (λ q f. let from = f.1 in
 pub vector_data : {D : Type 0} (disk : Ghosts D) {old new : D} (next : ℕ) → Moved disk (Named (vector_file next)) NoName old new → Moved disk (DataFrom next) NoName old new
 vector_data disk next moved = moved_wider disk (λ q is. (next, omega arith, is)) (λ q is. is) moved
 
-pub same_below : (m n : Contents) (columns next : ℕ) (k : Container) → IsBelow columns next k → Changed (DataFrom next) NoName m n → SameFiles m n columns k
-same_below m n columns next k below changed q (inl f) =
+pub same_below : (m n : Contents) (next : ℕ) (k : Container) → IsBelow next k → Changed (DataFrom next) NoName m n → SameFiles m n k
+same_below m n next k below changed q (inl f) =
     let within = f.1 in
     let is = f.2 in
     let files = below.files in
     changed_kept (DataFrom next) NoName m n q (λ d. let from = d.1 in let same = d.2 in omega (arith, within, is, files, from, same)) (λ x. x) changed
-same_below m n columns next k below changed q (inr v) = by k.marks below.vector v
+same_below m n next k below changed q (inr v) = by k.marks below.vector v
   where
     by : (o : Option ℕ) → IfSome o (λ x. x < next) → IsVectorFile o q → get n q ≡ get m q
     by None low is = absurd is
     by (Some x) low is = changed_kept (DataFrom next) NoName m n q (λ d. let from = d.1 in let same = d.2 in omega (arith, low, is, from, same)) (λ x. x) changed
 
-pub marked_kept : (m n : Contents) (es : List Encoding) (k : Container) (mark : ℕ → Option ℕ) (rows : List Stamped) → SameFiles m n (length es) k → HoldsMarked m es k mark rows → HoldsMarked n es k mark rows
+pub marked_kept : (m n : Contents) (es : List Written) (k : Container) (mark : ℕ → Option ℕ) (rows : List Stamped) → SameFiles m n k → HoldsMarked m es k mark rows → HoldsMarked n es k mark rows
 marked_kept m n es k mark rows same (asked, held, is) = (asked, rows_kept m n es k asked (λ q f. same q (inl f)) held, is)
 
-pub rows_below : (m n : Contents) (es : List Encoding) (ks : List Container) (rows : List Stamped) (next : ℕ) → All (IsBelow (length es) next) ks → Changed (DataFrom next) NoName m n → HoldsRows m es ks rows → HoldsRows n es ks rows
+pub rows_below : (m n : Contents) (es : List Written) (ks : List Container) (rows : List Stamped) (next : ℕ) → All (IsBelow next) ks → Changed (DataFrom next) NoName m n → HoldsRows m es ks rows → HoldsRows n es ks rows
 rows_below m n es [] rows next below changed held = held
 rows_below m n es (k ∷ ks) rows next below changed (v, here, more, vector, marked, rest, is) =
-    let same = same_below m n (length es) next k (All-head (IsBelow (length es) next) k ks below) changed in
-    (v, here, more, vector_kept m n (length es) k v same vector, marked_kept m n es k (epoch_at v) here same marked, rows_below m n es ks more next (All-tail (IsBelow (length es) next) k ks below) changed rest, is)
+    let same = same_below m n next k (All-head (IsBelow next) k ks below) changed in
+    (v, here, more, vector_kept m n k v same vector, marked_kept m n es k (epoch_at v) here same marked, rows_below m n es ks more next (All-tail (IsBelow next) k ks below) changed rest, is)
 
-pub rows_join : (m : Contents) (es : List Encoding) (ks js : List Container) (xs ys : List Stamped) → HoldsRows m es ks xs → HoldsRows m es js ys → HoldsRows m es (ks ++ js) (xs ++ ys)
+pub rows_join : (m : Contents) (es : List Written) (ks js : List Container) (xs ys : List Stamped) → HoldsRows m es ks xs → HoldsRows m es js ys → HoldsRows m es (ks ++ js) (xs ++ ys)
 rows_join m es [] js xs ys held others = subst (λ (zs : List Stamped). HoldsRows m es js (zs ++ ys)) (sym held) others
 rows_join m es (k ∷ ks) js xs ys (v, here, more, vector, marked, rest, is) others =
     (v, here, more ++ ys, vector, marked, rows_join m es ks js more ys rest others, ap (λ (zs : List Stamped). zs ++ ys) is ∙ append_assoc here more ys)
 
-pub wider_below : (columns next after : ℕ) (k : Container) → next ≤ after → IsBelow columns next k → IsBelow columns after k
-wider_below columns next after k le below = record { files = let files = below.files in omega (arith, files, le); vector = by k.marks below.vector }
+pub wider_below : (next after : ℕ) (k : Container) → next ≤ after → IsBelow next k → IsBelow after k
+wider_below next after k le below = record { files = let files = below.files in omega (arith, files, le); vector = by k.marks below.vector }
   where
     by : (o : Option ℕ) → IfSome o (λ x. x < next) → IfSome o (λ x. x < after)
     by None low = tt
@@ -90,9 +90,9 @@ unmarked next k held (e ∷ fresh) found left same none m es rows told below vec
 unmarked next k held [] found left same none m es rows told below vector (asked, container, is) =
     (m, same ∙ told, (held, vector, (asked, container, is ∙ stamped_same 0 (mark_in (beside held [])) (epoch_at held) asked (λ i. or_none (epoch_at held i)))), below)
 
-other_vector : (n : Contents) (es : List Encoding) (number : ℕ) (marks : List Mark) (k j : Container) (rows : List Asked) → j ≡ with_vector number marks k → HoldsContainer n es k rows → HoldsContainer n es j rows
+other_vector : (n : Contents) (es : List Written) (number : ℕ) (marks : List Mark) (k j : Container) (rows : List Asked) → j ≡ with_vector number marks k → HoldsContainer n es k rows → HoldsContainer n es j rows
 other_vector n es number marks k j rows is held =
-    subst (λ (x : Container). HoldsContainer n es x rows) (sym is) (record { each = held.each; epochs = held.epochs; wide = held.wide; within = held.within })
+    subst (λ (x : Container). HoldsContainer n es x rows) (sym is) (record { each = held.each; defaults = held.defaults; epochs = held.epochs; wide = held.wide; within = held.within })
 
 number_below : (next : ℕ) (marks : List Mark) → IfSome (vector_number next marks) (λ n. n < next + 1)
 number_below next [] = tt
@@ -108,20 +108,20 @@ marked_anew disk {old} {new} next k j held fresh marks epochs is vector moved m 
     let left = moved_told disk m told moved in
     let n = left.0 in
     let changed : Changed (DataFrom next) NoName m n = between disk m n told left.1 (vector_data disk next moved) in
-    let same = same_below m n (length es) next k below changed in
+    let same = same_below m n next k below changed in
     let kept = other_vector n es next marks k j asked is (rows_kept m n es k asked (λ q f. same q (inl f)) container) in
     let files = below.files in (
       n,
       left.1,
       (marks, vector n left.1, (asked, kept, are ∙ stamped_same 0 (mark_in (beside held fresh)) (epoch_at marks) asked (λ i. sym (epochs i)))),
-      subst (IsBelow (length es) (next + 1)) (sym is) (record { files = omega (arith, files); vector = number_below next marks }),
+      subst (IsBelow (next + 1)) (sym is) (record { files = omega (arith, files); vector = number_below next marks }),
     )
 
 pub same_entry : (next : ℕ) (k : Container) → IsRemarked next next k k
-same_entry next k = record { base = refl; rows = refl; level = refl; marks = inl refl }
+same_entry next k = record { base = refl; rows = refl; level = refl; stored = refl; marks = inl refl }
 
 pub new_entry : (next : ℕ) (k j : Container) (marks : List Mark) → next < 2 ^ 61 → j ≡ with_vector next marks k → IsRemarked next (next + 1) k j
-new_entry next k j marks low is = subst (IsRemarked next (next + 1) k) (sym is) (record { base = refl; rows = refl; level = refl; marks = inr (number_drawn next marks low) })
+new_entry next k j marks low is = subst (IsRemarked next (next + 1) k) (sym is) (record { base = refl; rows = refl; level = refl; stored = refl; marks = inr (number_drawn next marks low) })
 
 -- ---- one container more
 
@@ -135,7 +135,7 @@ all_last P [] y all = All-head P y [] all
 all_last P (x ∷ xs) y all = all_last P xs y (All-tail P x (xs ++ y ∷ []) all)
 
 -- the rows of some containers, and those of the last one
-record Parts (m : Contents) (es : List Encoding) (ks : List Container) (bs : List Beside) (k : Container) (b : Beside) (rows : List Stamped) : Type 0 where
+record Parts (m : Contents) (es : List Written) (ks : List Container) (bs : List Beside) (k : Container) (b : Beside) (rows : List Stamped) : Type 0 where
   front : List Stamped
   last : List Stamped
   before : StoresRows m es ks bs front
@@ -143,7 +143,7 @@ record Parts (m : Contents) (es : List Encoding) (ks : List Container) (bs : Lis
   marked : HoldsMarked m es k (mark_in b) last
   are : rows ≡ front ++ last
 
-parted : (m : Contents) (es : List Encoding) (ks : List Container) (bs : List Beside) (k : Container) (b : Beside) (rows : List Stamped) → StoresRows m es (ks ++ k ∷ []) (bs ++ b ∷ []) rows → Parts m es ks bs k b rows
+parted : (m : Contents) (es : List Written) (ks : List Container) (bs : List Beside) (k : Container) (b : Beside) (rows : List Stamped) → StoresRows m es (ks ++ k ∷ []) (bs ++ b ∷ []) rows → Parts m es ks bs k b rows
 parted m es [] [] k b rows (here, more, vector, marked, rest, is) = record {
   front = [];
   last = here;
@@ -166,25 +166,25 @@ parted m es (j ∷ ks) (c ∷ bs) k b rows (here, more, vector, marked, rest, is
       are = is ∙ ap (λ (zs : List Stamped). here ++ zs) p.are ∙ sym (append_assoc here p.front p.last);
     }
 
-pub each_none : (es : List Encoding) (next : ℕ) (found : Option Contents) → RemarksEach es next next [] [] [] found found
+pub each_none : (es : List Written) (next : ℕ) (found : Option Contents) → RemarksEach es next next [] [] [] found found
 each_none es next found m rows told below stores = (m, told, record { held = stores; below = λ j d lt. absurd (omega (arith, lt)) })
 
-pub each_more : {D : Type 0} (disk : Ghosts D) {old mid new : D} (es : List Encoding) (next after end : ℕ) (ks js : List Container) (bs : List Beside) (k j : Container) (b : Beside) → next ≤ after → after ≤ end
+pub each_more : {D : Type 0} (disk : Ghosts D) {old mid new : D} (es : List Written) (next after end : ℕ) (ks js : List Container) (bs : List Beside) (k j : Container) (b : Beside) → next ≤ after → after ≤ end
     → Moved disk (DataFrom next) NoName old mid → Moved disk (DataFrom after) NoName mid new → RemarksEach es next after ks bs js (disk.holds old) (disk.holds mid) → Remarks after end k b j (disk.holds mid) (disk.holds new)
     → RemarksEach es next end (ks ++ k ∷ []) (bs ++ b ∷ []) (js ++ j ∷ []) (disk.holds old) (disk.holds new)
 each_more disk es next after end ks js bs k j b le lt first second was one m rows told below stores =
     let p = parted m es ks bs k b rows stores in
-    let low_k : IsBelow (length es) next k = all_last (IsBelow (length es) next) ks k below in
-    let (l, told_l, held_l) = was m p.front told (all_front (IsBelow (length es) next) ks k below) p.before in
-    let same = same_below m l (length es) next k low_k (between disk m l told told_l first) in
-    let (n, told_n, one_n, low_j) = one l es p.last told_l (wider_below (length es) next after k le low_k) (vector_kept m l (length es) k b.held same p.vector) (marked_kept m l es k (mark_in b) p.last same p.marked) in
+    let low_k : IsBelow next k = all_last (IsBelow next) ks k below in
+    let (l, told_l, held_l) = was m p.front told (all_front (IsBelow next) ks k below) p.before in
+    let same = same_below m l next k low_k (between disk m l told told_l first) in
+    let (n, told_n, one_n, low_j) = one l es p.last told_l (wider_below next after k le low_k) (vector_kept m l k b.held same p.vector) (marked_kept m l es k (mark_in b) p.last same p.marked) in
     let changed = between disk l n told_l told_n second in (
       n,
       told_n,
       record {
         held = subst (HoldsRows n es (js ++ j ∷ [])) (sym p.are)
             (rows_join n es js (j ∷ []) p.front p.last (rows_below l n es js p.front after held_l.below changed held_l.held) (one_n.0, p.last, [], one_n.1, one_n.2, refl, sym (append-nil p.last)));
-        below = All-push (IsBelow (length es) end) js j (All-weaker (IsBelow (length es) after) (IsBelow (length es) end) (λ x low. wider_below (length es) after end x lt low) js held_l.below) low_j;
+        below = All-push (IsBelow end) js j (All-weaker (IsBelow after) (IsBelow end) (λ x low. wider_below after end x lt low) js held_l.below) low_j;
       },
     )
 
@@ -204,7 +204,7 @@ drawn_wider : (next after low end n : ℕ) → low ≤ next → after ≤ end �
 drawn_wider next after low end n le lt is = record { from = let from = is.from in omega (arith, from, le); upto = let upto = is.upto in omega (arith, upto, lt); low = is.low }
 
 pub remarked_wider : (next after low end : ℕ) (k j : Container) → low ≤ next → after ≤ end → IsRemarked next after k j → IsRemarked low end k j
-remarked_wider next after low end k j le lt is = record { base = is.base; rows = is.rows; level = is.level; marks = by is.marks }
+remarked_wider next after low end k j le lt is = record { base = is.base; rows = is.rows; level = is.level; stored = is.stored; marks = by is.marks }
   where
     of : (o : Option ℕ) → IfSome o (IsDrawn next after) → IfSome o (IsDrawn low end)
     of None drawn = tt
@@ -216,9 +216,6 @@ remarked_wider next after low end k j le lt is = record { base = is.base; rows =
 
 -- ---- one turn of the loop
 
-abbrev pub blank : Container
-blank = record { base = 0; rows = 0; least_epoch = 0; greatest_epoch = 0; level = 0; marks = None; greatest_mark = 0 }
-
 pub beside_within : (p : Projected) (shown : List Container) (i : ℕ) → shown ≡ p.entry.containers → IsSound p.entry p.beside → i < length shown → i < length p.beside
 beside_within p shown i same sound lt = omega (arith, lt, ap length same, AllZip-long IsKept p.entry.containers p.beside sound.kept)
 
@@ -227,7 +224,7 @@ at_slice P [] i d is = absurd is
 at_slice P (x ∷ xs) zero d is = is
 at_slice P (x ∷ xs) (suc i) d is = at_slice P xs i d is
 
-pub turn : {D : Type 0} (disk : Ghosts D) {old mid new : D} (es : List Encoding) (next after end i : ℕ) (shown ks js out : List Container) (bs : List Beside) (k j : Container) (held fresh : List Mark) → shown ≡ ks → i < length shown → i < length bs
+pub turn : {D : Type 0} (disk : Ghosts D) {old mid new : D} (es : List Written) (next after end i : ℕ) (shown ks js out : List Container) (bs : List Beside) (k j : Container) (held fresh : List Mark) → shown ≡ ks → i < length shown → i < length bs
     → k ≡ get_or shown i k → IsSomeAnd (slice_get bs i) (λ b. held ≡ b.held) → IsSomeAnd (slice_get bs i) (λ b. fresh ≡ b.fresh) → out ≡ js ++ j ∷ [] → next ≤ after → after ≤ end
     → Moved disk (DataFrom next) NoName old mid → Moved disk (DataFrom after) NoName mid new → RemarksEach es next after (take i ks) (take i bs) js (disk.holds old) (disk.holds mid)
     → Remarks after end k (beside held fresh) j (disk.holds mid) (disk.holds new) → RemarksEach es next end (take (i + 1) ks) (take (i + 1) bs) out (disk.holds old) (disk.holds new)
@@ -255,7 +252,7 @@ entry_more next after end i shown ks js out k j same lt k_is out_is le up each o
     (zip_push (IsRemarked next end) (take i ks) js k j
     (zip_weaker (IsRemarked next after) (IsRemarked next end) (λ x y is. remarked_wider next after next end x y (omega arith) up is) (take i ks) js each) (remarked_wider after end next end k j le (omega arith) one)))
 
-pub each_all : (es : List Encoding) (next after i : ℕ) (shown js : List Container) (p : Projected) (found left : Option Contents) → shown ≡ p.entry.containers → IsSound p.entry p.beside → length shown ≤ i
+pub each_all : (es : List Written) (next after i : ℕ) (shown js : List Container) (p : Projected) (found left : Option Contents) → shown ≡ p.entry.containers → IsSound p.entry p.beside → length shown ≤ i
     → RemarksEach es next after (take i p.entry.containers) (take i p.beside) js found left → RemarksEach es next after p.entry.containers p.beside js found left
 each_all es next after i shown js p found left same sound done each =
     let past : length p.entry.containers ≤ i = omega (arith, done, ap length same) in

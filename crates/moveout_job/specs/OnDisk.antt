@@ -3,7 +3,6 @@ use Rattle.std.specs.Prelude.{ℕ, ◌≡◌, ◌⊎◌, ◌≤◌, ◌<◌, ◌
 use Rattle.std.specs.List.{All, AllZip}
 use Rattle.common_laws.specs.Bags.{SameBag}
 use Rattle.common_laws.specs.Maps.{Contents}
-use Rattle.col_value.specs.declared.kinds.Encoding.{Encoding}
 use Rattle.col_value.specs.declared.row.Stamped.{Stamped}
 use Rattle.catalog_types.specs.declared.catalogue.Container.{Container}
 use Rattle.catalog_types.specs.declared.catalogue.Projection.{Projection}
@@ -12,15 +11,16 @@ use Rattle.del_vector.specs.declared.mark.Mark.{Mark}
 use Rattle.stored_rows.specs.Held.{HoldsVector, HoldsMarked, HoldsRows, Holds}
 use Rattle.stored_rows.specs.Stored.{Beside, Projected, mark_in, StoresRows, Stores}
 use Rattle.container_writer.specs.Writing.{listed, HoldsOne, AreNumbered}
+use Rattle.ros_container.specs.Encodings.{Written}
 
--- the numbers of a container of so many columns are below this one
-pub record IsBelow (columns next : ℕ) (k : Container) : Type 0 where
-  pub files : k.base + file_count columns ≤ next
+-- the numbers of a container are below this one
+pub record IsBelow (next : ℕ) (k : Container) : Type 0 where
+  pub files : k.base + file_count k.stored ≤ next
   pub vector : IfSome k.marks (λ n. n < next)
 
 -- all numbers that an entry lists are below this one
 abbrev pub IsListedBelow : ℕ → Projection → Type 0
-IsListedBelow next p = All (IsBelow (length p.columns) next) p.containers
+IsListedBelow next p = All (IsBelow next) p.containers
 
 -- a number that was drawn, from `next` up to `after`
 pub record IsDrawn (next after n : ℕ) : Type 0 where
@@ -33,6 +33,7 @@ pub record IsRemarked (next after : ℕ) (old new : Container) : Type 0 where
   pub base : new.base ≡ old.base
   pub rows : new.rows ≡ old.rows
   pub level : new.level ≡ old.level
+  pub stored : new.stored ≡ old.stored
   pub marks : (new.marks ≡ old.marks) ⊎ IfSome new.marks (IsDrawn next after)
 
 -- the entry with these containers and one more behind them, if one was made, which has all rows up to an epoch
@@ -52,21 +53,21 @@ pub record IsMovedOut (last next after : ℕ) (old new : Projection) : Type 0 wh
   pub later : next ≤ mid
 
 -- containers that hold these rows, with numbers below this one
-pub record AreHeld (m : Contents) (encodings : List Encoding) (next : ℕ) (ks : List Container) (rows : List Stamped) : Type 0 where
-  pub held : HoldsRows m encodings ks rows
-  pub below : All (IsBelow (length encodings) next) ks
+pub record AreHeld (m : Contents) (written : List Written) (next : ℕ) (ks : List Container) (rows : List Stamped) : Type 0 where
+  pub held : HoldsRows m written ks rows
+  pub below : All (IsBelow next) ks
 
 -- what a container held with these marks, its new entry holds, with numbers below `after`
 abbrev pub Remarks : ℕ → ℕ → Container → Beside → Container → Option Contents → Option Contents → Type 0
 Remarks next after k b j found left =
-    (m : Contents) (encodings : List Encoding) (rows : List Stamped) → found ≡ Some m → IsBelow (length encodings) next k → HoldsVector m k b.held → HoldsMarked m encodings k (mark_in b) rows
-    → (n : Contents) × (left ≡ Some n) × HoldsOne n encodings j rows × IsBelow (length encodings) after j
+    (m : Contents) (written : List Written) (rows : List Stamped) → found ≡ Some m → IsBelow next k → HoldsVector m k b.held → HoldsMarked m written k (mark_in b) rows
+    → (n : Contents) × (left ≡ Some n) × HoldsOne n written j rows × IsBelow after j
 
 -- the same of some containers
-abbrev pub RemarksEach : List Encoding → ℕ → ℕ → List Container → List Beside → List Container → Option Contents → Option Contents → Type 0
-RemarksEach encodings next after ks bs js found left =
-    (m : Contents) (rows : List Stamped) → found ≡ Some m → All (IsBelow (length encodings) next) ks → StoresRows m encodings ks bs rows
-    → (n : Contents) × (left ≡ Some n) × AreHeld n encodings after js rows
+abbrev pub RemarksEach : List Written → ℕ → ℕ → List Container → List Beside → List Container → Option Contents → Option Contents → Type 0
+RemarksEach written next after ks bs js found left =
+    (m : Contents) (rows : List Stamped) → found ≡ Some m → All (IsBelow next) ks → StoresRows m written ks bs rows
+    → (n : Contents) × (left ≡ Some n) × AreHeld n written after js rows
 
 -- what a projection stored, its new entry holds, in some order
 abbrev pub MovesOut : ℕ → Projected → Projection → Option Contents → Option Contents → Type 0

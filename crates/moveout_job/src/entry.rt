@@ -4,7 +4,7 @@ ghost use Rattle.std.specs.Prelude.{◌≡◌, ◌+◌, ◌++◌, length, IfOk};
 ghost use Rattle.container_writer.specs.Writing.{listed};
 ghost use Rattle.moveout_job.specs.OnDisk.{moved_to};
 
-use catalog_types::{Container, Projection};
+use catalog_types::{Container, Projection, copy_proj_columns};
 use col_value::List;
 use std::alloc::{AllocError, Global};
 
@@ -48,7 +48,7 @@ pub fn moved_entry(
     let born = born_with(old.born, &made)?;
     Ok(Projection {
         name: old.name.copy(alloc)?,
-        columns: List::new(Vec::from_slice(alloc, old.columns.as_slice())?),
+        columns: List::new(copy_proj_columns(alloc, old.columns.as_slice())?),
         sort: List::new(Vec::from_slice(alloc, old.sort.as_slice())?),
         fresh: true,
         lge: last,

@@ -4,7 +4,7 @@ ghost use Rattle.std.specs.Prelude.{◌≡◌, ◌≤◌, ◌+◌, ◌++◌, [],
 ghost use Rattle.std.specs.List.{AllZip};
 ghost use Rattle.common_laws.specs.Causes.{HasCause};
 ghost use Rattle.col_disk.specs.Moved.{Moved, NoName};
-ghost use Rattle.ros_container.specs.Encodings.{encodings_of};
+ghost use Rattle.ros_container.specs.Encodings.{written_of};
 ghost use Rattle.container_writer.specs.Writing.{DataFrom};
 ghost use Rattle.moveout_job.specs.OnDisk.{IsRemarked, Remarks, RemarksEach, beside};
 
@@ -85,7 +85,7 @@ pub fn mark_each<D: Disk>(
     p: &ProjStore,
     next: u64,
 ) -> Result<AllRemarked, DiskFault>
-    ensures held { IfOk result (λ r. RemarksEach (encodings_of p.now.stored.entry) next r.next p.now.stored.entry.containers p.now.stored.beside r.containers.items (D.holds disk.old) (D.holds disk.new)) }
+    ensures held { IfOk result (λ r. RemarksEach (written_of p.now.stored.entry) next r.next p.now.stored.entry.containers p.now.stored.beside r.containers.items (D.holds disk.old) (D.holds disk.new)) }
     ensures each { IfOk result (λ r. AllZip (IsRemarked next r.next) p.now.stored.entry.containers r.containers.items) }
     ensures next { IfOk result (λ r. next ≤ r.next) }
     ensures upto { IfOk result (λ r. r.next ≤ next + length p.now.stored.entry.containers) }

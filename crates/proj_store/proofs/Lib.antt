@@ -2,6 +2,7 @@ pub mod Epochs
 pub mod Zips
 pub mod SavedRows
 pub mod Marked
+pub mod Listed
 pub mod Vectors
 pub mod Picking
 pub mod Rooms

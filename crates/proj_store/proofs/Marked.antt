@@ -7,12 +7,11 @@ use Rattle.std.proofs.lemmas.Bool.Decides.{nat_tests}
 use Rattle.std.proofs.lemmas.List.Elements.{All-head, All-tail}
 use Rattle.common_laws.proofs.BagLaws.{bag_refl}
 use Rattle.common_laws.specs.Maps.{Contents}
-use Rattle.col_value.specs.declared.kinds.Encoding.{Encoding}
 use Rattle.col_value.specs.declared.row.Asked.{Asked}
 use Rattle.col_value.specs.declared.row.Stamped.{Stamped}
 use Rattle.row_history.specs.History.{stamped, Takes, Within}
 use Rattle.catalog_types.specs.declared.catalogue.Container.{Container}
-use Rattle.ros_container.specs.Encodings.{encodings_of}
+use Rattle.ros_container.specs.Encodings.{Written, written_of}
 use Rattle.del_vector.specs.declared.mark.Mark.{Mark}
 use Rattle.del_vector.specs.Marks.{epoch_at}
 use Rattle.stored_rows.specs.Held.{stamped_from}
@@ -73,7 +72,7 @@ joined_took epoch old here more new later need mid left is first rest =
     subst (λ (rows : List Stamped). Took epoch rows (new ++ later) need left) (sym is) (took_append epoch here new more later need mid left first rest)
 
 -- the rows of the containers before and after the marking
-pub each_took : (m : Contents) (es : List Encoding) (epoch : ℕ) (ks : List Container) (bs : List Beside) (each : List (List ℕ)) (need left : Asked → ℕ) (old : List Stamped)
+pub each_took : (m : Contents) (es : List Written) (epoch : ℕ) (ks : List Container) (bs : List Beside) (each : List (List ℕ)) (need left : Asked → ℕ) (old : List Stamped)
     → PicksEach m es ks bs each need left → StoresRows m es ks bs old
     → (new : List Stamped) × StoresRows m es ks (all_marked epoch bs each) new × Took epoch old new need left
 each_took m es epoch [] [] [] need left old picks stores =
@@ -135,7 +134,7 @@ took_for epoch old new need left wanted same took = record { asked = took.asked;
 pub prepared_takes : (m : Contents) (epoch : ℕ) (p : Projected) (wanted : List Asked) (places : Places) (old : List Stamped) → IsPrepared m p wanted places → Stores m p old → Within wanted old
     → (new : List Stamped) × Stores m (with_marks epoch places p) new × Takes epoch wanted old new
 prepared_takes m epoch p wanted places old ready (saved, stores, is) within =
-    let on_disk = each_took m (encodings_of p.entry) epoch p.entry.containers p.beside places.each ready.need ready.mid saved ready.containers stores in
+    let on_disk = each_took m (written_of p.entry) epoch p.entry.containers p.beside places.each ready.need ready.mid saved ready.containers stores in
     let after : List Stamped = deleted_at epoch places.unsaved p.unsaved in
     let in_memory : Took epoch p.unsaved after ready.mid ready.left = unsaved_took epoch p.unsaved places.unsaved ready.mid ready.left ready.unsaved in
     let both : Took epoch old (on_disk.0 ++ after) ready.need ready.left = joined_took epoch old saved p.unsaved on_disk.0 after ready.need ready.mid ready.left is on_disk.2 in_memory in (

@@ -9,10 +9,10 @@ use Rattle.std.proofs.lemmas.List.Elements.{All-drop, All-take}
 use Rattle.std.proofs.lemmas.List.{get_or-map, get_or-replicate, get_or-set_other, get_or-set_same, get_or_default, get_or_past, length-append, length-map, length-replicate}
 use Rattle.common_laws.specs.Maps.{Contents}
 use Rattle.catalog_types.specs.declared.catalogue.Container.{Container}
-use Rattle.col_value.specs.declared.kinds.Encoding.{Encoding}
 use Rattle.col_value.specs.declared.row.Asked.{Asked}
 use Rattle.col_value.specs.declared.value.Value.{Value}
 use Rattle.col_value.specs.declared.value.Value.TheVariants as value
+use Rattle.ros_container.specs.Encodings.{Written}
 use Rattle.ros_container.specs.Held.{HoldsContainer}
 use Rattle.ros_container.specs.Rows.{column_values, epoch_values, stored_values, AreWide}
 use Rattle.container_blocks.specs.Blocks.{AreBlock, rows_in}
@@ -60,7 +60,7 @@ column_is columns i rows lt =
     let other : (i == columns) ≡ false = grind (arith, nat_tests) in
     ap (λ (b : Bool). cond b (epoch_values rows) (column_values i rows)) other
 
-pub block_values : (holds : Option Contents) (es : List Encoding) (k : Container) (b i : ℕ) (vs : List Value) → i < length es → AreBlock holds es k i b vs → (m : Contents) → holds ≡ Some m → (rows : List Asked) → HoldsContainer m es k rows
+pub block_values : (holds : Option Contents) (es : List Written) (k : Container) (b i : ℕ) (vs : List Value) → i < length es → AreBlock holds es k i b vs → (m : Contents) → holds ≡ Some m → (rows : List Asked) → HoldsContainer m es k rows
     → vs ≡ column_values i (rows_in b rows)
 block_values holds es k b i vs lt are m told rows holding = are m told rows holding ∙ column_is (length es) i (rows_in b rows) lt
 
@@ -69,7 +69,7 @@ value_here i j xs vs is lt =
     let room : j < length xs = omega (arith, lt, ap length is, length-map xs (λ a. get_or a.row i value.Null)) in
     sym (ap (λ (ws : List Value). get_or ws j value.Null) is ∙ get_or-map (λ a. get_or a.row i value.Null) xs j blank value.Null room)
 
-pub narrows_column : (holds : Option Contents) (es : List Encoding) (k : Container) (b i : ℕ) (vs : List Value) (need : Asked → ℕ) (old new : List Bool) → i < length es → length old ≡ length vs
+pub narrows_column : (holds : Option Contents) (es : List Written) (k : Container) (b i : ℕ) (vs : List Value) (need : Asked → ℕ) (old new : List Bool) → i < length es → length old ≡ length vs
     → NarrowsBy i vs need old new → AreBlock holds es k i b vs → Narrows holds es k b need old new
 narrows_column holds es k b i vs need old new lt long each are = record {
   only = λ j here e. stays_only i (get_or vs j value.Null) need (get_or old j false) (get_or new j false) (each j here) e;
@@ -79,10 +79,10 @@ narrows_column holds es k b i vs need old new lt long each are = record {
       (value_here i j (rows_in b rows) vs (block_values holds es k b i vs lt are m told rows holding) (omega (arith, here, long)));
 }
 
-pub narrows_none : (holds : Option Contents) (es : List Encoding) (k : Container) (b : ℕ) (need : Asked → ℕ) (alive : List Bool) → Narrows holds es k b need alive alive
+pub narrows_none : (holds : Option Contents) (es : List Written) (k : Container) (b : ℕ) (need : Asked → ℕ) (alive : List Bool) → Narrows holds es k b need alive alive
 narrows_none holds es k b need alive = record { only = λ j here e. e; gone = λ m told rows holding j here was e. absurd (cc) }
 
-pub narrows_join : (holds now : Option Contents) (es : List Encoding) (k : Container) (b : ℕ) (need : Asked → ℕ) (old mid new : List Bool) → now ≡ holds → length mid ≡ length old → Narrows holds es k b need old mid → Narrows now es k b need mid new → Narrows holds es k b need old new
+pub narrows_join : (holds now : Option Contents) (es : List Written) (k : Container) (b : ℕ) (need : Asked → ℕ) (old mid new : List Bool) → now ≡ holds → length mid ≡ length old → Narrows holds es k b need old mid → Narrows now es k b need mid new → Narrows holds es k b need old new
 narrows_join holds now es k b need old mid new same long one two = record {
   only = λ j here e. one.only j here (two.only j (omega (arith, here, long)) e);
   gone = λ m told rows holding j here was e. by m told rows holding j here was e (get_or mid j false) refl;
@@ -97,7 +97,7 @@ narrows_join holds now es k b need old mid new same long one two = record {
 abbrev absent : Option (List Value)
 absent = None
 
-pub read_none : (holds : Option Contents) (es : List Encoding) (k : Container) (b n : ℕ) (columns : List (Option (List Value))) → columns ≡ replicate n None → AreRead holds es k b columns
+pub read_none : (holds : Option Contents) (es : List Written) (k : Container) (b n : ℕ) (columns : List (Option (List Value))) → columns ≡ replicate n None → AreRead holds es k b columns
 read_none holds es k b n columns is i =
     subst (λ (cs : List (Option (List Value))). IfSome (get_or cs i None) (AreBlock holds es k i b)) (sym is)
     (subst (λ (o : Option (List Value)). IfSome o (AreBlock holds es k i b)) (sym (none_at n i)) tt)
@@ -109,11 +109,11 @@ read_none holds es k b n columns is i =
         by true e = let less : i < n = grind (arith, nat_tests) in get_or-replicate n i absent None less
         by false e = let past : n ≤ i = grind (arith, nat_tests) in get_or_past (replicate n absent) i absent (omega (arith, past, length-replicate n absent))
 
-pub read_same : (holds now : Option Contents) (es : List Encoding) (k : Container) (b : ℕ) (columns : List (Option (List Value))) → now ≡ holds → AreRead now es k b columns → AreRead holds es k b columns
+pub read_same : (holds now : Option Contents) (es : List Written) (k : Container) (b : ℕ) (columns : List (Option (List Value))) → now ≡ holds → AreRead now es k b columns → AreRead holds es k b columns
 read_same holds now es k b columns same are = subst (λ (h : Option Contents). AreRead h es k b columns) same are
 
 -- one column more
-pub read_set : (holds now : Option Contents) (es : List Encoding) (k : Container) (b i : ℕ) (columns : List (Option (List Value))) (was new : Option (List Value)) → now ≡ holds → i < length columns → was ≡ get_or columns i None
+pub read_set : (holds now : Option Contents) (es : List Written) (k : Container) (b i : ℕ) (columns : List (Option (List Value))) (was new : Option (List Value)) → now ≡ holds → i < length columns → was ≡ get_or columns i None
     → (IfSome was (AreBlock now es k i b) → IfSome new (AreBlock now es k i b)) → AreRead holds es k b columns → AreRead holds es k b (set columns i new)
 read_set holds now es k b i columns was new same lt is step are j = by (nat_eq j i) refl
   where
@@ -153,7 +153,7 @@ same_items (x ∷ xs) (y ∷ ys) long each =
 wide_block : (n b : ℕ) (rows : List Asked) → AreWide n rows → AreWide n (rows_in b rows)
 wide_block n b rows wide = All-take (λ (a : Asked). length a.row ≡ n) 1024 (drop (1024 * b) rows) (All-drop (λ (a : Asked). length a.row ≡ n) (1024 * b) rows wide)
 
-pub rows_there : (holds : Option Contents) (es : List Encoding) (k : Container) (b : ℕ) (alive : List Bool) (columns : List (Option (List Value))) → length columns ≡ length es
+pub rows_there : (holds : Option Contents) (es : List Written) (k : Container) (b : ℕ) (alive : List Bool) (columns : List (Option (List Value))) → length columns ≡ length es
     → ((m : Contents) → holds ≡ Some m → (rows : List Asked) → HoldsContainer m es k rows → length alive ≤ length (rows_in b rows)) → ((j : ℕ) → j < length columns → IsSome (get_or columns j None)) → AreRead holds es k b columns
     → HaveRows holds es k b alive (columns_in columns)
 rows_there holds es k b alive columns many room there are m told rows holding i lt e =
@@ -175,8 +175,8 @@ rows_there holds es k b alive columns many room there are m told rows holding i 
     column_at j own None some is = absurd (cc)
     column_at j own (Some vs) some is = block_values holds es k b j vs own is m told rows holding
 
-pub rows_same : (holds now : Option Contents) (es : List Encoding) (k : Container) (b : ℕ) (alive : List Bool) (columns : List (List Value)) → now ≡ holds → HaveRows now es k b alive columns → HaveRows holds es k b alive columns
+pub rows_same : (holds now : Option Contents) (es : List Written) (k : Container) (b : ℕ) (alive : List Bool) (columns : List (List Value)) → now ≡ holds → HaveRows now es k b alive columns → HaveRows holds es k b alive columns
 rows_same holds now es k b alive columns same have = subst (λ (h : Option Contents). HaveRows h es k b alive columns) same have
 
-pub none_there : (holds : Option Contents) (es : List Encoding) (k : Container) (b : ℕ) (alive : List Bool) (columns : List (List Value)) → (Any (λ a. a ≡ true) alive → ⊥) → HaveRows holds es k b alive columns
+pub none_there : (holds : Option Contents) (es : List Written) (k : Container) (b : ℕ) (alive : List Bool) (columns : List (List Value)) → (Any (λ a. a ≡ true) alive → ⊥) → HaveRows holds es k b alive columns
 none_there holds es k b alive columns none m told rows holding i lt e = absurd (none (i, true, lt, get_or_default alive i true false lt ∙ e, refl))

@@ -5,7 +5,6 @@ use Rattle.std.specs.List.{AllZip}
 use Rattle.std.proofs.lemmas.List.{take_more, take_all}
 use Rattle.std.proofs.lemmas.Slice.Zip.{AllZip-long}
 use Rattle.common_laws.specs.Maps.{Contents}
-use Rattle.col_value.specs.declared.kinds.Encoding.{Encoding}
 use Rattle.col_value.specs.declared.row.Asked.{Asked}
 use Rattle.catalog_types.specs.declared.catalogue.Container.{Container}
 use Rattle.stored_rows.specs.Stored.{Beside, mark_in}
@@ -15,6 +14,7 @@ use Rattle.proj_store.specs.Loaded.{beside_of}
 use Rattle.proj_store.specs.Sound.{IsKept}
 use Rattle.proj_store.specs.Marking.{PicksIn, PicksEach, ArePlaces}
 use Rattle.proj_store.proofs.SavedRows.{beside_next}
+use Rattle.ros_container.specs.Encodings.{Written}
 
 pub picks_agree : (f mark : ℕ → Option ℕ) (rows : List Asked) (places : List ℕ) (need left : Asked → ℕ) → ((i : ℕ) → f i ≡ mark i) → Picks f rows places need left → Picks mark rows places need left
 picks_agree f mark rows places need left same picks = record {
@@ -35,14 +35,14 @@ picks_from mark rows places need mid left same picks = record {
 }
 
 -- no container yet
-pub none_picked : (m : Contents) (es : List Encoding) (each : List (List ℕ)) (need : Asked → ℕ) → each ≡ [] → PicksEach m es [] [] each need need
+pub none_picked : (m : Contents) (es : List Written) (each : List (List ℕ)) (need : Asked → ℕ) → each ≡ [] → PicksEach m es [] [] each need need
 none_picked m es each need is = subst (λ (ps : List (List ℕ)). PicksEach m es [] [] ps need need) (sym is) (λ q. refl)
 
 pub none_placed : (each : List (List ℕ)) → each ≡ [] → AllZip ArePlaces [] each
 none_placed each is = subst (AllZip ArePlaces []) (sym is) tt
 
 -- one container more
-each_more : (m : Contents) (es : List Encoding) (ks : List Container) (bs : List Beside) (each : List (List ℕ)) (k : Container) (b : Beside) (places : List ℕ) (need mid left : Asked → ℕ)
+each_more : (m : Contents) (es : List Written) (ks : List Container) (bs : List Beside) (each : List (List ℕ)) (k : Container) (b : Beside) (places : List ℕ) (need mid left : Asked → ℕ)
     → PicksEach m es ks bs each need mid → PicksIn m es k b places mid left → PicksEach m es (ks ++ k ∷ []) (bs ++ b ∷ []) (each ++ places ∷ []) need left
 each_more m es [] [] [] k b places need mid left was one = (left, λ rows holds. picks_from (mark_in b) rows places need mid left was (one rows holds), λ q. refl)
 each_more m es [] [] (e ∷ each) k b places need mid left was one = absurd was
@@ -51,7 +51,7 @@ each_more m es (j ∷ ks) [] each k b places need mid left was one = absurd was
 each_more m es (j ∷ ks) (c ∷ bs) [] k b places need mid left was one = absurd was
 each_more m es (j ∷ ks) (c ∷ bs) (e ∷ each) k b places need mid left (first, here, rest) one = (first, here, each_more m es ks bs each k b places first mid left rest one)
 
-pub picks_more : (es : List Encoding) (ks : List Container) (kept : List Kept) (i : ℕ) (k : Container) (one : Kept) (old new : List (List ℕ)) (places : List ℕ) (need mid left : Asked → ℕ) (now found : Option Contents)
+pub picks_more : (es : List Written) (ks : List Container) (kept : List Kept) (i : ℕ) (k : Container) (one : Kept) (old new : List (List ℕ)) (places : List ℕ) (need mid left : Asked → ℕ) (now found : Option Contents)
     → i < length ks → i < length kept → k ≡ get_or ks i k → one ≡ get_or kept i one → now ≡ found → new ≡ old ++ places ∷ []
     → ((m : Contents) → found ≡ Some m → PicksEach m es (take i ks) (take i (map beside_of kept)) old need mid)
     → ((m : Contents) → now ≡ Some m → PicksIn m es k (beside_of one) places mid left)
@@ -64,7 +64,7 @@ picks_more es ks kept i k one old new places need mid left now found lt also k_i
     (subst (λ (r : List (List ℕ)). PicksEach m es (take i ks ++ k ∷ []) (take i (map beside_of kept) ++ beside_of one ∷ []) r need left) (sym new_is)
     (each_more m es (take i ks) (take i (map beside_of kept)) old k (beside_of one) places need mid left (was m told) (picks m (same ∙ told)))))
 
-pub picks_all : (m : Contents) (es : List Encoding) (ks : List Container) (bs : List Beside) (each : List (List ℕ)) (need left : Asked → ℕ) (i : ℕ) → length ks ≤ i → length bs ≤ i
+pub picks_all : (m : Contents) (es : List Written) (ks : List Container) (bs : List Beside) (each : List (List ℕ)) (need left : Asked → ℕ) (i : ℕ) → length ks ≤ i → length bs ≤ i
     → PicksEach m es (take i ks) (take i bs) each need left → PicksEach m es ks bs each need left
 picks_all m es ks bs each need left i past also picks =
     subst (λ (js : List Container). PicksEach m es js bs each need left) (take_all i ks past) (subst (λ (cs : List Beside). PicksEach m es (take i ks) cs each need left) (take_all i bs also) picks)
@@ -82,7 +82,7 @@ places_more ks i k old new places lt k_is new_is was one =
     (subst (λ (r : List (List ℕ)). AllZip ArePlaces (take i ks ++ k ∷ []) r) (sym new_is) (places_push (take i ks) old k places was one))
 
 -- all containers are done
-pub picks_done : (es : List Encoding) (ks ps : List Container) (kept : List Kept) (each : List (List ℕ)) (need left : Asked → ℕ) (i : ℕ) (found : Option Contents) → ks ≡ ps → AllZip IsKept ps (map beside_of kept) → length ks ≤ i
+pub picks_done : (es : List Written) (ks ps : List Container) (kept : List Kept) (each : List (List ℕ)) (need left : Asked → ℕ) (i : ℕ) (found : Option Contents) → ks ≡ ps → AllZip IsKept ps (map beside_of kept) → length ks ≤ i
     → ((m : Contents) → found ≡ Some m → PicksEach m es (take i ks) (take i (map beside_of kept)) each need left) → (m : Contents) → found ≡ Some m → PicksEach m es ps (map beside_of kept) each need left
 picks_done es ks ps kept each need left i found same all past picks m told =
     let long : length (map beside_of kept) ≤ i = omega (arith, past, ap length same, AllZip-long IsKept ps (map beside_of kept) all) in

@@ -7,7 +7,7 @@ use Rattle.common_laws.specs.Maps.{Contents}
 use Rattle.col_value.specs.declared.row.Asked.{Asked}
 use Rattle.col_value.specs.declared.row.Stamped.{Stamped}
 use Rattle.catalog_types.specs.declared.catalogue.Projection.{Projection}
-use Rattle.ros_container.specs.Encodings.{encodings_of}
+use Rattle.ros_container.specs.Encodings.{written_of}
 use Rattle.stored_rows.specs.Stored.{Projected, with_rows}
 use Rattle.write_store.specs.declared.held.Held.{Held}
 use Rattle.write_store.specs.Memory.{Memory as InMemory, stamp, IsLive}
@@ -48,10 +48,10 @@ picks_live rows places need left picks i d lt =
 
 -- the same of a projection as it is seen
 pub prepared_seen : (m : Contents) (entry : Projection) (kept inside : List Kept) (memory : InMemory) (p : Loaded) (wanted : List Asked) (each : List (List ℕ)) (ps : List ℕ) (held : List Held) (need mid left : Asked → ℕ)
-    → kept ≡ inside → seen entry inside memory ≡ p → ((q : Asked) → need q ≡ tally q wanted) → PicksEach m (encodings_of entry) entry.containers (map beside_of kept) each need mid → map stamp held ≡ memory.rows
+    → kept ≡ inside → seen entry inside memory ≡ p → ((q : Asked) → need q ≡ tally q wanted) → PicksEach m (written_of entry) entry.containers (map beside_of kept) each need mid → map stamp held ≡ memory.rows
     → Picks (del_at held) (asked_of held) ps mid left → IsPrepared m p.stored wanted (places each ps)
 prepared_seen m entry kept inside memory p wanted each ps held need mid left same view starts picked rows picks =
-    let there : PicksEach m (encodings_of entry) entry.containers (map beside_of inside) each need mid = subst (λ (ks : List Kept). PicksEach m (encodings_of entry) entry.containers (map beside_of ks) each need mid) same picked in
+    let there : PicksEach m (written_of entry) entry.containers (map beside_of inside) each need mid = subst (λ (ks : List Kept). PicksEach m (written_of entry) entry.containers (map beside_of ks) each need mid) same picked in
     let unsaved : Picks (del_of memory.rows) (map asked_in memory.rows) ps mid left = picks_unsaved held memory.rows ps mid left rows picks in
     let made : IsPrepared m (projected entry inside memory) wanted (places each ps) = record { need = need; mid = mid; left = left; starts = starts; containers = there; unsaved = unsaved } in
     subst (λ (x : Loaded). IsPrepared m x.stored wanted (places each ps)) view made

@@ -7,12 +7,13 @@ use Rattle.std.proofs.lemmas.Slice.Zip.{AllZip-long}
 use Rattle.common_laws.specs.Maps.{Contents}
 use Rattle.col_disk.specs.declared.disk.StoreFault.{StoreFault}
 use Rattle.col_disk.specs.declared.disk.StoreFault.TheVariants.{Disk, Damaged, Memory}
-use Rattle.col_value.specs.declared.kinds.Encoding.{Encoding}
 use Rattle.col_value.specs.declared.row.Stamped.{Stamped}
 use Rattle.row_history.specs.History.{stamped}
+use Rattle.catalog_types.specs.Blank.{blank_container}
 use Rattle.catalog_types.specs.declared.catalogue.Container.{Container}
+use Rattle.catalog_types.specs.declared.catalogue.ProjColumn.{ProjColumn}
 use Rattle.catalog_types.specs.declared.catalogue.Projection.{Projection}
-use Rattle.ros_container.specs.Encodings.{encodings_of}
+use Rattle.ros_container.specs.Encodings.{Written, written_of}
 use Rattle.ros_container.specs.Held.{BlamesContainer}
 use Rattle.stored_rows.specs.Held.{HoldsVector, HoldsMarked, stamped_from}
 use Rattle.stored_rows.specs.Stored.{Beside, Projected, mark_in, StoresRows, Stores}
@@ -24,7 +25,8 @@ use Rattle.wanted_rows.specs.Picked.{asked_of, del_at}
 use Rattle.proj_store.specs.declared.kept.Kept.{Kept}
 use Rattle.write_store.specs.Memory.{Memory as InMemory}
 use Rattle.proj_store.specs.Loaded.{Loaded, beside_of, projected, seen}
-use Rattle.proj_store.specs.Sound.{IsKept, HasFileNumbers}
+use Rattle.ros_container.specs.Readable.{IsReadable}
+use Rattle.proj_store.specs.Sound.{IsKept}
 use Rattle.proj_store.specs.Reading.{BlamesLoad, BlamesRows, ReadsContainer, ReadsEach, HasVectors}
 
 -- rows in memory as the container has them
@@ -42,11 +44,11 @@ stamp_rows k f (h ∷ rows) is =
 from_start : (f : ℕ → Option ℕ) (i : ℕ) → f i ≡ f (0 + i)
 from_start f i = let same : i ≡ 0 + i = omega arith in ap f same
 
-pub read_marked : (m : Contents) (es : List Encoding) (k : Container) (mark : ℕ → Option ℕ) (rows : List Held) → ReadsContainer m es k mark rows → HoldsMarked m es k mark (map stamp rows)
+pub read_marked : (m : Contents) (es : List Written) (k : Container) (mark : ℕ → Option ℕ) (rows : List Held) → ReadsContainer m es k mark rows → HoldsMarked m es k mark (map stamp rows)
 read_marked m es k mark rows read = (asked_of rows, read.held, stamp_rows 0 mark rows (λ i. read.deleted i ∙ from_start mark i))
 
 -- one container more
-reads_push : (m : Contents) (es : List Encoding) (ks : List Container) (bs : List Beside) (rows : List Stamped) (k : Container) (b : Beside) (here : List Stamped)
+reads_push : (m : Contents) (es : List Written) (ks : List Container) (bs : List Beside) (rows : List Stamped) (k : Container) (b : Beside) (here : List Stamped)
     → ReadsEach m es ks bs rows → HoldsMarked m es k (mark_in b) here → ReadsEach m es (ks ++ k ∷ []) (bs ++ b ∷ []) (rows ++ here)
 reads_push m es [] [] rows k b here held one = (here, [], one, refl, ap (λ (r : List Stamped). r ++ here) held ∙ sym (append-nil here))
 reads_push m es [] (c ∷ bs) rows k b here held one = absurd held
@@ -59,7 +61,7 @@ beside_next kept i d lt =
     take_more (map beside_of kept) i (beside_of d) (omega (arith, lt, length-map kept beside_of))
     ∙ ap (λ (b : Beside). take i (map beside_of kept) ++ b ∷ []) (get_or-map beside_of kept i d (beside_of d) lt)
 
-pub reads_more : (es : List Encoding) (ks : List Container) (kept : List Kept) (i : ℕ) (k : Container) (one : Kept) (old new : List Stamped) (rows : List Held) (now found : Option Contents)
+pub reads_more : (es : List Written) (ks : List Container) (kept : List Kept) (i : ℕ) (k : Container) (one : Kept) (old new : List Stamped) (rows : List Held) (now found : Option Contents)
     → i < length ks → i < length kept → k ≡ get_or ks i k → one ≡ get_or kept i one → now ≡ found → new ≡ old ++ map stamp rows
     → ((m : Contents) → found ≡ Some m → ReadsEach m es (take i ks) (take i (map beside_of kept)) old)
     → ((m : Contents) → now ≡ Some m → ReadsContainer m es k (mark_in (beside_of one)) rows)
@@ -72,7 +74,7 @@ reads_more es ks kept i k one old new rows now found lt also k_is one_is same ne
     (subst (λ (r : List Stamped). ReadsEach m es (take i ks ++ k ∷ []) (take i (map beside_of kept) ++ beside_of one ∷ []) r) (sym new_is)
     (reads_push m es (take i ks) (take i (map beside_of kept)) old k (beside_of one) (map stamp rows) (was m told) (read_marked m es k (mark_in (beside_of one)) rows (read m (same ∙ told))))))
 
-pub reads_all : (m : Contents) (es : List Encoding) (ks : List Container) (bs : List Beside) (i : ℕ) (rows : List Stamped) → length ks ≤ i → length bs ≤ i → ReadsEach m es (take i ks) (take i bs) rows → ReadsEach m es ks bs rows
+pub reads_all : (m : Contents) (es : List Written) (ks : List Container) (bs : List Beside) (i : ℕ) (rows : List Stamped) → length ks ≤ i → length bs ≤ i → ReadsEach m es (take i ks) (take i bs) rows → ReadsEach m es ks bs rows
 reads_all m es ks bs i rows past also read =
     subst (λ (js : List Container). ReadsEach m es js bs rows) (take_all i ks past) (subst (λ (cs : List Beside). ReadsEach m es (take i ks) cs rows) (take_all i bs also) read)
 
@@ -94,15 +96,15 @@ kept_at ks kept i k one all lt k_is one_is =
     (zip_at IsKept ks (map beside_of kept) i k (beside_of one) all lt))
 
 -- with the delete vectors of the disk these are the stored rows
-pub stores_each : (m : Contents) (es : List Encoding) (ks : List Container) (bs : List Beside) (rows : List Stamped) → AllZip (λ k b. HoldsVector m k b.held) ks bs → ReadsEach m es ks bs rows → StoresRows m es ks bs rows
+pub stores_each : (m : Contents) (es : List Written) (ks : List Container) (bs : List Beside) (rows : List Stamped) → AllZip (λ k b. HoldsVector m k b.held) ks bs → ReadsEach m es ks bs rows → StoresRows m es ks bs rows
 stores_each m es [] [] rows vectors read = read
 stores_each m es [] (b ∷ bs) rows vectors read = absurd read
 stores_each m es (k ∷ ks) [] rows vectors read = absurd read
 stores_each m es (k ∷ ks) (b ∷ bs) rows vectors (here, more, marked, rest, is) = (here, more, vectors.0, marked, stores_each m es ks bs more vectors.1 rest, is)
 
-pub stored_all : (m : Contents) (p : Projected) (saved unsaved rows : List Stamped) → HasVectors m p → ReadsEach m (encodings_of p.entry) p.entry.containers p.beside saved → unsaved ≡ p.unsaved → rows ≡ saved ++ unsaved → Stores m p rows
+pub stored_all : (m : Contents) (p : Projected) (saved unsaved rows : List Stamped) → HasVectors m p → ReadsEach m (written_of p.entry) p.entry.containers p.beside saved → unsaved ≡ p.unsaved → rows ≡ saved ++ unsaved → Stores m p rows
 stored_all m p saved unsaved rows vectors read same is =
-    (saved, stores_each m (encodings_of p.entry) p.entry.containers p.beside saved vectors read, is ∙ ap (λ (r : List Stamped). saved ++ r) same)
+    (saved, stores_each m (written_of p.entry) p.entry.containers p.beside saved vectors read, is ∙ ap (λ (r : List Stamped). saved ++ r) same)
 
 -- the file of a container that is to blame
 pub blames_load : (ks : List Container) (i : ℕ) (k : Container) (holds : Option Contents) (fault : StoreFault) → i < length ks → k ≡ get_or ks i k → BlamesVector k holds fault → BlamesLoad ks holds fault
@@ -110,13 +112,13 @@ blames_load ks i k holds Disk lt is blames = tt
 blames_load ks i k holds Memory lt is blames = tt
 blames_load ks i k holds (Damaged q) lt is blames = (i, k, lt, sym is, blames)
 
-pub blames_rows : (p : Projection) (ks : List Container) (i : ℕ) (k : Container) (holds : Option Contents) (fault : StoreFault) → ks ≡ p.containers → i < length ks → k ≡ get_or ks i k → BlamesContainer (encodings_of p) k holds fault → BlamesRows p holds fault
+pub blames_rows : (p : Projection) (ks : List Container) (i : ℕ) (k : Container) (holds : Option Contents) (fault : StoreFault) → ks ≡ p.containers → i < length ks → k ≡ get_or ks i k → BlamesContainer (written_of p) k holds fault → BlamesRows p holds fault
 blames_rows p ks i k holds Disk same lt is blames = tt
 blames_rows p ks i k holds Memory same lt is blames = tt
-blames_rows p ks i k holds (Damaged q) same lt is blames = subst (λ (js : List Container). Any (λ k. BlamesContainer (encodings_of p) k holds (Damaged q)) js) same (i, k, lt, sym is, blames)
+blames_rows p ks i k holds (Damaged q) same lt is blames = subst (λ (js : List Container). Any (λ k. BlamesContainer (written_of p) k holds (Damaged q)) js) same (i, k, lt, sym is, blames)
 
 -- the same of an entry's containers as a slice
-pub reads_done : (es : List Encoding) (ks ps : List Container) (kept : List Kept) (i : ℕ) (rows : List Stamped) (found : Option Contents) → ks ≡ ps → AllZip IsKept ps (map beside_of kept) → length ks ≤ i
+pub reads_done : (es : List Written) (ks ps : List Container) (kept : List Kept) (i : ℕ) (rows : List Stamped) (found : Option Contents) → ks ≡ ps → AllZip IsKept ps (map beside_of kept) → length ks ≤ i
     → ((m : Contents) → found ≡ Some m → ReadsEach m es (take i ks) (take i (map beside_of kept)) rows) → (m : Contents) → found ≡ Some m → ReadsEach m es ps (map beside_of kept) rows
 reads_done es ks ps kept i rows found same all past read m told =
     let long : length (map beside_of kept) ≤ i = omega (arith, past, ap length same, AllZip-long IsKept ps (map beside_of kept) all) in
@@ -125,30 +127,30 @@ reads_done es ks ps kept i rows found same all past read m told =
 pub kept_within : (ks ps : List Container) (kept : List Kept) (i : ℕ) → ks ≡ ps → AllZip IsKept ps (map beside_of kept) → i < length ks → i < length kept
 kept_within ks ps kept i same all lt = omega (arith, lt, ap length same, kept_long ps kept all)
 
-pub files_at : (n : ℕ) (ks ps : List Container) (i : ℕ) (k : Container) → ks ≡ ps → All (HasFileNumbers n) ps → i < length ks → k ≡ get_or ks i k → HasFileNumbers n k
-files_at n ks ps i k same all lt is = subst (HasFileNumbers n) (sym is) (subst (All (HasFileNumbers n)) (sym same) all i k lt)
+pub files_at : (cs : List ProjColumn) (ks ps : List Container) (i : ℕ) (k : Container) → ks ≡ ps → All (IsReadable cs) ps → i < length ks → k ≡ get_or ks i k → IsReadable cs k
+files_at cs ks ps i k same all lt is = subst (IsReadable cs) (sym is) (subst (All (IsReadable cs)) (sym same) all i k lt)
 
 pub kept_here : (ks ps : List Container) (kept : List Kept) (i : ℕ) (k : Container) (one : Kept) → ks ≡ ps → AllZip IsKept ps (map beside_of kept) → i < length ks → k ≡ get_or ks i k → one ≡ get_or kept i one → IsKept k (beside_of one)
 kept_here ks ps kept i k one same all lt k_is one_is = kept_at ks kept i k one (subst (λ (js : List Container). AllZip IsKept js (map beside_of kept)) (sym same) all) lt k_is one_is
 
 pub blames_here : (p : Projection) (ks : List Container) (i : ℕ) (k : Container) (now found : Option Contents) (fault : StoreFault) → ks ≡ p.containers → i < length ks → k ≡ get_or ks i k → now ≡ found
-    → BlamesContainer (encodings_of p) k now fault → BlamesRows p found fault
-blames_here p ks i k now found fault same lt is kept blames = blames_rows p ks i k found fault same lt is (subst (λ (h : Option Contents). BlamesContainer (encodings_of p) k h fault) kept blames)
+    → BlamesContainer (written_of p) k now fault → BlamesRows p found fault
+blames_here p ks i k now found fault same lt is kept blames = blames_rows p ks i k found fault same lt is (subst (λ (h : Option Contents). BlamesContainer (written_of p) k h fault) kept blames)
 
 pub blames_load_here : (ks : List Container) (i : ℕ) (k : Container) (now found : Option Contents) (fault : StoreFault) → i < length ks → k ≡ get_or ks i k → now ≡ found → BlamesVector k now fault → BlamesLoad ks found fault
 blames_load_here ks i k now found fault lt is kept blames = blames_load ks i k found fault lt is (subst (λ (h : Option Contents). BlamesVector k h fault) kept blames)
 
 -- the container at a place
 abbrev pub item : List Container → ℕ → Container
-item ks i = get_or ks i (record { base = 0; rows = 0; least_epoch = 0; greatest_epoch = 0; level = 0; marks = None; greatest_mark = 0 })
+item ks i = get_or ks i blank_container
 
 pub item_is : (ks : List Container) (i : ℕ) → i < length ks → item ks i ≡ get_or ks i (item ks i)
 item_is ks i lt = get_or_default ks i _ (item ks i) lt
 
 -- all rows of a projection as it is seen
 pub stored_seen : (m : Contents) (entry : Projection) (kept inside : List Kept) (memory : InMemory) (p : Loaded) (saved : List Stamped) (unsaved : List Held) (rows : List Stamped) → kept ≡ inside → seen entry inside memory ≡ p
-    → HasVectors m p.stored → ReadsEach m (encodings_of entry) entry.containers (map beside_of kept) saved → map stamp unsaved ≡ memory.rows → rows ≡ saved ++ map stamp unsaved → Stores m p.stored rows
+    → HasVectors m p.stored → ReadsEach m (written_of entry) entry.containers (map beside_of kept) saved → map stamp unsaved ≡ memory.rows → rows ≡ saved ++ map stamp unsaved → Stores m p.stored rows
 stored_seen m entry kept inside memory p saved unsaved rows same is vectors read are all =
     let vectors_too : HasVectors m (projected entry inside memory) = subst (λ (x : Loaded). HasVectors m x.stored) (sym is) vectors in
-    let read_too : ReadsEach m (encodings_of entry) entry.containers (map beside_of inside) saved = subst (λ (ks : List Kept). ReadsEach m (encodings_of entry) entry.containers (map beside_of ks) saved) same read in
+    let read_too : ReadsEach m (written_of entry) entry.containers (map beside_of inside) saved = subst (λ (ks : List Kept). ReadsEach m (written_of entry) entry.containers (map beside_of ks) saved) same read in
     subst (λ (x : Loaded). Stores m x.stored rows) is (stored_all m (projected entry inside memory) saved (map stamp unsaved) rows vectors_too read_too are all)

@@ -11,13 +11,13 @@ use Rattle.common_laws.proofs.Truths.{and_true}
 use Rattle.catalog_types.specs.declared.catalogue.Container.{Container}
 use Rattle.col_file.specs.Read.{is_between}
 use Rattle.col_value.specs.Order.{value_cmp}
-use Rattle.col_value.specs.declared.kinds.Encoding.{Encoding}
 use Rattle.col_value.specs.declared.row.Asked.{Asked}
 use Rattle.col_value.specs.declared.value.Value.{Value}
 use Rattle.col_value.specs.declared.value.Value.TheVariants as value
 use Rattle.pos_index.specs.declared.index.Entry.{Entry}
 use Rattle.pos_index.specs.declared.index.PosIndex.{PosIndex}
 use Rattle.pos_index.specs.Index.{blocks}
+use Rattle.ros_container.specs.Encodings.{Written}
 use Rattle.ros_container.specs.Held.{HoldsContainer}
 use Rattle.ros_container.specs.Rows.{column_values, stored_values}
 use Rattle.container_blocks.specs.Blocks.{AreEpochs, HasIndex, IsIndexOf, rows_in}
@@ -28,7 +28,8 @@ use Rattle.wanted_rows.specs.Picked.{blank}
 use Rattle.wanted_rows.proofs.Steps.{picks_past}
 use Rattle.proj_store.specs.Blocks.{HasIndexes, PicksOn, in_list}
 use Rattle.proj_store.specs.Candidates.{AreCandidates, HaveRows, MissesBlock, MissesEntry, MissesOne, Narrows, candidate, candidates, row_of}
-use Rattle.proj_store.proofs.BlockRows.{block_room, container_long, no_index}
+use Rattle.ros_container.proofs.Long.{container_long}
+use Rattle.proj_store.proofs.BlockRows.{block_room, no_index}
 use Rattle.proj_store.proofs.Candidacy.{candidate_at, candidates_long}
 use Rattle.proj_store.proofs.Narrowing.{column_is}
 
@@ -41,7 +42,7 @@ row_stands : (b i : ℕ) (rows : List Asked) → i < length (rows_in b rows) →
 row_stands b i rows lt =
     get_or-take 1024 (drop (1024 * b) rows) i blank (omega (arith, lt, length-take 1024 (drop (1024 * b) rows))) ∙ get_or-drop (1024 * b) rows i blank
 
-pub block_within : (holds : Option Contents) (es : List Encoding) (k : Container) (b n : ℕ) → n ≡ min 1024 (k.rows - 1024 * b) → (m : Contents) → holds ≡ Some m → (rows : List Asked) → HoldsContainer m es k rows → n ≤ length (rows_in b rows)
+pub block_within : (holds : Option Contents) (es : List Written) (k : Container) (b n : ℕ) → n ≡ min 1024 (k.rows - 1024 * b) → (m : Contents) → holds ≡ Some m → (rows : List Asked) → HoldsContainer m es k rows → n ≤ length (rows_in b rows)
 block_within holds es k b n long m told rows holding = omega (arith, long, block_long b rows, container_long m es k rows holding)
 
 -- ---- candidates
@@ -68,7 +69,7 @@ make row ins = record { row = row; ins = ins }
 ins_here : (i : ℕ) (xs : List Asked) (stamps : List ℕ) → stamps ≡ map (λ a. a.ins) xs → i < length xs → get_or stamps i 0 ≡ (get_or xs i blank).ins
 ins_here i xs stamps is lt = ap (λ (ns : List ℕ). get_or ns i 0) is ∙ get_or-map (λ a. a.ins) xs i blank 0 lt
 
-candidates_stand : (holds : Option Contents) (es : List Encoding) (k : Container) (deletes : List (Option ℕ)) (b : ℕ) (need : Asked → ℕ) (first last : List Bool) (stamps : List ℕ) (columns : List (List Value))
+candidates_stand : (holds : Option Contents) (es : List Written) (k : Container) (deletes : List (Option ℕ)) (b : ℕ) (need : Asked → ℕ) (first last : List Bool) (stamps : List ℕ) (columns : List (List Value))
     → b < blocks k.rows → length last ≡ min 1024 (k.rows - 1024 * b) → length first ≡ length last
     → ((i : ℕ) → i < length first → get_or first i false ≡ is_none (in_list deletes (1024 * b + i)))
     → Narrows holds es k b need first last → (Any (λ a. a ≡ true) last → AreEpochs holds es k b stamps) → HaveRows holds es k b last columns
@@ -97,7 +98,7 @@ candidates_stand holds es k deletes b need first last stamps columns lt last_lon
     }
 
 -- the same of lists that one call hands to the next
-pub candidates_made : (holds now : Option Contents) (es : List Encoding) (k : Container) (deletes : List (Option ℕ)) (b : ℕ) (need : Asked → ℕ) (alive first last end seen : List Bool) (stamps : List ℕ) (columns read : List (List Value))
+pub candidates_made : (holds now : Option Contents) (es : List Written) (k : Container) (deletes : List (Option ℕ)) (b : ℕ) (need : Asked → ℕ) (alive first last end seen : List Bool) (stamps : List ℕ) (columns read : List (List Value))
     → b < blocks k.rows → now ≡ holds → first ≡ alive → end ≡ last → seen ≡ last → read ≡ columns → length alive ≡ min 1024 (k.rows - 1024 * b) → length last ≡ length first
     → ((i : ℕ) → i < length alive → get_or alive i false ≡ is_none (in_list deletes (1024 * b + i)))
     → Narrows holds es k b need first last → (Any (λ a. a ≡ true) seen → AreEpochs now es k b stamps) → HaveRows holds es k b last columns
@@ -129,8 +130,8 @@ missed_by (Some e) column need q vs j misses between lt is =
 index_misses : (ats : List PosIndex) (i b : ℕ) (need : Asked → ℕ) → i < length ats → IsSomeAnd (slice_get ats i) (MissesBlock b i need) → MissesBlock b i need (get_or ats i no_index)
 index_misses ats i b need lt misses = subst (λ (o : Option PosIndex). IsSomeAnd o (MissesBlock b i need)) (slice_get-get_or ats i no_index lt) misses
 
-pub misses_on : (holds : Option Contents) (es : List Encoding) (k : Container) (mark : ℕ → Option ℕ) (ats : List PosIndex) (columns b : ℕ) (places : List ℕ) (need : Asked → ℕ) → columns ≡ length es → length ats ≡ columns + 1 → All (IsIndexOf k.rows) ats → b < blocks k.rows
-    → HasIndexes k holds ats → MissesOne ats columns b need → PicksOn holds es k mark b places places need need
+pub misses_on : (holds : Option Contents) (es : List Written) (k : Container) (mark : ℕ → Option ℕ) (ats : List PosIndex) (columns b : ℕ) (places : List ℕ) (need : Asked → ℕ) → columns ≡ length es → length ats ≡ columns + 1 → All (IsIndexOf k.rows) ats → b < blocks k.rows
+    → HasIndexes es k holds ats → MissesOne ats columns b need → PicksOn holds es k mark b places places need need
 misses_on holds es k mark ats columns b places need same many fit lt held (i, own, misses) m told rows holding start was =
     picks_past (1024 * b) (1024 * (b + 1)) mark rows places start need was (omega arith)
     (λ p from less in_rows.
@@ -142,7 +143,7 @@ misses_on holds es k mark ats columns b places need same many fit lt held (i, ow
     let in_block : j < length xs = omega (arith, from, less, in_rows, block_long b rows) in
     let place : 1024 * b + j ≡ p = omega (arith, from) in
     let is : get_or xs j blank ≡ get_or rows p blank = row_stands b j rows in_block ∙ ap (λ (n : ℕ). get_or rows n blank) place in
-    let index : HasIndex k i at (Some m) = subst (HasIndex k i at) told (held i no_index room) in
+    let index : HasIndex es k i at (Some m) = subst (HasIndex es k i at) told (held i no_index room) in
     let between = lie_between m es k i b at rows (omega (arith, i_own)) (fit i no_index room) index holding lt in
     let vs_are : stored_values (length es) i xs ≡ column_values i xs = column_is (length es) i xs i_own in
     missed_by (slice_get at.entries b) i need (get_or rows p blank) (stored_values (length es) i xs) j (index_misses ats i b need room misses) between

@@ -5,20 +5,20 @@ use Rattle.std.specs.Ordering.{is_le}
 use Rattle.common_laws.specs.Maps.{Contents}
 use Rattle.catalog_types.specs.declared.catalogue.Container.{Container}
 use Rattle.col_value.specs.Order.{value_cmp}
-use Rattle.col_value.specs.declared.kinds.Encoding.{Encoding}
 use Rattle.col_value.specs.declared.row.Asked.{Asked}
 use Rattle.col_value.specs.declared.value.Value.{Value}
 use Rattle.col_value.specs.declared.value.Value.TheVariants as value
 use Rattle.pos_index.specs.declared.index.Entry.{Entry}
 use Rattle.pos_index.specs.declared.index.PosIndex.{PosIndex}
+use Rattle.ros_container.specs.Encodings.{Written}
 use Rattle.ros_container.specs.Held.{HoldsContainer}
 use Rattle.container_blocks.specs.Blocks.{rows_in, AreBlock}
 use Rattle.write_store.specs.declared.held.Inserted.{Inserted}
 use Rattle.wanted_rows.specs.Picked.{StandFrom, blank}
 
 -- where a disk tells its contents, and the container holds rows, these are candidates among the rows of block b
-abbrev pub AreCandidates : Option Contents → List Encoding → Container → (ℕ → Option ℕ) → ℕ → (Asked → ℕ) → List (Option Inserted) → Type 0
-AreCandidates holds encodings k mark b need some = (m : Contents) → holds ≡ Some m → (rows : List Asked) → HoldsContainer m encodings k rows → StandFrom (1024 * b) mark rows need some
+abbrev pub AreCandidates : Option Contents → List Written → Container → (ℕ → Option ℕ) → ℕ → (Asked → ℕ) → List (Option Inserted) → Type 0
+AreCandidates holds written k mark b need some = (m : Contents) → holds ≡ Some m → (rows : List Asked) → HoldsContainer m written k rows → StandFrom (1024 * b) mark rows need some
 
 -- no row with this value in a column is wanted
 abbrev pub IsUnwanted : ℕ → Value → (Asked → ℕ) → Type 0
@@ -46,9 +46,9 @@ abbrev pub MissesOne : List PosIndex → ℕ → ℕ → (Asked → ℕ) → Typ
 MissesOne indexes columns b need = (i : ℕ) × (i < columns) × IsSomeAnd (slice_get indexes i) (MissesBlock b i need)
 
 -- where a disk tells its contents, and the container holds rows, each row of block b that may be wanted stays, or isn't wanted
-pub record Narrows (holds : Option Contents) (encodings : List Encoding) (k : Container) (b : ℕ) (need : Asked → ℕ) (old new : List Bool) : Type 0 where
+pub record Narrows (holds : Option Contents) (written : List Written) (k : Container) (b : ℕ) (need : Asked → ℕ) (old new : List Bool) : Type 0 where
   pub only : (i : ℕ) → i < length old → get_or new i false ≡ true → get_or old i false ≡ true
-  pub gone : (m : Contents) → holds ≡ Some m → (rows : List Asked) → HoldsContainer m encodings k rows → (i : ℕ) → i < length old → get_or old i false ≡ true → get_or new i false ≡ false → need (get_or (rows_in b rows) i blank) ≡ 0
+  pub gone : (m : Contents) → holds ≡ Some m → (rows : List Asked) → HoldsContainer m written k rows → (i : ℕ) → i < length old → get_or old i false ≡ true → get_or new i false ≡ false → need (get_or (rows_in b rows) i blank) ≡ 0
 
 -- the values at a place of columns, and the row there, where it may be wanted
 abbrev pub row_of : List (List Value) → ℕ → List Value
@@ -73,10 +73,10 @@ abbrev pub columns_in : List (Option (List Value)) → List (List Value)
 columns_in columns = map values_in columns
 
 -- each column that is read has its values of block b
-abbrev pub AreRead : Option Contents → List Encoding → Container → ℕ → List (Option (List Value)) → Type 0
-AreRead holds encodings k b columns = (i : ℕ) → IfSome (get_or columns i None) (AreBlock holds encodings k i b)
+abbrev pub AreRead : Option Contents → List Written → Container → ℕ → List (Option (List Value)) → Type 0
+AreRead holds written k b columns = (i : ℕ) → IfSome (get_or columns i None) (AreBlock holds written k i b)
 
 -- where a disk tells its contents, and the container holds rows, the rows of block b that may be wanted have these values
-abbrev pub HaveRows : Option Contents → List Encoding → Container → ℕ → List Bool → List (List Value) → Type 0
-HaveRows holds encodings k b alive columns =
-    (m : Contents) → holds ≡ Some m → (rows : List Asked) → HoldsContainer m encodings k rows → (i : ℕ) → i < length alive → get_or alive i false ≡ true → row_of columns i ≡ (get_or (rows_in b rows) i blank).row
+abbrev pub HaveRows : Option Contents → List Written → Container → ℕ → List Bool → List (List Value) → Type 0
+HaveRows holds written k b alive columns =
+    (m : Contents) → holds ≡ Some m → (rows : List Asked) → HoldsContainer m written k rows → (i : ℕ) → i < length alive → get_or alive i false ≡ true → row_of columns i ≡ (get_or (rows_in b rows) i blank).row

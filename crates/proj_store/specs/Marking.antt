@@ -2,12 +2,11 @@
 use Rattle.std.specs.Prelude.{ℕ, ◌≡◌, ◌<◌, ◌≤◌, ◌++◌, List, [], ◌∷◌, length, map, get_or, Option, None, Some}
 use Rattle.std.specs.List.{All, AllZip}
 use Rattle.common_laws.specs.Maps.{Contents}
-use Rattle.col_value.specs.declared.kinds.Encoding.{Encoding}
 use Rattle.col_value.specs.declared.row.Asked.{Asked}
 use Rattle.col_value.specs.declared.row.Stamped.{Stamped}
 use Rattle.catalog_types.specs.declared.catalogue.Container.{Container}
 use Rattle.catalog_types.specs.declared.catalogue.Projection.{Projection}
-use Rattle.ros_container.specs.Encodings.{encodings_of}
+use Rattle.ros_container.specs.Encodings.{Written, written_of}
 use Rattle.ros_container.specs.Held.{HoldsContainer}
 use Rattle.del_vector.specs.declared.mark.Mark.{Mark}
 use Rattle.stored_rows.specs.Stored.{Beside, Projected, mark_in}
@@ -44,17 +43,17 @@ abbrev pub with_marks : ℕ → Places → Projected → Projected
 with_marks epoch ready p = record p { beside = all_marked epoch p.beside ready.each; unsaved = deleted_at epoch ready.unsaved p.unsaved }
 
 -- of the rows that a container holds these places are picked
-abbrev pub PicksIn : Contents → List Encoding → Container → Beside → List ℕ → (Asked → ℕ) → (Asked → ℕ) → Type 0
-PicksIn m encodings k b places need left = (rows : List Asked) → HoldsContainer m encodings k rows → Picks (mark_in b) rows places need left
+abbrev pub PicksIn : Contents → List Written → Container → Beside → List ℕ → (Asked → ℕ) → (Asked → ℕ) → Type 0
+PicksIn m written k b places need left = (rows : List Asked) → HoldsContainer m written k rows → Picks (mark_in b) rows places need left
 
 -- places are picked of one container after the other
-abbrev pub PicksEach : Contents → List Encoding → List Container → List Beside → List (List ℕ) → (Asked → ℕ) → (Asked → ℕ) → Type 0
-PicksEach m encodings [] [] [] need left = (q : Asked) → left q ≡ need q
-PicksEach m encodings [] [] (places ∷ each) need left = ⊥
-PicksEach m encodings [] (b ∷ bs) each need left = ⊥
-PicksEach m encodings (k ∷ ks) [] each need left = ⊥
-PicksEach m encodings (k ∷ ks) (b ∷ bs) [] need left = ⊥
-PicksEach m encodings (k ∷ ks) (b ∷ bs) (places ∷ each) need left = (mid : Asked → ℕ) × PicksIn m encodings k b places need mid × PicksEach m encodings ks bs each mid left
+abbrev pub PicksEach : Contents → List Written → List Container → List Beside → List (List ℕ) → (Asked → ℕ) → (Asked → ℕ) → Type 0
+PicksEach m written [] [] [] need left = (q : Asked) → left q ≡ need q
+PicksEach m written [] [] (places ∷ each) need left = ⊥
+PicksEach m written [] (b ∷ bs) each need left = ⊥
+PicksEach m written (k ∷ ks) [] each need left = ⊥
+PicksEach m written (k ∷ ks) (b ∷ bs) [] need left = ⊥
+PicksEach m written (k ∷ ks) (b ∷ bs) (places ∷ each) need left = (mid : Asked → ℕ) × PicksIn m written k b places need mid × PicksEach m written ks bs each mid left
 
 -- the delete epoch at a place of rows in memory
 abbrev pub del_of : List Stamped → ℕ → Option ℕ
@@ -66,13 +65,13 @@ pub record IsPrepared (m : Contents) (p : Projected) (wanted : List Asked) (read
   pub mid : Asked → ℕ
   pub left : Asked → ℕ
   pub starts : (q : Asked) → need q ≡ tally q wanted
-  pub containers : PicksEach m (encodings_of p.entry) p.entry.containers p.beside ready.each need mid
+  pub containers : PicksEach m (written_of p.entry) p.entry.containers p.beside ready.each need mid
   pub unsaved : Picks (del_of p.unsaved) (map asked_of p.unsaved) ready.unsaved mid left
 
 -- places of what is needed are picked: of the containers, if the disk tells their rows, and then of the rows in memory
 pub record PicksAll (holds : Option Contents) (p : Projection) (bs : List Beside) (held : List Held) (ready : Places) (need left : Asked → ℕ) : Type 0 where
   pub mid : Asked → ℕ
-  pub containers : (m : Contents) → holds ≡ Some m → PicksEach m (encodings_of p) p.containers bs ready.each need mid
+  pub containers : (m : Contents) → holds ≡ Some m → PicksEach m (written_of p) p.containers bs ready.each need mid
   pub unsaved : Picks (del_at held) (asked_in held) ready.unsaved mid left
 
 -- the same of these rows

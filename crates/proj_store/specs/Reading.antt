@@ -7,8 +7,7 @@ use Rattle.col_disk.specs.declared.disk.StoreFault.TheVariants.{Disk, Damaged, M
 use Rattle.catalog_types.specs.declared.catalogue.Container.{Container}
 use Rattle.catalog_types.specs.declared.catalogue.Projection.{Projection}
 use Rattle.col_value.specs.declared.row.Stamped.{Stamped}
-use Rattle.col_value.specs.declared.kinds.Encoding.{Encoding}
-use Rattle.ros_container.specs.Encodings.{encodings_of}
+use Rattle.ros_container.specs.Encodings.{Written, written_of}
 use Rattle.ros_container.specs.Held.{HoldsContainer, BlamesContainer}
 use Rattle.stored_rows.specs.Held.{HoldsVector, HoldsMarked}
 use Rattle.stored_rows.specs.Stored.{Beside, Projected, mark_in}
@@ -24,22 +23,22 @@ BlamesLoad ks holds Memory = Unit {0}
 
 -- a Damaged names a file of a container that holds no rows; no other fault says anything
 abbrev pub BlamesRows : Projection → Option Contents → StoreFault → Type 0
-BlamesRows p holds (Damaged q) = Any (λ k. BlamesContainer (encodings_of p) k holds (Damaged q)) p.containers
+BlamesRows p holds (Damaged q) = Any (λ k. BlamesContainer (written_of p) k holds (Damaged q)) p.containers
 BlamesRows p holds Disk = Unit {0}
 BlamesRows p holds Memory = Unit {0}
 
 -- rows in memory that a container holds, each with the epoch that deletes its position
-pub record ReadsContainer (m : Contents) (encodings : List Encoding) (k : Container) (mark : ℕ → Option ℕ) (rows : List Held) : Type 0 where
-  pub held : HoldsContainer m encodings k (asked_of rows)
+pub record ReadsContainer (m : Contents) (written : List Written) (k : Container) (mark : ℕ → Option ℕ) (rows : List Held) : Type 0 where
+  pub held : HoldsContainer m written k (asked_of rows)
   pub deleted : (i : ℕ) → del_at rows i ≡ mark i
 
 -- the rows of some containers with what is kept of each, one container after the other
-abbrev pub ReadsEach : Contents → List Encoding → List Container → List Beside → List Stamped → Type 0
-ReadsEach m encodings [] [] rows = rows ≡ []
-ReadsEach m encodings [] (b ∷ bs) rows = ⊥
-ReadsEach m encodings (k ∷ ks) [] rows = ⊥
-ReadsEach m encodings (k ∷ ks) (b ∷ bs) rows =
-    (here : List Stamped) × (more : List Stamped) × HoldsMarked m encodings k (mark_in b) here × ReadsEach m encodings ks bs more × (rows ≡ here ++ more)
+abbrev pub ReadsEach : Contents → List Written → List Container → List Beside → List Stamped → Type 0
+ReadsEach m written [] [] rows = rows ≡ []
+ReadsEach m written [] (b ∷ bs) rows = ⊥
+ReadsEach m written (k ∷ ks) [] rows = ⊥
+ReadsEach m written (k ∷ ks) (b ∷ bs) rows =
+    (here : List Stamped) × (more : List Stamped) × HoldsMarked m written k (mark_in b) here × ReadsEach m written ks bs more × (rows ≡ here ++ more)
 
 -- the delete vectors that are kept are those of the disk
 abbrev pub HasVectors : Contents → Projected → Type 0

@@ -5,11 +5,11 @@ ghost use Rattle.std.specs.List.{All, Any};
 ghost use Rattle.common_laws.specs.Causes.{HasCause};
 ghost use Rattle.col_disk.specs.Moved.{Moved, NoName};
 ghost use Rattle.pos_index.specs.Index.{blocks};
-ghost use Rattle.ros_container.specs.Encodings.{encodings_of};
+ghost use Rattle.ros_container.specs.Encodings.{written_of};
 ghost use Rattle.ros_container.specs.Held.{BlamesContainer};
 ghost use Rattle.container_blocks.specs.Blocks.{AreBlock, AreEpochs, HasIndex, IsIndexOf};
 ghost use Rattle.wanted_rows.specs.Wanted.{need_in};
-ghost use Rattle.proj_store.specs.Sound.{HasFileNumbers};
+ghost use Rattle.ros_container.specs.Readable.{IsReadable};
 ghost use Rattle.proj_store.specs.Blocks.{HasIndexes, in_list};
 ghost use Rattle.proj_store.specs.Candidates.{AreCandidates, AreRead, HaveRows, Narrows, NarrowsBy, columns_in};
 
@@ -64,16 +64,16 @@ fn look<D: Disk>(
     alive: &mut [bool],
     column: &mut Option<Block>,
 ) -> Result<(), StoreFault>
-    requires numbers { HasFileNumbers (length entry.now.columns) container.now }
+    requires numbers { IsReadable entry.now.columns container.now }
     requires column { i < length entry.now.columns }
     requires index { IsIndexOf container.now.rows at.now }
     requires block { k < blocks container.now.rows }
     requires alive { length alive.old ≡ min 1024 (container.now.rows - 1024 * k) }
     ensures long { length alive.new ≡ length alive.old }
-    ensures narrows { OnOk result (HasIndex container.now i at.now (D.holds disk.old) → Narrows (D.holds disk.old) (encodings_of entry.now) container.now k (need_in wants.now) alive.old alive.new) }
+    ensures narrows { OnOk result (HasIndex (written_of entry.now) container.now i at.now (D.holds disk.old) → Narrows (D.holds disk.old) (written_of entry.now) container.now k (need_in wants.now) alive.old alive.new) }
     ensures there { OnOk result (singles ≡ false → IsSome column.new) }
-    ensures read { OnOk result (HasIndex container.now i at.now (D.holds disk.old) → IfSome column.old (AreBlock (D.holds disk.old) (encodings_of entry.now) container.now i k) → IfSome column.new (AreBlock (D.holds disk.old) (encodings_of entry.now) container.now i k)) }
-    ensures blamed { IfErr result (λ fault. HasIndex container.now i at.now (D.holds disk.old) → BlamesContainer (encodings_of entry.now) container.now (D.holds disk.old) fault) }
+    ensures read { OnOk result (HasIndex (written_of entry.now) container.now i at.now (D.holds disk.old) → IfSome column.old (AreBlock (D.holds disk.old) (written_of entry.now) container.now i k) → IfSome column.new (AreBlock (D.holds disk.old) (written_of entry.now) container.now i k)) }
+    ensures blamed { IfErr result (λ fault. HasIndex (written_of entry.now) container.now i at.now (D.holds disk.old) → BlamesContainer (written_of entry.now) container.now (D.holds disk.old) fault) }
     ensures kept { D.holds disk.new ≡ D.holds disk.old }
     ensures moved { Moved ⟦<D as Disk>⟧ NoName NoName disk.old disk.new }
     ensures cause { HasCause StoreFault.Disk (D.faults disk.old) (D.faults disk.new) result }
@@ -105,7 +105,7 @@ fn look_each<D: Disk>(
     alive: &mut [bool],
     columns: &mut [Option<Block>],
 ) -> Result<(), StoreFault>
-    requires numbers { HasFileNumbers (length entry.now.columns) container.now }
+    requires numbers { IsReadable entry.now.columns container.now }
     requires many { length indexes.now ≡ length entry.now.columns + 1 }
     requires fit { All (IsIndexOf container.now.rows) indexes.now }
     requires block { k < blocks container.now.rows }
@@ -113,10 +113,10 @@ fn look_each<D: Disk>(
     requires columns { length columns.old ≡ length entry.now.columns }
     ensures long { length alive.new ≡ length alive.old }
     ensures columns { length columns.new ≡ length columns.old }
-    ensures narrows { OnOk result (HasIndexes container.now (D.holds disk.old) indexes.now → Narrows (D.holds disk.old) (encodings_of entry.now) container.now k (need_in wants.now) alive.old alive.new) }
-    ensures read { OnOk result (HasIndexes container.now (D.holds disk.old) indexes.now → AreRead (D.holds disk.old) (encodings_of entry.now) container.now k columns.old → AreRead (D.holds disk.old) (encodings_of entry.now) container.now k columns.new) }
-    ensures rows { OnOk result (singles ≡ false → HasIndexes container.now (D.holds disk.old) indexes.now → AreRead (D.holds disk.old) (encodings_of entry.now) container.now k columns.old → HaveRows (D.holds disk.old) (encodings_of entry.now) container.now k alive.new (columns_in columns.new)) }
-    ensures blamed { IfErr result (λ fault. HasIndexes container.now (D.holds disk.old) indexes.now → BlamesContainer (encodings_of entry.now) container.now (D.holds disk.old) fault) }
+    ensures narrows { OnOk result (HasIndexes (written_of entry.now) container.now (D.holds disk.old) indexes.now → Narrows (D.holds disk.old) (written_of entry.now) container.now k (need_in wants.now) alive.old alive.new) }
+    ensures read { OnOk result (HasIndexes (written_of entry.now) container.now (D.holds disk.old) indexes.now → AreRead (D.holds disk.old) (written_of entry.now) container.now k columns.old → AreRead (D.holds disk.old) (written_of entry.now) container.now k columns.new) }
+    ensures rows { OnOk result (singles ≡ false → HasIndexes (written_of entry.now) container.now (D.holds disk.old) indexes.now → AreRead (D.holds disk.old) (written_of entry.now) container.now k columns.old → HaveRows (D.holds disk.old) (written_of entry.now) container.now k alive.new (columns_in columns.new)) }
+    ensures blamed { IfErr result (λ fault. HasIndexes (written_of entry.now) container.now (D.holds disk.old) indexes.now → BlamesContainer (written_of entry.now) container.now (D.holds disk.old) fault) }
     ensures kept { D.holds disk.new ≡ D.holds disk.old }
     ensures moved { Moved ⟦<D as Disk>⟧ NoName NoName disk.old disk.new }
     ensures cause { HasCause StoreFault.Disk (D.faults disk.old) (D.faults disk.new) result }
@@ -158,7 +158,7 @@ fn look_through<D: Disk>(
     alive: &mut [bool],
     columns: &mut [Option<Block>],
 ) -> Result<(), StoreFault>
-    requires numbers { HasFileNumbers (length entry.now.columns) container.now }
+    requires numbers { IsReadable entry.now.columns container.now }
     requires many { length indexes.now ≡ length entry.now.columns + 1 }
     requires fit { All (IsIndexOf container.now.rows) indexes.now }
     requires block { k < blocks container.now.rows }
@@ -166,9 +166,9 @@ fn look_through<D: Disk>(
     requires columns { length columns.old ≡ length entry.now.columns }
     ensures long { length alive.new ≡ length alive.old }
     ensures columns { length columns.new ≡ length columns.old }
-    ensures narrows { OnOk result (HasIndexes container.now (D.holds disk.old) indexes.now → Narrows (D.holds disk.old) (encodings_of entry.now) container.now k (need_in wants.now) alive.old alive.new) }
-    ensures rows { OnOk result (HasIndexes container.now (D.holds disk.old) indexes.now → AreRead (D.holds disk.old) (encodings_of entry.now) container.now k columns.old → HaveRows (D.holds disk.old) (encodings_of entry.now) container.now k alive.new (columns_in columns.new)) }
-    ensures blamed { IfErr result (λ fault. HasIndexes container.now (D.holds disk.old) indexes.now → BlamesContainer (encodings_of entry.now) container.now (D.holds disk.old) fault) }
+    ensures narrows { OnOk result (HasIndexes (written_of entry.now) container.now (D.holds disk.old) indexes.now → Narrows (D.holds disk.old) (written_of entry.now) container.now k (need_in wants.now) alive.old alive.new) }
+    ensures rows { OnOk result (HasIndexes (written_of entry.now) container.now (D.holds disk.old) indexes.now → AreRead (D.holds disk.old) (written_of entry.now) container.now k columns.old → HaveRows (D.holds disk.old) (written_of entry.now) container.now k alive.new (columns_in columns.new)) }
+    ensures blamed { IfErr result (λ fault. HasIndexes (written_of entry.now) container.now (D.holds disk.old) indexes.now → BlamesContainer (written_of entry.now) container.now (D.holds disk.old) fault) }
     ensures kept { D.holds disk.new ≡ D.holds disk.old }
     ensures moved { Moved ⟦<D as Disk>⟧ NoName NoName disk.old disk.new }
     ensures cause { HasCause StoreFault.Disk (D.faults disk.old) (D.faults disk.new) result }
@@ -206,15 +206,15 @@ fn read_columns<D: Disk>(
     wants: &Wants,
     alive: &mut [bool],
 ) -> Result<Vec<Option<Block>>, StoreFault>
-    requires numbers { HasFileNumbers (length entry.now.columns) container.now }
+    requires numbers { IsReadable entry.now.columns container.now }
     requires many { length indexes.now ≡ length entry.now.columns + 1 }
     requires fit { All (IsIndexOf container.now.rows) indexes.now }
     requires block { k < blocks container.now.rows }
     requires alive { length alive.old ≡ min 1024 (container.now.rows - 1024 * k) }
     ensures long { length alive.new ≡ length alive.old }
-    ensures narrows { IfOk result (λ v. HasIndexes container.now (D.holds disk.old) indexes.now → Narrows (D.holds disk.old) (encodings_of entry.now) container.now k (need_in wants.now) alive.old alive.new) }
-    ensures rows { IfOk result (λ v. HasIndexes container.now (D.holds disk.old) indexes.now → HaveRows (D.holds disk.old) (encodings_of entry.now) container.now k alive.new (columns_in v.items)) }
-    ensures blamed { IfErr result (λ fault. HasIndexes container.now (D.holds disk.old) indexes.now → BlamesContainer (encodings_of entry.now) container.now (D.holds disk.old) fault) }
+    ensures narrows { IfOk result (λ v. HasIndexes (written_of entry.now) container.now (D.holds disk.old) indexes.now → Narrows (D.holds disk.old) (written_of entry.now) container.now k (need_in wants.now) alive.old alive.new) }
+    ensures rows { IfOk result (λ v. HasIndexes (written_of entry.now) container.now (D.holds disk.old) indexes.now → HaveRows (D.holds disk.old) (written_of entry.now) container.now k alive.new (columns_in v.items)) }
+    ensures blamed { IfErr result (λ fault. HasIndexes (written_of entry.now) container.now (D.holds disk.old) indexes.now → BlamesContainer (written_of entry.now) container.now (D.holds disk.old) fault) }
     ensures kept { D.holds disk.new ≡ D.holds disk.old }
     ensures moved { Moved ⟦<D as Disk>⟧ NoName NoName disk.old disk.new }
     ensures cause { HasCause StoreFault.Disk (D.faults disk.old) (D.faults disk.new) result }
@@ -242,11 +242,11 @@ fn stamps<D: Disk>(
     k: usize,
     alive: &[bool],
 ) -> Result<Vec<u64>, StoreFault>
-    requires numbers { HasFileNumbers (length entry.now.columns) container.now }
+    requires numbers { IsReadable entry.now.columns container.now }
     requires index { IsIndexOf container.now.rows at.now }
     requires block { k < blocks container.now.rows }
-    ensures found { IfOk result (λ v. Any (λ a. a ≡ true) alive.now → HasIndex container.now (length entry.now.columns) at.now (D.holds disk.old) → AreEpochs (D.holds disk.old) (encodings_of entry.now) container.now k v.items) }
-    ensures blamed { IfErr result (λ fault. HasIndex container.now (length entry.now.columns) at.now (D.holds disk.old) → BlamesContainer (encodings_of entry.now) container.now (D.holds disk.old) fault) }
+    ensures found { IfOk result (λ v. Any (λ a. a ≡ true) alive.now → HasIndex (written_of entry.now) container.now (length entry.now.columns) at.now (D.holds disk.old) → AreEpochs (D.holds disk.old) (written_of entry.now) container.now k v.items) }
+    ensures blamed { IfErr result (λ fault. HasIndex (written_of entry.now) container.now (length entry.now.columns) at.now (D.holds disk.old) → BlamesContainer (written_of entry.now) container.now (D.holds disk.old) fault) }
     ensures kept { D.holds disk.new ≡ D.holds disk.old }
     ensures moved { Moved ⟦<D as Disk>⟧ NoName NoName disk.old disk.new }
     ensures cause { HasCause StoreFault.Disk (D.faults disk.old) (D.faults disk.new) result }
@@ -277,13 +277,13 @@ pub fn find_candidates<D: Disk>(
     k: usize,
     wants: &Wants,
 ) -> Result<Candidates, StoreFault>
-    requires numbers { HasFileNumbers (length entry.now.columns) container.now }
+    requires numbers { IsReadable entry.now.columns container.now }
     requires many { length indexes.now ≡ length entry.now.columns + 1 }
     requires fit { All (IsIndexOf container.now.rows) indexes.now }
     requires block { k < blocks container.now.rows }
-    ensures found { IfOk result (λ v. HasIndexes container.now (D.holds disk.old) indexes.now → AreCandidates (D.holds disk.old) (encodings_of entry.now) container.now (in_list deletes.now) k (need_in wants.now) v) }
+    ensures found { IfOk result (λ v. HasIndexes (written_of entry.now) container.now (D.holds disk.old) indexes.now → AreCandidates (D.holds disk.old) (written_of entry.now) container.now (in_list deletes.now) k (need_in wants.now) v) }
     ensures long { IfOk result (λ v. length v ≡ min 1024 (container.now.rows - 1024 * k)) }
-    ensures blamed { IfErr result (λ fault. HasIndexes container.now (D.holds disk.old) indexes.now → BlamesContainer (encodings_of entry.now) container.now (D.holds disk.old) fault) }
+    ensures blamed { IfErr result (λ fault. HasIndexes (written_of entry.now) container.now (D.holds disk.old) indexes.now → BlamesContainer (written_of entry.now) container.now (D.holds disk.old) fault) }
     ensures kept { D.holds disk.new ≡ D.holds disk.old }
     ensures moved { Moved ⟦<D as Disk>⟧ NoName NoName disk.old disk.new }
     ensures cause { HasCause StoreFault.Disk (D.faults disk.old) (D.faults disk.new) result }

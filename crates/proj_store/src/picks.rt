@@ -6,7 +6,7 @@ ghost use Rattle.common_laws.specs.Causes.{HasCause};
 ghost use Rattle.common_laws.specs.Maps.{Contents};
 ghost use Rattle.col_disk.specs.Moved.{Moved, NoName};
 ghost use Rattle.col_value.specs.declared.row.Asked.{Asked as ARow};
-ghost use Rattle.ros_container.specs.Encodings.{encodings_of};
+ghost use Rattle.ros_container.specs.Encodings.{written_of};
 ghost use Rattle.pos_index.specs.Index.{blocks};
 ghost use Rattle.ros_container.specs.Held.{HoldsContainer, BlamesContainer};
 ghost use Rattle.container_blocks.specs.Blocks.{IsIndexOf};
@@ -14,7 +14,8 @@ ghost use Rattle.wanted_rows.specs.Wanted.{asked_in, need_in, IsNext};
 ghost use Rattle.wanted_rows.specs.Picked.{Picks, PicksFrom, TriesSome};
 ghost use Rattle.proj_store.specs.Blocks.{HasIndexes, PicksOn, in_list};
 ghost use Rattle.proj_store.specs.Loaded.{beside_of};
-ghost use Rattle.proj_store.specs.Sound.{IsKept, IsSound, HasFileNumbers};
+ghost use Rattle.proj_store.specs.Sound.{IsKept, IsSound};
+ghost use Rattle.ros_container.specs.Readable.{IsReadable};
 ghost use Rattle.proj_store.specs.Reading.{BlamesRows};
 ghost use Rattle.proj_store.specs.Marking.{PicksIn, PicksEach, ArePlaces};
 
@@ -93,14 +94,14 @@ fn pick_block<D: Disk>(
     wants: &mut Wants,
     places: &mut Vec<usize>,
 ) -> Result<(), StoreFault>
-    requires numbers { HasFileNumbers (length entry.now.columns) container.now }
+    requires numbers { IsReadable entry.now.columns container.now }
     requires many { length indexes.now ≡ length entry.now.columns + 1 }
     requires fit { All (IsIndexOf container.now.rows) indexes.now }
     requires block { k < blocks container.now.rows }
-    ensures found { OnOk result (HasIndexes container.now (D.holds disk.old) indexes.now → PicksOn (D.holds disk.old) (encodings_of entry.now) container.now (in_list deletes.now) k places.old.items places.new.items (need_in wants.old) (need_in wants.new)) }
+    ensures found { OnOk result (HasIndexes (written_of entry.now) container.now (D.holds disk.old) indexes.now → PicksOn (D.holds disk.old) (written_of entry.now) container.now (in_list deletes.now) k places.old.items places.new.items (need_in wants.old) (need_in wants.new)) }
     ensures inside { OnOk result (ArePlaces container.now places.old.items → ArePlaces container.now places.new.items) }
     ensures fewer { OnOk result ((q : ARow) → need_in wants.new q ≤ need_in wants.old q) }
-    ensures blamed { IfErr result (λ fault. HasIndexes container.now (D.holds disk.old) indexes.now → BlamesContainer (encodings_of entry.now) container.now (D.holds disk.old) fault) }
+    ensures blamed { IfErr result (λ fault. HasIndexes (written_of entry.now) container.now (D.holds disk.old) indexes.now → BlamesContainer (written_of entry.now) container.now (D.holds disk.old) fault) }
     ensures kept { D.holds disk.new ≡ D.holds disk.old }
     ensures moved { Moved ⟦<D as Disk>⟧ NoName NoName disk.old disk.new }
     ensures cause { HasCause StoreFault.Disk (D.faults disk.old) (D.faults disk.new) result }
@@ -132,13 +133,13 @@ fn pick_blocks<D: Disk>(
     deletes: &[Option<u64>],
     wants: &mut Wants,
 ) -> Result<Vec<usize>, StoreFault>
-    requires numbers { HasFileNumbers (length entry.now.columns) container.now }
+    requires numbers { IsReadable entry.now.columns container.now }
     requires many { length indexes.now ≡ length entry.now.columns + 1 }
     requires fit { All (IsIndexOf container.now.rows) indexes.now }
-    ensures found { IfOk result (λ places. HasIndexes container.now (D.holds disk.old) indexes.now → (m : Contents) → D.holds disk.old ≡ Some m → (rows : List ARow) → HoldsContainer m (encodings_of entry.now) container.now rows → Picks (in_list deletes.now) rows places.items (need_in wants.old) (need_in wants.new)) }
+    ensures found { IfOk result (λ places. HasIndexes (written_of entry.now) container.now (D.holds disk.old) indexes.now → (m : Contents) → D.holds disk.old ≡ Some m → (rows : List ARow) → HoldsContainer m (written_of entry.now) container.now rows → Picks (in_list deletes.now) rows places.items (need_in wants.old) (need_in wants.new)) }
     ensures inside { IfOk result (λ places. ArePlaces container.now places.items) }
     ensures fewer { IfOk result (λ places. (q : ARow) → need_in wants.new q ≤ need_in wants.old q) }
-    ensures blamed { IfErr result (λ fault. HasIndexes container.now (D.holds disk.old) indexes.now → BlamesContainer (encodings_of entry.now) container.now (D.holds disk.old) fault) }
+    ensures blamed { IfErr result (λ fault. HasIndexes (written_of entry.now) container.now (D.holds disk.old) indexes.now → BlamesContainer (written_of entry.now) container.now (D.holds disk.old) fault) }
     ensures kept { D.holds disk.new ≡ D.holds disk.old }
     ensures moved { Moved ⟦<D as Disk>⟧ NoName NoName disk.old disk.new }
     ensures cause { HasCause StoreFault.Disk (D.faults disk.old) (D.faults disk.new) result }
@@ -178,12 +179,12 @@ fn pick_read<D: Disk>(
     kept: &Kept,
     wants: &mut Wants,
 ) -> Result<List<usize>, StoreFault>
-    requires numbers { HasFileNumbers (length entry.now.columns) container.now }
+    requires numbers { IsReadable entry.now.columns container.now }
     requires kept { IsKept container.now (beside_of kept.now) }
-    ensures found { IfOk result (λ places. (m : Contents) → D.holds disk.old ≡ Some m → PicksIn m (encodings_of entry.now) container.now (beside_of kept.now) places (need_in wants.old) (need_in wants.new)) }
+    ensures found { IfOk result (λ places. (m : Contents) → D.holds disk.old ≡ Some m → PicksIn m (written_of entry.now) container.now (beside_of kept.now) places (need_in wants.old) (need_in wants.new)) }
     ensures inside { IfOk result (ArePlaces container.now) }
     ensures fewer { IfOk result (λ places. (q : ARow) → need_in wants.new q ≤ need_in wants.old q) }
-    ensures blamed { IfErr result (BlamesContainer (encodings_of entry.now) container.now (D.holds disk.old)) }
+    ensures blamed { IfErr result (BlamesContainer (written_of entry.now) container.now (D.holds disk.old)) }
     ensures kept { D.holds disk.new ≡ D.holds disk.old }
     ensures moved { Moved ⟦<D as Disk>⟧ NoName NoName disk.old disk.new }
     ensures cause { HasCause StoreFault.Disk (D.faults disk.old) (D.faults disk.new) result }
@@ -222,12 +223,12 @@ fn pick_in<D: Disk>(
     kept: &Kept,
     wants: &mut Wants,
 ) -> Result<List<usize>, StoreFault>
-    requires numbers { HasFileNumbers (length entry.now.columns) container.now }
+    requires numbers { IsReadable entry.now.columns container.now }
     requires kept { IsKept container.now (beside_of kept.now) }
-    ensures found { IfOk result (λ places. (m : Contents) → D.holds disk.old ≡ Some m → PicksIn m (encodings_of entry.now) container.now (beside_of kept.now) places (need_in wants.old) (need_in wants.new)) }
+    ensures found { IfOk result (λ places. (m : Contents) → D.holds disk.old ≡ Some m → PicksIn m (written_of entry.now) container.now (beside_of kept.now) places (need_in wants.old) (need_in wants.new)) }
     ensures inside { IfOk result (ArePlaces container.now) }
     ensures fewer { IfOk result (λ places. (q : ARow) → need_in wants.new q ≤ need_in wants.old q) }
-    ensures blamed { IfErr result (BlamesContainer (encodings_of entry.now) container.now (D.holds disk.old)) }
+    ensures blamed { IfErr result (BlamesContainer (written_of entry.now) container.now (D.holds disk.old)) }
     ensures kept { D.holds disk.new ≡ D.holds disk.old }
     ensures moved { Moved ⟦<D as Disk>⟧ NoName NoName disk.old disk.new }
     ensures cause { HasCause StoreFault.Disk (D.faults disk.old) (D.faults disk.new) result }
@@ -249,10 +250,10 @@ fn pick_more<D: Disk>(
     wants: &mut Wants,
     each: &mut Vec<List<usize>>,
 ) -> Result<(), StoreFault>
-    requires numbers { HasFileNumbers (length entry.now.columns) container.now }
+    requires numbers { IsReadable entry.now.columns container.now }
     requires kept { IsKept container.now (beside_of kept.now) }
-    ensures more { OnOk result ((places : List ℕ) × (each.new.items ≡ each.old.items ++ places ∷ []) × ArePlaces container.now places × ((m : Contents) → D.holds disk.old ≡ Some m → PicksIn m (encodings_of entry.now) container.now (beside_of kept.now) places (need_in wants.old) (need_in wants.new))) }
-    ensures blamed { IfErr result (BlamesContainer (encodings_of entry.now) container.now (D.holds disk.old)) }
+    ensures more { OnOk result ((places : List ℕ) × (each.new.items ≡ each.old.items ++ places ∷ []) × ArePlaces container.now places × ((m : Contents) → D.holds disk.old ≡ Some m → PicksIn m (written_of entry.now) container.now (beside_of kept.now) places (need_in wants.old) (need_in wants.new))) }
+    ensures blamed { IfErr result (BlamesContainer (written_of entry.now) container.now (D.holds disk.old)) }
     ensures kept { D.holds disk.new ≡ D.holds disk.old }
     ensures moved { Moved ⟦<D as Disk>⟧ NoName NoName disk.old disk.new }
     ensures cause { HasCause StoreFault.Disk (D.faults disk.old) (D.faults disk.new) result }
@@ -277,7 +278,7 @@ pub fn pick_each<D: Disk>(
     wants: &mut Wants,
 ) -> Result<Vec<List<usize>>, StoreFault>
     requires sound { IsSound entry.now (map beside_of kept.now) }
-    ensures found { IfOk result (λ each. (m : Contents) → D.holds disk.old ≡ Some m → PicksEach m (encodings_of entry.now) entry.now.containers (map beside_of kept.now) each.items (need_in wants.old) (need_in wants.new)) }
+    ensures found { IfOk result (λ each. (m : Contents) → D.holds disk.old ≡ Some m → PicksEach m (written_of entry.now) entry.now.containers (map beside_of kept.now) each.items (need_in wants.old) (need_in wants.new)) }
     ensures inside { IfOk result (λ each. AllZip ArePlaces entry.now.containers each.items) }
     ensures blamed { IfErr result (BlamesRows entry.now (D.holds disk.old)) }
     ensures kept { D.holds disk.new ≡ D.holds disk.old }

@@ -4,13 +4,14 @@ ghost use Rattle.std.specs.Prelude.{◌≡◌, ◌++◌, Some, length, map, IfOk
 ghost use Rattle.common_laws.specs.Causes.{HasCause};
 ghost use Rattle.common_laws.specs.Maps.{Contents};
 ghost use Rattle.col_disk.specs.Moved.{Moved, NoName};
-ghost use Rattle.ros_container.specs.Encodings.{encodings_of};
+ghost use Rattle.ros_container.specs.Encodings.{written_of};
 ghost use Rattle.ros_container.specs.Held.{BlamesContainer};
 ghost use Rattle.stored_rows.specs.Stored.{mark_in};
 ghost use Rattle.write_store.specs.Memory.{stamp};
 ghost use Rattle.wanted_rows.specs.Picked.{asked_of};
 ghost use Rattle.proj_store.specs.Loaded.{beside_of};
-ghost use Rattle.proj_store.specs.Sound.{IsKept, IsSound, HasFileNumbers};
+ghost use Rattle.proj_store.specs.Sound.{IsKept, IsSound};
+ghost use Rattle.ros_container.specs.Readable.{IsReadable};
 ghost use Rattle.proj_store.specs.Reading.{BlamesRows, ReadsContainer, ReadsEach};
 
 use crate::kept::Kept;
@@ -28,11 +29,11 @@ pub fn read_rows<D: Disk>(
     container: &Container,
     kept: &Kept,
 ) -> Result<Vec<Held>, StoreFault>
-    requires numbers { HasFileNumbers (length entry.now.columns) container.now }
+    requires numbers { IsReadable entry.now.columns container.now }
     requires kept { IsKept container.now (beside_of kept.now) }
-    ensures found { IfOk result (λ v. (m : Contents) → D.holds disk.old ≡ Some m → ReadsContainer m (encodings_of entry.now) container.now (mark_in (beside_of kept.now)) v.items) }
+    ensures found { IfOk result (λ v. (m : Contents) → D.holds disk.old ≡ Some m → ReadsContainer m (written_of entry.now) container.now (mark_in (beside_of kept.now)) v.items) }
     ensures long { IfOk result (λ v. length (asked_of v.items) ≡ container.now.rows) }
-    ensures blamed { IfErr result (BlamesContainer (encodings_of entry.now) container.now (D.holds disk.old)) }
+    ensures blamed { IfErr result (BlamesContainer (written_of entry.now) container.now (D.holds disk.old)) }
     ensures kept { D.holds disk.new ≡ D.holds disk.old }
     ensures moved { Moved ⟦<D as Disk>⟧ NoName NoName disk.old disk.new }
     ensures cause { HasCause StoreFault.Disk (D.faults disk.old) (D.faults disk.new) result }
@@ -66,7 +67,7 @@ pub fn saved_rows<D: Disk>(
     kept: &[Kept],
 ) -> Result<Vec<Stamped>, StoreFault>
     requires { IsSound entry.now (map beside_of kept.now) }
-    ensures found { IfOk result (λ v. (m : Contents) → D.holds disk.old ≡ Some m → ReadsEach m (encodings_of entry.now) entry.now.containers (map beside_of kept.now) v.items) }
+    ensures found { IfOk result (λ v. (m : Contents) → D.holds disk.old ≡ Some m → ReadsEach m (written_of entry.now) entry.now.containers (map beside_of kept.now) v.items) }
     ensures blamed { IfErr result (BlamesRows entry.now (D.holds disk.old)) }
     ensures kept { D.holds disk.new ≡ D.holds disk.old }
     ensures moved { Moved ⟦<D as Disk>⟧ NoName NoName disk.old disk.new }

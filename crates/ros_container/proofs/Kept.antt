@@ -1,5 +1,5 @@
 -- What is held goes on being held where other files change.
-use Rattle.std.proofs.Common.{◌≡◌, ℕ, ◌*◌, ◌+◌, ◌<◌, List, length, refl, sym, ◌∙◌, ap, inl, inr, arith}
+use Rattle.std.proofs.Common.{◌≡◌, ℕ, ◌*◌, ◌+◌, ◌<◌, List, refl, sym, ◌∙◌, ap, inl, inr, arith}
 use Rattle.std.specs.Prelude.{Option, Some, None}
 use Rattle.std.specs.FinMap.{get}
 use Rattle.common_laws.specs.Maps.{Contents}
@@ -11,6 +11,7 @@ use Rattle.col_value.specs.declared.kinds.Encoding.{Encoding}
 use Rattle.col_value.specs.declared.row.Asked.{Asked}
 use Rattle.col_value.specs.declared.value.Value.{Value}
 use Rattle.catalog_types.specs.declared.catalogue.Container.{Container}
+use Rattle.ros_container.specs.Encodings.{Written}
 use Rattle.ros_container.specs.Files.{body_of, index_of, IsFileOf}
 use Rattle.ros_container.specs.Held.{HoldsContainer}
 
@@ -39,10 +40,11 @@ is_file base columns i lt q (inl is) = (2 * i, omega arith, is)
 is_file base columns i lt q (inr is) = (2 * i + 1, omega arith, omega arith)
 
 -- the files of a container are as they were
-pub rows_kept : (m n : Contents) (encodings : List Encoding) (k : Container) (rows : List Asked) → ((q : ℕ) → IsFileOf k.base (length encodings) q → get n q ≡ get m q) → HoldsContainer m encodings k rows → HoldsContainer n encodings k rows
-rows_kept m n encodings k rows same held = record {
-  each = λ i lt. column_kept _ _ _ _ m n _ (same _ (is_body k.base (length encodings) i (omega arith))) (same _ (is_index k.base (length encodings) i (omega arith))) (held.each i lt);
-  epochs = column_kept _ _ _ _ m n _ (same _ (is_body k.base (length encodings) (length encodings) (omega arith))) (same _ (is_index k.base (length encodings) (length encodings) (omega arith))) held.epochs;
+pub rows_kept : (m n : Contents) (written : List Written) (k : Container) (rows : List Asked) → ((q : ℕ) → IsFileOf k.base k.stored q → get n q ≡ get m q) → HoldsContainer m written k rows → HoldsContainer n written k rows
+rows_kept m n written k rows same held = record {
+  each = λ i lt. column_kept _ _ _ _ m n _ (same _ (is_body k.base k.stored i (omega arith))) (same _ (is_index k.base k.stored i (omega arith))) (held.each i lt);
+  defaults = held.defaults;
+  epochs = column_kept _ _ _ _ m n _ (same _ (is_body k.base k.stored k.stored (omega arith))) (same _ (is_index k.base k.stored k.stored (omega arith))) held.epochs;
   wide = held.wide;
   within = held.within;
 }

@@ -4,3 +4,5 @@ pub mod Columns
 pub mod SameRows
 pub mod Blames
 pub mod Reading
+pub mod Long
+pub mod Defaults

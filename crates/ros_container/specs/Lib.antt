@@ -3,3 +3,4 @@ pub mod Files
 pub mod Encodings
 pub mod Held
 pub mod Parts
+pub mod Readable

@@ -8,7 +8,6 @@ use Rattle.std.proofs.lemmas.List.Elements.{All-contains}
 use Rattle.common_laws.specs.Maps.{Contents}
 use Rattle.col_disk.specs.declared.disk.StoreFault.{StoreFault}
 use Rattle.col_disk.specs.declared.disk.StoreFault.TheVariants.{Damaged}
-use Rattle.col_value.specs.declared.kinds.Encoding.{Encoding}
 use Rattle.col_value.specs.declared.row.Stamped.{Stamped}
 use Rattle.catalog_types.specs.declared.catalogue.Catalogue.{Catalogue}
 use Rattle.catalog_types.specs.declared.catalogue.Container.{Container}
@@ -28,7 +27,7 @@ use Rattle.del_vector.specs.Marks.{epoch_at}
 use Rattle.folder_model.specs.Projections.{HoldsHistory}
 use Rattle.folder_model.specs.Reopening.{IsTableAt, IsCutOf, ReopensBy, Reopens}
 use Rattle.proj_store.specs.Reading.{BlamesLoad}
-use Rattle.ros_container.specs.Encodings.{encodings_of}
+use Rattle.ros_container.specs.Encodings.{Written, written_of}
 use Rattle.stored_rows.specs.Held.{HoldsVectorAt, HoldsVector, HoldsMarked, HoldsRows}
 use Rattle.store_opening.specs.Loading.{BlamesEntries, BlamesTables}
 use Rattle.store_opening.specs.Opening.{BlamesListed, BlamesOpening}
@@ -36,15 +35,15 @@ use Rattle.vector_files.specs.Blamed.{IsNoVectorAt}
 
 -- ---- a container of a projection whose files hold rows
 
-abbrev HeldOne : Contents → List Encoding → Container → Type 0
+abbrev HeldOne : Contents → List Written → Container → Type 0
 HeldOne m es k = (marks : List Mark) × (here : List Stamped) × HoldsVector m k marks × HoldsMarked m es k (epoch_at marks) here
 
-held_at : (m : Contents) (es : List Encoding) (ks : List Container) (rows : List Stamped) → HoldsRows m es ks rows → (i : ℕ) (k : Container) → i < length ks → get_or ks i k ≡ k → HeldOne m es k
+held_at : (m : Contents) (es : List Written) (ks : List Container) (rows : List Stamped) → HoldsRows m es ks rows → (i : ℕ) (k : Container) → i < length ks → get_or ks i k ≡ k → HeldOne m es k
 held_at m es [] rows held i k lt is = absurd (omega (arith, lt))
 held_at m es (x ∷ ks) rows (marks, here, more, vector, marked, rest, same) zero k lt is = subst (HeldOne m es) is (marks, here, vector, marked)
 held_at m es (x ∷ ks) rows (marks, here, more, vector, marked, rest, same) (suc i) k lt is = held_at m es ks more rest i k (omega (arith, lt)) is
 
-not_damaged : (m : Contents) (p : Projection) (q : ℕ) (k : Container) → HeldOne m (encodings_of p) k → IsDamageOf p m q k → ⊥
+not_damaged : (m : Contents) (p : Projection) (q : ℕ) (k : Container) → HeldOne m (written_of p) k → IsDamageOf p m q k → ⊥
 not_damaged m p q k (marks, here, vector, marked) damage = damage.none (here ++ []) (marks, here, [], vector, marked, refl, refl)
 
 has_vector : (m : Contents) (k : Container) (q : ℕ) (o : Option ℕ) (marks : List Mark) → HoldsVectorAt m k o marks → IsNoVectorAt k (Some m) q o → ⊥
@@ -53,8 +52,8 @@ has_vector m k q (Some n) marks held blamed = blamed.1 m refl marks held
 
 -- a projection that is up to date holds rows, and another one has no container
 held_in : (m : Contents) (mark epoch : ℕ) (rows : List Stamped) (p : Projection) (b : Bool) → OnTrue b (HoldsHistory m mark epoch rows p) → OnFalse b ((p.lge ≡ 0) × (p.born ≡ 0) × (length p.containers ≡ 0))
-    → (i : ℕ) (k : Container) → i < length p.containers → get_or p.containers i k ≡ k → HeldOne m (encodings_of p) k
-held_in m mark epoch rows p true fresh stale i k lt is = held_at m (encodings_of p) p.containers fresh.0 fresh.1 i k lt is
+    → (i : ℕ) (k : Container) → i < length p.containers → get_or p.containers i k ≡ k → HeldOne m (written_of p) k
+held_in m mark epoch rows p true fresh stale i k lt is = held_at m (written_of p) p.containers fresh.0 fresh.1 i k lt is
 held_in m mark epoch rows p false fresh stale i k lt is = let none = stale.2 in absurd (omega (arith, lt, none))
 
 -- ---- tables
@@ -68,7 +67,7 @@ zip_at P (x ∷ xs) (y ∷ ys) (here, more) (suc i) z lt is = zip_at P xs ys mor
 -- each container that a root lists holds rows
 listed_held : (m : Contents) (v : ℕ) (c : Catalogue) (d : Database) → IsRoot m v c → IsCutOf m c d
     → (i : ℕ) (t : kept.Table) → i < length c.tables → get_or c.tables i t ≡ t → (j : ℕ) (p : Projection) → j < length t.projections → get_or t.projections j p ≡ p
-    → (n : ℕ) (k : Container) → n < length p.containers → get_or p.containers n k ≡ k → HeldOne m (encodings_of p) k
+    → (n : ℕ) (k : Container) → n < length p.containers → get_or p.containers n k ≡ k → HeldOne m (written_of p) k
 listed_held m v c d root is_cut i t lt is j p below there n k within at =
     let found = zip_at (IsTableAt m c.ahm (least_lge c)) c.tables d.tables is_cut.tables i t lt is in
     let valid = All-contains (IsTable c) c.tables t root.valid.tables (i, lt, is) in

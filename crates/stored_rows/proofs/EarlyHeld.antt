@@ -6,13 +6,12 @@ use Rattle.std.specs.List.{All}
 use Rattle.std.proofs.lemmas.Bool.Decides.{nat_tests}
 use Rattle.std.proofs.lemmas.List.Elements.{All-head, All-tail, All-cons, All-nil, All-append, All-weaker}
 use Rattle.common_laws.specs.Maps.{Contents}
-use Rattle.col_value.specs.declared.kinds.Encoding.{Encoding}
 use Rattle.col_value.specs.declared.row.Asked.{Asked}
 use Rattle.col_value.specs.declared.row.Stamped.{Stamped}
 use Rattle.row_history.specs.History.{cut_delete, cut_rows}
 use Rattle.catalog_types.specs.declared.catalogue.Container.{Container}
 use Rattle.catalog_types.specs.declared.catalogue.Projection.{Projection}
-use Rattle.ros_container.specs.Encodings.{encodings_of}
+use Rattle.ros_container.specs.Encodings.{Written, written_of}
 use Rattle.ros_container.specs.Rows.{IsWithin}
 use Rattle.del_vector.specs.declared.mark.Mark.{Mark}
 use Rattle.del_vector.specs.Marks.{epoch_at}
@@ -45,7 +44,7 @@ stamped_up epoch i mark (a ∷ rows) all same =
     All-cons (IsUpTo epoch) (record { row = a.row; ins = a.ins; del = mark i }) (stamped_from (i + 1) mark rows) (All-head (λ x. x.ins ≤ epoch) a rows all, same i)
     (stamped_up epoch (i + 1) mark rows (All-tail (λ x. x.ins ≤ epoch) a rows all) same)
 
-pub held_up : (m : Contents) (es : List Encoding) (epoch : ℕ) (ks : List Container) (rows : List Stamped) → All (EndsBy epoch) ks → HoldsRows m es ks rows → All (IsUpTo epoch) rows
+pub held_up : (m : Contents) (es : List Written) (epoch : ℕ) (ks : List Container) (rows : List Stamped) → All (EndsBy epoch) ks → HoldsRows m es ks rows → All (IsUpTo epoch) rows
 held_up m es epoch [] rows all held = subst (All (IsUpTo epoch)) (sym held) (All-nil (IsUpTo epoch))
 held_up m es epoch (k ∷ ks) rows all (v, here, more, vector, (asked, held, is), rest, are) =
     let (inserted, marked) = All-head (EndsBy epoch) k ks all in
@@ -56,4 +55,4 @@ held_up m es epoch (k ∷ ks) rows all (v, here, more, vector, (asked, held, is)
     subst (All (IsUpTo epoch)) (sym are) (All-append (IsUpTo epoch) here more front (held_up m es epoch ks more (All-tail (EndsBy epoch) k ks all) rest))
 
 pub entry_same : (m : Contents) (epoch : ℕ) (p : Projection) (rows : List Stamped) → All (EndsBy epoch) p.containers → Holds m p rows → cut_rows epoch rows ≡ rows
-entry_same m epoch p rows ends held = cut_same epoch rows (held_up m (encodings_of p) epoch p.containers rows ends held)
+entry_same m epoch p rows ends held = cut_same epoch rows (held_up m (written_of p) epoch p.containers rows ends held)

@@ -7,11 +7,10 @@ use Rattle.std.proofs.lemmas.Bool.Decides.{nat_tests}
 use Rattle.std.proofs.lemmas.List.{append-nil}
 use Rattle.std.proofs.lemmas.List.Elements.{All-head, All-tail}
 use Rattle.common_laws.specs.Maps.{Contents}
-use Rattle.col_value.specs.declared.kinds.Encoding.{Encoding}
 use Rattle.col_value.specs.declared.row.Asked.{Asked}
 use Rattle.col_value.specs.declared.row.Stamped.{Stamped}
 use Rattle.catalog_types.specs.declared.catalogue.Container.{Container}
-use Rattle.ros_container.specs.Encodings.{encodings_of}
+use Rattle.ros_container.specs.Encodings.{Written, written_of}
 use Rattle.row_history.specs.History.{cut_delete, cut_row, cut_rows, stamped}
 use Rattle.row_history.proofs.Histories.{cut_append, cut_none}
 use Rattle.del_vector.specs.Marks.{epoch_at}
@@ -39,7 +38,7 @@ cut_stamped epoch i one other (a ∷ rows) same = by (nat_le a.ins epoch) (cut_s
     by false rest = rest
 
 -- the listed containers hold rows that are, cut, those with what is in memory
-cut_saved : (m : Contents) (epoch : ℕ) (es : List Encoding) (ks : List Container) (bs : List Beside) (rows : List Stamped) → All (λ b. AreLater epoch b.fresh) bs → StoresRows m es ks bs rows
+cut_saved : (m : Contents) (epoch : ℕ) (es : List Written) (ks : List Container) (bs : List Beside) (rows : List Stamped) → All (λ b. AreLater epoch b.fresh) bs → StoresRows m es ks bs rows
     → (held : List Stamped) × HoldsRows m es ks held × (cut_rows epoch rows ≡ cut_rows epoch held)
 cut_saved m epoch es [] [] rows later is = ([], refl, ap (cut_rows epoch) is)
 cut_saved m epoch es [] (b ∷ bs) rows later is = absurd is
@@ -58,5 +57,5 @@ cut_saved m epoch es (k ∷ ks) (b ∷ bs) rows later (here, more, vector, (aske
 pub cut_memory : (m : Contents) (epoch : ℕ) (p : Projected) (rows : List Stamped) → IsMemoryAbove epoch p → Stores m p rows
     → (held : List Stamped) × Holds m p.entry held × (cut_rows epoch rows ≡ cut_rows epoch held)
 cut_memory m epoch p rows above (saved, stores, is) =
-    let k = cut_saved m epoch (encodings_of p.entry) p.entry.containers p.beside saved above.marks stores in
+    let k = cut_saved m epoch (written_of p.entry) p.entry.containers p.beside saved above.marks stores in
     (k.0, k.1, ap (cut_rows epoch) is ∙ cut_append epoch saved p.unsaved ∙ ap (λ (ys : List Stamped). cut_rows epoch saved ++ ys) (cut_none epoch p.unsaved above.rows) ∙ append-nil (cut_rows epoch saved) ∙ k.2)

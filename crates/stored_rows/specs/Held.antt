@@ -3,13 +3,12 @@ use Rattle.std.specs.Prelude.{ℕ, ◌≡◌, ◌<◌, ◌+◌, ◌++◌, max, f
 use Rattle.std.specs.List.{All}
 use Rattle.std.specs.FinMap.{get}
 use Rattle.common_laws.specs.Maps.{Contents}
-use Rattle.col_value.specs.declared.kinds.Encoding.{Encoding}
 use Rattle.col_value.specs.declared.row.Asked.{Asked}
 use Rattle.col_value.specs.declared.row.Stamped.{Stamped}
 use Rattle.row_history.specs.History.{stamped}
 use Rattle.catalog_types.specs.declared.catalogue.Container.{Container}
 use Rattle.catalog_types.specs.declared.catalogue.Projection.{Projection}
-use Rattle.ros_container.specs.Encodings.{encodings_of}
+use Rattle.ros_container.specs.Encodings.{Written, written_of}
 use Rattle.ros_container.specs.Held.{HoldsContainer}
 use Rattle.del_vector.specs.declared.mark.Mark.{Mark}
 use Rattle.del_vector.specs.Marks.{epoch_at}
@@ -42,16 +41,16 @@ stamped_from i mark [] = []
 stamped_from i mark (a ∷ rows) = stamped (mark i) a ∷ stamped_from (i + 1) mark rows
 
 -- the files of a container hold these rows, deleted by these marks
-abbrev pub HoldsMarked : Contents → List Encoding → Container → (ℕ → Option ℕ) → List Stamped → Type 0
-HoldsMarked m encodings k mark rows = (asked : List Asked) × HoldsContainer m encodings k asked × (rows ≡ stamped_from 0 mark asked)
+abbrev pub HoldsMarked : Contents → List Written → Container → (ℕ → Option ℕ) → List Stamped → Type 0
+HoldsMarked m written k mark rows = (asked : List Asked) × HoldsContainer m written k asked × (rows ≡ stamped_from 0 mark asked)
 
 -- the rows of listed containers with their delete vectors, the oldest container first
-abbrev pub HoldsRows : Contents → List Encoding → List Container → List Stamped → Type 0
-HoldsRows m encodings [] rows = rows ≡ []
-HoldsRows m encodings (k ∷ ks) rows =
+abbrev pub HoldsRows : Contents → List Written → List Container → List Stamped → Type 0
+HoldsRows m written [] rows = rows ≡ []
+HoldsRows m written (k ∷ ks) rows =
     (marks : List Mark) × (here : List Stamped) × (more : List Stamped)
-    × HoldsVector m k marks × HoldsMarked m encodings k (epoch_at marks) here × HoldsRows m encodings ks more × (rows ≡ here ++ more)
+    × HoldsVector m k marks × HoldsMarked m written k (epoch_at marks) here × HoldsRows m written ks more × (rows ≡ here ++ more)
 
 -- the rows that the files of a catalogue's projection hold
 abbrev pub Holds : Contents → Projection → List Stamped → Type 0
-Holds m p rows = HoldsRows m (encodings_of p) p.containers rows
+Holds m p rows = HoldsRows m (written_of p) p.containers rows

@@ -1,5 +1,5 @@
 -- The files that a projection of the catalogue lists.
-use Rattle.std.specs.Prelude.{ℕ, ◌≡◌, ◌⊎◌, ◌*◌, length, Option, Some, None}
+use Rattle.std.specs.Prelude.{ℕ, ◌≡◌, ◌⊎◌, ◌*◌, Option, Some, None}
 use Rattle.std.specs.List.{All}
 use Rattle.std.specs.FinMap.{get}
 use Rattle.common_laws.specs.Maps.{Contents}
@@ -15,14 +15,14 @@ abbrev pub IsVectorFile : Option ℕ → ℕ → Type 0
 IsVectorFile None q = ⊥
 IsVectorFile (Some n) q = q ≡ vector_file n
 
--- a file of a container that has so many columns, or its delete vector
-abbrev pub IsListedOf : ℕ → Container → ℕ → Type 0
-IsListedOf columns k q = IsFileOf k.base columns q ⊎ IsVectorFile k.marks q
+-- a file of a container, or its delete vector
+abbrev pub IsListedOf : Container → ℕ → Type 0
+IsListedOf k q = IsFileOf k.base k.stored q ⊎ IsVectorFile k.marks q
 
 -- the files of a container are in both the same
-abbrev pub SameFiles : Contents → Contents → ℕ → Container → Type 0
-SameFiles m n columns k = (q : ℕ) → IsListedOf columns k q → get n q ≡ get m q
+abbrev pub SameFiles : Contents → Contents → Container → Type 0
+SameFiles m n k = (q : ℕ) → IsListedOf k q → get n q ≡ get m q
 
 -- all files that a projection lists are in both the same
 abbrev pub SameEntry : Contents → Contents → Projection → Type 0
-SameEntry m n p = All (SameFiles m n (length p.columns)) p.containers
+SameEntry m n p = All (SameFiles m n) p.containers

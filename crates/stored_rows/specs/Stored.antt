@@ -3,11 +3,10 @@ use Rattle.std.specs.Prelude.{ℕ, ◌≡◌, ◌<◌, ◌++◌, List, [], ◌�
 use Rattle.std.specs.Option.{option_or}
 use Rattle.std.specs.List.{All, AllZip}
 use Rattle.common_laws.specs.Maps.{Contents}
-use Rattle.col_value.specs.declared.kinds.Encoding.{Encoding}
 use Rattle.col_value.specs.declared.row.Stamped.{Stamped}
 use Rattle.catalog_types.specs.declared.catalogue.Container.{Container}
 use Rattle.catalog_types.specs.declared.catalogue.Projection.{Projection}
-use Rattle.ros_container.specs.Encodings.{encodings_of}
+use Rattle.ros_container.specs.Encodings.{Written, written_of}
 use Rattle.del_vector.specs.declared.mark.Mark.{Mark}
 use Rattle.del_vector.specs.Marks.{epoch_at}
 use Rattle.stored_rows.specs.Held.{HoldsVector, HoldsMarked}
@@ -28,17 +27,17 @@ pub record Projected : Type 0 where
   pub unsaved : List Stamped
 
 -- the rows of listed containers with what is kept of each, the oldest container first
-abbrev pub StoresRows : Contents → List Encoding → List Container → List Beside → List Stamped → Type 0
-StoresRows m encodings [] [] rows = rows ≡ []
-StoresRows m encodings [] (b ∷ bs) rows = ⊥
-StoresRows m encodings (k ∷ ks) [] rows = ⊥
-StoresRows m encodings (k ∷ ks) (b ∷ bs) rows =
+abbrev pub StoresRows : Contents → List Written → List Container → List Beside → List Stamped → Type 0
+StoresRows m written [] [] rows = rows ≡ []
+StoresRows m written [] (b ∷ bs) rows = ⊥
+StoresRows m written (k ∷ ks) [] rows = ⊥
+StoresRows m written (k ∷ ks) (b ∷ bs) rows =
     (here : List Stamped) × (more : List Stamped)
-    × HoldsVector m k b.held × HoldsMarked m encodings k (mark_in b) here × StoresRows m encodings ks bs more × (rows ≡ here ++ more)
+    × HoldsVector m k b.held × HoldsMarked m written k (mark_in b) here × StoresRows m written ks bs more × (rows ≡ here ++ more)
 
 -- all rows of a projection: those of its containers, and then those in memory
 abbrev pub Stores : Contents → Projected → List Stamped → Type 0
-Stores m p rows = (saved : List Stamped) × StoresRows m (encodings_of p.entry) p.entry.containers p.beside saved × (rows ≡ saved ++ p.unsaved)
+Stores m p rows = (saved : List Stamped) × StoresRows m (written_of p.entry) p.entry.containers p.beside saved × (rows ≡ saved ++ p.unsaved)
 
 -- marks later than an epoch
 abbrev pub AreLater : ℕ → List Mark → Type 0

@@ -1,9 +1,8 @@
 //! Laws of stored rows.
 
-ghost use Rattle.std.specs.Prelude.{ℕ, ◌≡◌, List, length};
+ghost use Rattle.std.specs.Prelude.{ℕ, ◌≡◌, List};
 ghost use Rattle.std.specs.List.{All};
 ghost use Rattle.common_laws.specs.Maps.{Contents};
-ghost use Rattle.col_value.specs.declared.kinds.Encoding.{Encoding};
 ghost use Rattle.col_value.specs.declared.row.Stamped.{Stamped};
 ghost use Rattle.catalog_types.specs.declared.catalogue.Container.{Container};
 ghost use Rattle.catalog_types.specs.declared.catalogue.Projection.{Projection};
@@ -12,6 +11,7 @@ ghost use Rattle.del_vector.specs.declared.mark.Mark.{Mark};
 ghost use Rattle.stored_rows.specs.Listed.{SameFiles, SameEntry};
 ghost use Rattle.stored_rows.specs.Held.{HoldsVector, HoldsRows, Holds};
 ghost use Rattle.stored_rows.specs.Stored.{Projected, Stores, IsMemoryAbove, IsLoaded};
+ghost use Rattle.ros_container.specs.Encodings.{Written};
 
 use del_vector::one_vector;
 use ros_container::one_container;
@@ -19,7 +19,7 @@ use ros_container::one_container;
 /// Files hold one list of rows, and with what is in memory one list is stored.
 pub fn one_list_of_rows()
     ensures vector { (m : Contents) (k : Container) (xs ys : List Mark) → HoldsVector m k xs → HoldsVector m k ys → xs ≡ ys }
-    ensures held { (m : Contents) (encodings : List Encoding) (ks : List Container) (xs ys : List Stamped) → HoldsRows m encodings ks xs → HoldsRows m encodings ks ys → xs ≡ ys }
+    ensures held { (m : Contents) (written : List Written) (ks : List Container) (xs ys : List Stamped) → HoldsRows m written ks xs → HoldsRows m written ks ys → xs ≡ ys }
     ensures stored { (m : Contents) (p : Projected) (xs ys : List Stamped) → Stores m p xs → Stores m p ys → xs ≡ ys }
 {
     one_vector();
@@ -28,7 +28,7 @@ pub fn one_list_of_rows()
 
 /// The rows are held on where the listed files are as they were.
 pub fn other_files_may_change()
-    ensures vector { (m n : Contents) (columns : ℕ) (k : Container) (marks : List Mark) → SameFiles m n columns k → HoldsVector m k marks → HoldsVector n k marks }
+    ensures vector { (m n : Contents) (k : Container) (marks : List Mark) → SameFiles m n k → HoldsVector m k marks → HoldsVector n k marks }
     ensures held { (m n : Contents) (p : Projection) (rows : List Stamped) → SameEntry m n p → Holds m p rows → Holds n p rows }
     ensures stored { (m n : Contents) (p : Projected) (rows : List Stamped) → SameEntry m n p.entry → Stores m p rows → Stores n p rows }
 {}

@@ -184,7 +184,7 @@ at_place (y ∷ xs) zero P is = (y, omega arith, refl, is)
 at_place {X} (y ∷ xs) (suc i) P is = let (x, lt, at, p) = at_place xs i P is in (x, omega (arith, lt), at, p)
 
 -- the numbers that an entry lists were drawn
-container_below : (next columns lge : ℕ) (k : Container) → IsContainer next columns lge k → IsBelow columns next k
+container_below : (next columns lge : ℕ) (k : Container) → IsContainer next columns lge k → IsBelow next k
 container_below next columns lge k is = record { files = is.files.1; vector = lower k.marks is.vector }
   where
     lower : (o : Option ℕ) → IfSome o (λ n. (1 ≤ n) × (n < next)) → IfSome o (λ n. n < next)
@@ -192,7 +192,7 @@ container_below next columns lge k is = record { files = is.files.1; vector = lo
     lower (Some n) (some, lt) = lt
 
 projection_below : (c : Catalogue) (t : kept.Table) (p : Projection) → IsProjection c t p → IsListedBelow c.next p
-projection_below c t p is = All-weaker (IsContainer c.next (length p.columns) p.lge) (IsBelow (length p.columns) c.next) (λ k h. container_below c.next (length p.columns) p.lge k h) p.containers is.containers
+projection_below c t p is = All-weaker (IsContainer c.next (length p.columns) p.lge) (IsBelow c.next) (λ k h. container_below c.next (length p.columns) p.lge k h) p.containers is.containers
 
 pub entry_below : (root : Catalogue) (stores : List (List Projected)) (i j : ℕ) (parts : List Projected) (old : Projected) → IsValid root → map (λ ps. map (λ p. p.entry) ps) stores ≡ map (λ t. t.projections) root.tables
     → i < length stores → parts ≡ get_or stores i parts → j < length parts → old ≡ get_or parts j old → IsListedBelow root.next old.entry

@@ -13,14 +13,13 @@ use Rattle.col_disk.specs.declared.disk.DiskFault.{DiskFault}
 use Rattle.col_disk.specs.declared.disk.DiskFault.TheVariants as disk_fault
 use Rattle.col_disk.specs.declared.disk.StoreFault.{StoreFault}
 use Rattle.col_disk.specs.declared.disk.StoreFault.TheVariants as fault
-use Rattle.col_value.specs.declared.kinds.Encoding.{Encoding}
 use Rattle.col_value.specs.declared.row.Asked.{Asked}
 use Rattle.col_value.specs.declared.row.Stamped.{Stamped}
 use Rattle.catalog_types.specs.declared.catalogue.Container.{Container}
 use Rattle.catalog_types.specs.declared.catalogue.Projection.{Projection}
 use Rattle.catalog_types.specs.declared.catalogue.Table as kept
 use Rattle.catalog_types.specs.declared.catalogue.Catalogue.{Catalogue}
-use Rattle.ros_container.specs.Encodings.{encodings_of}
+use Rattle.ros_container.specs.Encodings.{Written, written_of}
 use Rattle.ros_container.specs.Held.{HoldsContainer, BlamesContainer}
 use Rattle.ros_container.proofs.Blames.{blamed_holds_none}
 use Rattle.del_vector.specs.declared.mark.Mark.{Mark}
@@ -53,10 +52,10 @@ none_of P Q xs apart all (k, x, lt, is, q) = apart x (subst P is (all k x lt)) q
 
 -- ---- containers
 
-abbrev HasRowsIn : Contents → List Encoding → Container → Type 0
+abbrev HasRowsIn : Contents → List Written → Container → Type 0
 HasRowsIn m es k = (asked : List Asked) × HoldsContainer m es k asked
 
-stored_held : (m : Contents) (es : List Encoding) (ks : List Container) (bs : List Beside) (rows : List Stamped) → StoresRows m es ks bs rows → All (HasRowsIn m es) ks
+stored_held : (m : Contents) (es : List Written) (ks : List Container) (bs : List Beside) (rows : List Stamped) → StoresRows m es ks bs rows → All (HasRowsIn m es) ks
 stored_held m es [] [] rows is = All-nil (HasRowsIn m es)
 stored_held m es [] (b ∷ bs) rows is = absurd is
 stored_held m es (k ∷ ks) [] rows is = absurd is
@@ -65,7 +64,7 @@ stored_held m es (k ∷ ks) (b ∷ bs) rows (here, more, vector, (asked, held, a
 abbrev HasVectorIn : Contents → Container → Type 0
 HasVectorIn m k = (marks : List Mark) × HoldsVector m k marks
 
-held_vectors : (m : Contents) (es : List Encoding) (ks : List Container) (rows : List Stamped) → HoldsRows m es ks rows → All (HasVectorIn m) ks
+held_vectors : (m : Contents) (es : List Written) (ks : List Container) (rows : List Stamped) → HoldsRows m es ks rows → All (HasVectorIn m) ks
 held_vectors m es [] rows is = All-nil (HasVectorIn m)
 held_vectors m es (k ∷ ks) rows (marks, here, more, vector, marked, rest, all) = All-cons (HasVectorIn m) k ks (marks, vector) (held_vectors m es ks more rest)
 
@@ -79,14 +78,14 @@ rows_unblamed : (m : Contents) (holds : Option Contents) (p : Projected) (rows :
 rows_unblamed m holds p rows fault.Disk told stores blames = tt
 rows_unblamed m holds p rows fault.Memory told stores blames = tt
 rows_unblamed m holds p rows (fault.Damaged q) told (saved, stores, all) blames =
-    none_of (HasRowsIn m (encodings_of p.entry)) (λ k. BlamesContainer (encodings_of p.entry) k holds (fault.Damaged q)) p.entry.containers
-    (λ k has blamed. blamed_holds_none (encodings_of p.entry) k holds (fault.Damaged q) blamed m told has.0 has.1) (stored_held m (encodings_of p.entry) p.entry.containers p.beside saved stores) blames
+    none_of (HasRowsIn m (written_of p.entry)) (λ k. BlamesContainer (written_of p.entry) k holds (fault.Damaged q)) p.entry.containers
+    (λ k has blamed. blamed_holds_none (written_of p.entry) k holds (fault.Damaged q) blamed m told has.0 has.1) (stored_held m (written_of p.entry) p.entry.containers p.beside saved stores) blames
 
 load_unblamed : (m : Contents) (holds : Option Contents) (p : Projection) (rows : List Stamped) (f : StoreFault) → holds ≡ Some m → Holds m p rows → BlamesLoad p.containers holds f → IsUnblamed f
 load_unblamed m holds p rows fault.Disk told held blames = tt
 load_unblamed m holds p rows fault.Memory told held blames = tt
 load_unblamed m holds p rows (fault.Damaged q) told held blames =
-    none_of (HasVectorIn m) (λ k. BlamesVector k holds (fault.Damaged q)) p.containers (λ k has blamed. no_vector m holds k q has.0 k.marks told has.1 blamed) (held_vectors m (encodings_of p) p.containers rows held) blames
+    none_of (HasVectorIn m) (λ k. BlamesVector k holds (fault.Damaged q)) p.containers (λ k has blamed. no_vector m holds k q has.0 k.marks told has.1 blamed) (held_vectors m (written_of p) p.containers rows held) blames
 
 on_true : (b : Bool) {P : Type 0} → OnTrue b P → b ≡ true → P
 on_true true p is = p

@@ -1,5 +1,5 @@
 -- A table that comes, and where it stands; one that goes; and a later ancient history mark.
-use Rattle.std.specs.Prelude.{ℕ, ◌+◌, if◌then◌else◌, true, List, [], ◌∷◌, map, filter}
+use Rattle.std.specs.Prelude.{ℕ, ◌+◌, if◌then◌else◌, true, List, [], ◌∷◌, map, filter, None}
 use Rattle.std.specs.List.{enumerate_from, insert, remove}
 use Rattle.std.specs.Ordering.{is_lt, nat_cmp}
 use Rattle.std.specs.Cmp.Lexicographic.{slice_cmp}
@@ -15,7 +15,7 @@ use Rattle.db_model.specs.Events.{empty_table, is_not_named}
 
 -- the projection of all columns, sorted by all, each block in its shortest encoding
 abbrev pub whole_column : ℕ × Column → ProjColumn
-whole_column e = record { ordinal = e.0; encoding = Encoding.Auto }
+whole_column e = record { ordinal = e.0; encoding = Encoding.Auto; default = None }
 
 abbrev pub first_entry : List ℕ → List Column → ℕ → Projection
 first_entry name columns last = record {

@@ -29,6 +29,7 @@ fn whole_columns(alloc: Global, columns: &[Column]) -> Result<Vec<ProjColumn>, A
         .map(|(ordinal, _)| ProjColumn {
             ordinal,
             encoding: Encoding::Auto,
+            default: None,
         })
         .collect(alloc)
 }

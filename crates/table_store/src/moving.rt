@@ -5,7 +5,7 @@ ghost use Rattle.std.specs.List.{slice_get};
 ghost use Rattle.sound_laws.specs.Moves.{change_at};
 ghost use Rattle.table_store.specs.Moving.{with_entry, with_entry_at};
 
-use catalog_types::{Catalogue, Projection, Table};
+use catalog_types::{Catalogue, Projection, Table, copy_proj_columns};
 use col_value::{List, Name};
 use std::alloc::{AllocError, Global};
 
@@ -14,7 +14,7 @@ pub fn entry_copy(alloc: Global, entry: &Projection) -> Result<Projection, Alloc
     ensures { IfOk result (λ p. p ≡ entry.now) }
 {
     let name = entry.name.copy(alloc)?;
-    let columns = List::new(Vec::from_slice(alloc, entry.columns.as_slice())?);
+    let columns = List::new(copy_proj_columns(alloc, entry.columns.as_slice())?);
     let sort = List::new(Vec::from_slice(alloc, entry.sort.as_slice())?);
     let containers = List::new(Vec::from_slice(alloc, entry.containers.as_slice())?);
     Ok(Projection {

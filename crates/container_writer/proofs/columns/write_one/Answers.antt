@@ -1,7 +1,7 @@
 use Rattle.std.proofs.Common.{◌≡◌, length, map, ap, ◌∙◌}
 use Rattle.std.proofs.lemmas.List.{length-map}
 use Rattle.col_disk.proofs.Moving.{moved_none}
-use Rattle.ros_container.specs.Encodings.{encodings_of, encoding_at}
+use Rattle.ros_container.specs.Encodings.{written_of, encoding_at}
 use Rattle.ros_container.specs.Rows.{stored_values}
 use Rattle.ros_container.specs.Files.{body_of, index_of}
 use Rattle.container_writer.specs.Ordered.{asked_of}
@@ -13,7 +13,7 @@ returns-clause-held g c =
     let rows = map asked_of c.args.rows.now in
     let columns : length c.as_slice-columns.result.now ≡ length c.args.shape.now.columns = ap length c.as_slice-columns.ensures in
     let same = stored_same (length c.as_slice-columns.result.now) (length c.args.shape.now.columns) c.args.column rows c.as_slice.result.now c.in-Ok.values.items c.as_slice.ensures.value c.in-Ok.ensures.same columns in
-    held_of c.encoding_of-encoding.result (encoding_at (encodings_of c.args.shape.now) c.args.column) c.body_of-body.result c.index_of-index.result (body_of c.args.base c.args.column) (index_of c.args.base c.args.column) (length c.args.rows.now) c.as_slice.result.now
+    held_of c.encoding_of-encoding.result (encoding_at (written_of c.args.shape.now) c.args.column) c.body_of-body.result c.index_of-index.result (body_of c.args.base c.args.column) (index_of c.args.base c.args.column) (length c.args.rows.now) c.as_slice.result.now
     (stored_values (length c.args.shape.now.columns) c.args.column rows) (g.D.Disk.holds c.write_column.new.disk) c.write_column.result c.encoding_of-encoding.ensures c.body_of-body.ensures c.index_of-index.ensures same
     (stored_length (length c.args.shape.now.columns) c.args.column rows ∙ length-map c.args.rows.now asked_of) c.write_column.ensures.held
 

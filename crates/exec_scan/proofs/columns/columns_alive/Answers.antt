@@ -3,7 +3,7 @@ use Rattle.std.specs.Prelude.{Option}
 use Rattle.common_laws.specs.Maps.{Contents}
 use Rattle.col_disk.proofs.Moving.{moved_join, moved_none}
 use Rattle.col_value.specs.declared.value.Value.{Value}
-use Rattle.ros_container.specs.Encodings.{encodings_of}
+use Rattle.ros_container.specs.Encodings.{written_of}
 use Rattle.ros_container.specs.Held.{BlamesContainer}
 use Rattle.container_blocks.specs.Blocks.{rows_in}
 use Rattle.exec_scan.specs.Opened.{HoldsAll}
@@ -24,7 +24,7 @@ returns-in-Ok-fill_alive-clause-found g c = λ held m told rows holding.
     let none : AreColumns c.args.places.now c.as_mut_slice-read.result.now here = unread_columns (length c.args.places.now) c.as_mut_slice-read.result.now c.args.places.now here (c.as_mut_slice-read.ensures.value ∙ c.in-Ok.ensures) in
     let narrowed = c.in-Ok-narrow.ensures.narrows held m told rows holding none in
     let kept = c.narrow.ensures.kept in
-    let again = subst (λ (h : Option Contents). HoldsAll c.args.entry.now h c.args.places.now c.args.indexes.now) (sym kept) held in
+    let again = subst (λ (h : Option Contents). HoldsAll (written_of c.args.shape.now) c.args.entry.now h c.args.places.now c.args.indexes.now) (sym kept) held in
     record {
       narrows = narrowed.narrows;
       alive = subst (λ (cs : List (Option (List Value))). HaveRows c.args.places.now c.narrow.new.alive cs here) (sym back) (c.in-Ok-fill_alive.ensures.fills again m (kept ∙ told) rows holding narrowed.read);
@@ -35,8 +35,8 @@ returns-in-Ok-fill_alive-clause-moved g c = moved_join g.D.Disk c.narrow.ensures
 
 pub returns-in-Err-fill_alive-clause-blamed : goal.returns-in-Err-fill_alive-clause-blamed
 returns-in-Err-fill_alive-clause-blamed g c = λ held.
-    subst (λ (h : Option Contents). BlamesContainer (encodings_of c.args.shape.now) c.args.entry.now h c.in-Err-fill_alive.fault) c.narrow.ensures.kept
-    (c.in-Err-fill_alive.ensures.blamed (subst (λ (h : Option Contents). HoldsAll c.args.entry.now h c.args.places.now c.args.indexes.now) (sym c.narrow.ensures.kept) held))
+    subst (λ (h : Option Contents). BlamesContainer (written_of c.args.shape.now) c.args.entry.now h c.in-Err-fill_alive.fault) c.narrow.ensures.kept
+    (c.in-Err-fill_alive.ensures.blamed (subst (λ (h : Option Contents). HoldsAll (written_of c.args.shape.now) c.args.entry.now h c.args.places.now c.args.indexes.now) (sym c.narrow.ensures.kept) held))
 
 pub returns-in-Err-fill_alive-clause-moved : goal.returns-in-Err-fill_alive-clause-moved
 returns-in-Err-fill_alive-clause-moved g c = moved_join g.D.Disk c.narrow.ensures.moved c.fill_alive.ensures.moved

@@ -19,10 +19,10 @@ read_column-requires-clause-needed g c =
 
 pub returns-in-Ok-clause-fills : goal.returns-in-Ok-clause-fills
 returns-in-Ok-clause-fills g c = λ held m told rows holding.
-    let here = zip_at (HoldsNeeded c.args.entry.now (g.D.Disk.holds c.args.disk.now)) c.args.places.now c.args.indexes.now c.args.column None c.index-indexes-column.result c.requires.column held c.index-indexes-column.is in
+    let here = zip_at (HoldsNeeded (written_of c.args.shape.now) c.args.entry.now (g.D.Disk.holds c.args.disk.now)) c.args.places.now c.args.indexes.now c.args.column None c.index-indexes-column.result c.requires.column held c.index-indexes-column.is in
     fills_one c.args.column c.args.places.now c.args.columns.now c.in-Ok.values (rows_in c.args.k rows) (subst (λ n. c.args.column < n) (sym c.requires.width) c.requires.column)
     (c.in-Ok.ensures.found here m told rows holding)
 
 pub returns-in-Err-clause-blamed : goal.returns-in-Err-clause-blamed
 returns-in-Err-clause-blamed g c = λ held.
-    c.in-Err.ensures.blamed (zip_at (HoldsNeeded c.args.entry.now (g.D.Disk.holds c.args.disk.now)) c.args.places.now c.args.indexes.now c.args.column None c.index-indexes-column.result c.requires.column held c.index-indexes-column.is)
+    c.in-Err.ensures.blamed (zip_at (HoldsNeeded (written_of c.args.shape.now) c.args.entry.now (g.D.Disk.holds c.args.disk.now)) c.args.places.now c.args.indexes.now c.args.column None c.index-indexes-column.result c.requires.column held c.index-indexes-column.is)

@@ -2,7 +2,7 @@ use Rattle.std.proofs.Common.{◌≡◌, ◌∙◌, length, refl, subst, sym, ar
 use Rattle.std.specs.Prelude.{Option}
 use Rattle.common_laws.specs.Maps.{Contents}
 use Rattle.col_disk.proofs.Moving.{moved_join, moved_none}
-use Rattle.ros_container.specs.Encodings.{encodings_of}
+use Rattle.ros_container.specs.Encodings.{written_of}
 use Rattle.ros_container.specs.Held.{BlamesContainer}
 use Rattle.container_blocks.specs.Blocks.{rows_in}
 use Rattle.exec_scan.specs.Opened.{HoldsAll}
@@ -21,8 +21,8 @@ loop-column-init g c = record {
 
 pub returns-in-Err-clause-blamed : goal.returns-in-Err-clause-blamed
 returns-in-Err-clause-blamed g c = λ held.
-    subst (λ (h : Option Contents). BlamesContainer (encodings_of c.args.shape.now) c.args.entry.now h c.in-Err.fault) c.loop-column.invariant.kept
-    (c.in-Err.ensures.blamed (subst (λ (h : Option Contents). HoldsAll c.args.entry.now h c.args.places.now c.args.indexes.now) (sym c.loop-column.invariant.kept) held))
+    subst (λ (h : Option Contents). BlamesContainer (written_of c.args.shape.now) c.args.entry.now h c.in-Err.fault) c.loop-column.invariant.kept
+    (c.in-Err.ensures.blamed (subst (λ (h : Option Contents). HoldsAll (written_of c.args.shape.now) c.args.entry.now h c.args.places.now c.args.indexes.now) (sym c.loop-column.invariant.kept) held))
 
 pub returns-in-Err-clause-moved : goal.returns-in-Err-clause-moved
 returns-in-Err-clause-moved g c = moved_join g.D.Disk c.loop-column.invariant.moved c.fill_column.ensures.moved
@@ -35,7 +35,7 @@ loop-column-preserved g c =
       long = c.in-Ok.ensures.long;
       fills = λ held m told rows holding are.
           filled_more c.args.places.now c.loop-column.column c.loop-column.columns c.fill_column.new.columns (rows_in c.args.k rows)
-          (c.in-Ok.ensures.fills (subst (λ (h : Option Contents). HoldsAll c.args.entry.now h c.args.places.now c.args.indexes.now) (sym now.kept) held) m (now.kept ∙ told) rows holding)
+          (c.in-Ok.ensures.fills (subst (λ (h : Option Contents). HoldsAll (written_of c.args.shape.now) c.args.entry.now h c.args.places.now c.args.indexes.now) (sym now.kept) held) m (now.kept ∙ told) rows holding)
           (now.fills held m told rows holding are);
       kept = c.fill_column.ensures.kept ∙ now.kept;
       moved = moved_join g.D.Disk now.moved c.fill_column.ensures.moved;

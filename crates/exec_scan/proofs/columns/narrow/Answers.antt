@@ -2,7 +2,7 @@ use Rattle.std.proofs.Common.{◌∙◌, refl, subst, sym}
 use Rattle.std.specs.Prelude.{Option}
 use Rattle.common_laws.specs.Maps.{Contents}
 use Rattle.col_disk.proofs.Moving.{moved_join, moved_none}
-use Rattle.ros_container.specs.Encodings.{encodings_of}
+use Rattle.ros_container.specs.Encodings.{written_of}
 use Rattle.ros_container.specs.Held.{BlamesContainer}
 use Rattle.container_blocks.specs.Blocks.{rows_in}
 use Rattle.exec_scan.specs.Opened.{HoldsAll}
@@ -21,8 +21,8 @@ loop-bound-init g c = record {
 
 pub returns-in-Err-clause-blamed : goal.returns-in-Err-clause-blamed
 returns-in-Err-clause-blamed g c = λ held.
-    subst (λ (h : Option Contents). BlamesContainer (encodings_of c.args.shape.now) c.args.entry.now h c.in-Err.fault) c.loop-bound.invariant.kept
-    (c.in-Err.ensures.blamed (subst (λ (h : Option Contents). HoldsAll c.args.entry.now h c.args.places.now c.args.indexes.now) (sym c.loop-bound.invariant.kept) held))
+    subst (λ (h : Option Contents). BlamesContainer (written_of c.args.shape.now) c.args.entry.now h c.in-Err.fault) c.loop-bound.invariant.kept
+    (c.in-Err.ensures.blamed (subst (λ (h : Option Contents). HoldsAll (written_of c.args.shape.now) c.args.entry.now h c.args.places.now c.args.indexes.now) (sym c.loop-bound.invariant.kept) held))
 
 pub returns-in-Err-clause-moved : goal.returns-in-Err-clause-moved
 returns-in-Err-clause-moved g c = moved_join g.D.Disk c.loop-bound.invariant.moved c.narrow_by.ensures.moved
@@ -38,7 +38,7 @@ loop-bound-preserved g c =
       narrows = λ held m told rows holding.
           narrowed_more c.args.bounds.now c.loop-bound.bound-index bound c.args.places.now c.args.columns.now c.loop-bound.columns c.narrow_by.new.columns c.args.alive.now c.loop-bound.alive c.narrow_by.new.alive (rows_in c.args.k rows)
           c.loop-bound-test.true c.bound-item.is (now.narrows held m told rows holding)
-          (c.in-Ok.ensures.narrows (subst (λ (h : Option Contents). HoldsAll c.args.entry.now h c.args.places.now c.args.indexes.now) (sym now.kept) held) m (now.kept ∙ told) rows holding);
+          (c.in-Ok.ensures.narrows (subst (λ (h : Option Contents). HoldsAll (written_of c.args.shape.now) c.args.entry.now h c.args.places.now c.args.indexes.now) (sym now.kept) held) m (now.kept ∙ told) rows holding);
       kept = c.narrow_by.ensures.kept ∙ now.kept;
       moved = moved_join g.D.Disk now.moved c.narrow_by.ensures.moved;
     }

@@ -1,6 +1,6 @@
 use Rattle.std.proofs.Common.{◌≡◌, ◌*◌, ◌-◌, min, length}
 use Rattle.col_disk.specs.Moved.{Moved, NoName}
-use Rattle.ros_container.specs.Encodings.{encodings_of}
+use Rattle.ros_container.specs.Encodings.{written_of}
 use Rattle.exec_scan.specs.Opened.{HoldsAll}
 use Rattle.exec_scan.specs.Reading.{AreLong, NarrowsBy, OfBlock}
 use Rattle.exec_scan.proofs.columns.narrow.Given as goal
@@ -10,8 +10,8 @@ invariant-loop-bound g l = record {
   width : length l.columns ≡ length l.fn.columns;
   long : AreLong (min 1024 (l.entry.rows - 1024 * l.k)) l.columns;
   alive : length l.alive ≡ length l.fn.alive;
-  narrows : HoldsAll l.entry (g.D.Disk.holds l.fn.disk) l.places l.indexes
-      → OfBlock (NarrowsBy l.bounds l.places l.fn.columns l.columns l.fn.alive l.alive) (g.D.Disk.holds l.fn.disk) (encodings_of l.shape) l.entry l.k;
+  narrows : HoldsAll (written_of l.shape) l.entry (g.D.Disk.holds l.fn.disk) l.places l.indexes
+      → OfBlock (NarrowsBy l.bounds l.places l.fn.columns l.columns l.fn.alive l.alive) (g.D.Disk.holds l.fn.disk) (written_of l.shape) l.entry l.k;
   kept : g.D.Disk.holds l.disk ≡ g.D.Disk.holds l.fn.disk;
   moved : Moved g.D.Disk NoName NoName l.fn.disk l.disk;
 }

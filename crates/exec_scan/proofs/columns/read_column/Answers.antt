@@ -2,11 +2,10 @@ use Rattle.std.proofs.Common.{◌≡◌, ◌<◌, ◌∙◌, List, length, ap, s
 use Rattle.std.specs.Prelude.{Option, Some}
 use Rattle.std.specs.Option.{IfSome}
 use Rattle.std.proofs.lemmas.List.{length-map}
-use Rattle.catalog_types.specs.declared.catalogue.ProjColumn.{ProjColumn}
 use Rattle.col_disk.proofs.Moving.{moved_none}
 use Rattle.col_value.specs.declared.value.Value.{Value}
 use Rattle.pos_index.specs.declared.index.PosIndex.{PosIndex}
-use Rattle.ros_container.specs.Encodings.{encodings_of}
+use Rattle.ros_container.specs.Encodings.{written_as, written_of}
 use Rattle.container_blocks.specs.Blocks.{rows_in}
 use Rattle.exec_scan.specs.Opened.{HoldsNeeded}
 use Rattle.exec_scan.specs.Reading.{column_of}
@@ -16,10 +15,10 @@ use Rattle.exec_scan.proofs.columns.read_column.Goals as goal
 pub returns-in-Ok-clause-found : goal.returns-in-Ok-clause-found
 returns-in-Ok-clause-found g c = λ needed m told rows held.
     let place = c.in-Some-Some.place in
-    let es = encodings_of c.args.shape.now in
-    let has = subst (λ (x : Option PosIndex). HoldsNeeded c.args.entry.now (g.D.Disk.holds c.args.disk.now) (Some place) x) c.in-Some-Some.is-1
-    (subst (λ (o : Option _). HoldsNeeded c.args.entry.now (g.D.Disk.holds c.args.disk.now) o c.args.index.now) c.in-Some-Some.is-0 needed) in
-    let long : length es ≡ length c.args.shape.now.columns = length-map c.args.shape.now.columns (λ (k : ProjColumn). k.encoding) in
+    let es = written_of c.args.shape.now in
+    let has = subst (λ (x : Option PosIndex). HoldsNeeded (written_of c.args.shape.now) c.args.entry.now (g.D.Disk.holds c.args.disk.now) (Some place) x) c.in-Some-Some.is-1
+    (subst (λ (o : Option _). HoldsNeeded (written_of c.args.shape.now) c.args.entry.now (g.D.Disk.holds c.args.disk.now) o c.args.index.now) c.in-Some-Some.is-0 needed) in
+    let long : length es ≡ length c.args.shape.now.columns = length-map c.args.shape.now.columns written_as in
     let own = subst (λ (o : Option _). IfSome o (λ i. i < length c.args.shape.now.columns)) c.in-Some-Some.is-0 c.requires.own in
     let lt : place < length es = subst (λ n. place < n) (sym long) own in
     subst (λ (o : Option _). Some c.in-Ok.values ≡ column_of o (rows_in c.args.k rows)) (sym c.in-Some-Some.is-0)

@@ -1,9 +1,10 @@
+use Rattle.catalog_types.specs.Blank.{blank_container as blank}
 use Rattle.std.proofs.Common.{◌≡◌, ◌<◌, ◌∙◌, List, length, get_or, ap, sym, subst}
 use Rattle.std.proofs.lemmas.Result.{IfOk-weaker}
 use Rattle.catalog_types.specs.declared.catalogue.Container.{Container}
 use Rattle.catalog_types.specs.declared.catalogue.Projection.{Projection}
 use Rattle.proj_store.specs.Sound.{IsKept}
-use Rattle.exec_scan.proofs.Handed.{beside, blank, kept_here, zip_long}
+use Rattle.exec_scan.proofs.Handed.{beside, kept_here, zip_long}
 use Rattle.exec_scan.proofs.Keeping.{keeps_here}
 use Rattle.exec_scan.proofs.retained.container_keeps.Goals as goal
 

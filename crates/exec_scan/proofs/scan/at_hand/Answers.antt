@@ -1,3 +1,4 @@
+use Rattle.catalog_types.specs.Blank.{blank_container as blank}
 use Rattle.std.proofs.Common.{◌≡◌, ◌<◌, ◌∙◌, List, length, get_or, ap, sym, subst}
 use Rattle.std.specs.Prelude.{IsSomeAnd}
 use Rattle.std.specs.List.{slice_get}
@@ -6,10 +7,10 @@ use Rattle.col_disk.proofs.Moving.{moved_none}
 use Rattle.catalog_types.specs.declared.catalogue.Container.{Container}
 use Rattle.catalog_types.specs.declared.catalogue.Projection.{Projection}
 use Rattle.proj_store.specs.Sound.{IsKept}
-use Rattle.ros_container.specs.Encodings.{encodings_of}
+use Rattle.ros_container.specs.Encodings.{written_of}
 use Rattle.ros_container.specs.Held.{BlamesContainer}
 use Rattle.exec_scan.specs.Opened.{IsOpening}
-use Rattle.exec_scan.proofs.Handed.{beside, blank, kept_here, opened_at, some_at, zip_long}
+use Rattle.exec_scan.proofs.Handed.{beside, kept_here, opened_at, some_at, zip_long}
 use Rattle.exec_scan.proofs.scan.at_hand.Goals as goal
 
 pub vector-requires : goal.vector-requires
@@ -45,7 +46,7 @@ pub returns-in-None-clause-blamed : goal.returns-in-None-clause-blamed
 returns-in-None-clause-blamed g c =
     let are : c.as_slice.result.now ≡ c.args.store.now.stored.entry.containers = c.as_slice.ensures ∙ ap (λ (p : Projection). p.containers) c.entry-shape.ensures.entry in
     IfErr-weaker c.open.result _ _
-    (λ fault blames. subst (λ (p : Projection). IsSomeAnd (slice_get p.containers c.args.container) (λ k. BlamesContainer (encodings_of p) k (g.D.Disk.holds c.args.disk.now) fault)) c.entry-shape.ensures.entry
-    (subst (λ (ks : List Container). IsSomeAnd (slice_get ks c.args.container) (λ k. BlamesContainer (encodings_of c.entry-shape.result.now) k (g.D.Disk.holds c.args.disk.now) fault)) c.as_slice.ensures
-    (some_at (λ k. BlamesContainer (encodings_of c.entry-shape.result.now) k (g.D.Disk.holds c.args.disk.now) fault) c.as_slice.result.now c.args.container blank
+    (λ fault blames. subst (λ (p : Projection). IsSomeAnd (slice_get p.containers c.args.container) (λ k. BlamesContainer (written_of p) k (g.D.Disk.holds c.args.disk.now) fault)) c.entry-shape.ensures.entry
+    (subst (λ (ks : List Container). IsSomeAnd (slice_get ks c.args.container) (λ k. BlamesContainer (written_of c.entry-shape.result.now) k (g.D.Disk.holds c.args.disk.now) fault)) c.as_slice.ensures
+    (some_at (λ k. BlamesContainer (written_of c.entry-shape.result.now) k (g.D.Disk.holds c.args.disk.now) fault) c.as_slice.result.now c.args.container blank
     (subst (λ (ks : List Container). c.args.container < length ks) (sym are) c.requires.there) blames))) c.open.ensures.blamed

@@ -3,7 +3,7 @@ use Rattle.std.specs.Prelude.{Some}
 use Rattle.common_laws.specs.Maps.{Contents}
 use Rattle.catalog_types.specs.declared.catalogue.Projection.{Projection}
 use Rattle.col_disk.proofs.Moving.{moved_none, moved_join}
-use Rattle.ros_container.specs.Encodings.{encodings_of}
+use Rattle.ros_container.specs.Encodings.{written_of}
 use Rattle.container_writer.specs.Ordered.{stamped_of}
 use Rattle.container_writer.specs.Writing.{listed, HoldsBag, AreNumbered}
 use Rattle.moveout_job.specs.OnDisk.{moved_to}
@@ -27,7 +27,7 @@ returns-in-Ok-moved_entry-clause-held g c =
     let are : rows ≡ p.unsaved = search rules in
     let is : c.in-Ok-moved_entry.entry ≡ moved_to c.args.last js made p.entry = of_entry c.args.last js made c.entry-2.result.now p.entry c.in-Ok-moved_entry.entry c.in-Ok-moved_entry.ensures c.entry-2.ensures.entry in
     moves_out g.D.Disk c.args.last c.args.next c.in-Ok-mark_each.marked.next p c.in-Ok-moved_entry.entry js made rows is c.in-Ok-mark_each.ensures.held c.write_stamped.ensures.moved
-    (subst (λ (e : Projection). (m : Contents) → g.D.Disk.holds c.write_stamped.new.disk ≡ Some m → HoldsBag m (encodings_of e) (listed made) rows) c.entry.ensures.entry c.in-Ok-write_stamped.ensures.held) are
+    (subst (λ (e : Projection). (m : Contents) → g.D.Disk.holds c.write_stamped.new.disk ≡ Some m → HoldsBag m (written_of e) (listed made) rows) c.entry.ensures.entry c.in-Ok-write_stamped.ensures.held) are
 
 pub returns-in-Ok-moved_entry-clause-below : goal.returns-in-Ok-moved_entry-clause-below
 returns-in-Ok-moved_entry-clause-below g c =

@@ -11,7 +11,7 @@ pub loop-i-init : goal.loop-i-init
 loop-i-init g c = record {
   long = ap length c.new-out.ensures.items;
   fit = subst (All (IsIndexOf c.args.container.now.rows)) (sym c.new-out.ensures.items) (All-nil (IsIndexOf c.args.container.now.rows));
-  held = indexes_none c.args.container.now (g.D.Disk.holds c.args.disk.now) c.new-out.result.items c.new-out.ensures.items;
+  held = indexes_none (written_of c.args.entry.now) c.args.container.now (g.D.Disk.holds c.args.disk.now) c.new-out.result.items c.new-out.ensures.items;
   kept = refl;
   moved = moved_none g.D.Disk c.args.disk.now;
 }
@@ -23,7 +23,7 @@ loop-i-preserved g c =
     record {
       long = omega (arith, ap length is, length-append c.loop-i.out.items (c.in-Ok.at ∷ []), now.long);
       fit = subst (All (IsIndexOf c.args.container.now.rows)) (sym is) (All-push (IsIndexOf c.args.container.now.rows) c.loop-i.out.items c.in-Ok.at now.fit c.in-Ok.ensures.index);
-      held = indexes_more c.args.container.now (g.D.Disk.holds c.loop-i.disk) (g.D.Disk.holds c.args.disk.now) c.loop-i.i c.loop-i.out.items c.push.new.self.items c.in-Ok.at now.kept now.long is now.held c.in-Ok.ensures.found;
+      held = indexes_more (written_of c.args.entry.now) c.args.container.now (g.D.Disk.holds c.loop-i.disk) (g.D.Disk.holds c.args.disk.now) c.loop-i.i c.loop-i.out.items c.push.new.self.items c.in-Ok.at now.kept now.long is now.held c.in-Ok.ensures.found;
       kept = c.index.ensures.kept ∙ now.kept;
       moved = moved_join g.D.Disk now.moved c.index.ensures.moved;
     }

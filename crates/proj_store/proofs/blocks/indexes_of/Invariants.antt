@@ -9,7 +9,7 @@ abbrev pub invariant-loop-i : goal.invariant-loop-i
 invariant-loop-i g l = record {
   long : length l.out.items ≡ l.i;
   fit : All (IsIndexOf l.container.rows) l.out.items;
-  held : HasIndexes l.container (g.D.Disk.holds l.fn.disk) l.out.items;
+  held : HasIndexes (written_of l.entry) l.container (g.D.Disk.holds l.fn.disk) l.out.items;
   kept : g.D.Disk.holds l.disk ≡ g.D.Disk.holds l.fn.disk;
   moved : Moved g.D.Disk NoName NoName l.fn.disk l.disk;
 }

@@ -1,7 +1,7 @@
 use Rattle.std.proofs.Common.{◌≡◌, ◌∙◌, List, length, subst, sym, ap, arith}
 use Rattle.std.specs.Prelude.{Option}
 use Rattle.col_disk.proofs.Moving.{moved_none}
-use Rattle.ros_container.specs.Encodings.{encodings_of}
+use Rattle.ros_container.specs.Encodings.{written_of}
 use Rattle.col_value.specs.declared.value.Value.{Value}
 use Rattle.proj_store.specs.Candidates.{columns_in, HaveRows}
 use Rattle.proj_store.proofs.Candidacy.{written}
@@ -14,7 +14,7 @@ returns-in-Err-clause-moved g c = moved_none g.D.Disk c.args.disk.now
 pub returns-in-Ok-look_through-clause-rows : goal.returns-in-Ok-look_through-clause-rows
 returns-in-Ok-look_through-clause-rows g c = λ held.
     let holds = g.D.Disk.holds c.args.disk.now in
-    let es = encodings_of c.args.entry.now in
+    let es = written_of c.args.entry.now in
     let columns = c.in-Ok.columns in
     let columns_is = c.as_mut_slice-read.ensures.value in
     let columns_long : columns.len ≡ length columns.items = omega (arith, c.as_mut_slice-read.ensures.len, ap length columns_is) in

@@ -1,10 +1,11 @@
+use Rattle.catalog_types.specs.Blank.{blank_container as blank}
 use Rattle.std.proofs.Common.{◌≤◌, ◌<◌, ◌+◌, ◌*◌, ◌∙◌, List, ℕ, length, get_or, sym, subst, arith}
 use Rattle.std.specs.Prelude.{Option, Some, IsSomeAnd}
 use Rattle.std.specs.List.{slice_get}
 use Rattle.common_laws.specs.Maps.{Contents}
 use Rattle.col_disk.proofs.Moving.{moved_join}
 use Rattle.pos_index.specs.Index.{blocks}
-use Rattle.ros_container.specs.Encodings.{encodings_of}
+use Rattle.ros_container.specs.Encodings.{written_of}
 use Rattle.ros_container.specs.Held.{BlamesContainer}
 use Rattle.stored_rows.specs.Stored.{Beside, mark_in}
 use Rattle.row_bounds.specs.declared.bound.Bound.{Bound}
@@ -12,7 +13,6 @@ use Rattle.exec_scan.specs.Opened.{HasOpened, IsOpening}
 use Rattle.exec_scan.specs.Passing.{IsPassed}
 use Rattle.exec_scan.specs.Reading.{OfBlock, ShowsRows}
 use Rattle.exec_scan.specs.Scanning.{AreLeft, Gives, IsScanOf, Place, steps_left}
-use Rattle.exec_scan.proofs.Handed.{blank}
 use Rattle.exec_scan.proofs.Stepping.{at_place, block_gives, block_unblamed, done_fewer, done_gives, handed, next_fewer, next_scan, opening_here, unblamed_at}
 use Rattle.exec_scan.proofs.scan.Scan.next_block.Goals as goal
 
@@ -63,8 +63,8 @@ returns-in-Err-read_block-clause-unblamed g c = λ m told left are.
     let has = handed p s.container s.places.items c.as_slice.result.now s.opened c.take-opened.result m (g.D.Disk.holds c.args.disk.now) c.in-Ok.opened c.take-opened.ensures.value c.as_slice.ensures.value told was.at_hand c.in-Ok.ensures.held in
     let entry = get_or c.as_slice-2.result.now s.container blank in
     let shape = c.entry-shape.result.now in
-    let blames = subst (λ (ps : List (Option ℕ)). (bes : Beside) → HasOpened entry (length shape.columns) bes ps (g.D.Disk.holds c.args.disk.now) c.in-Ok.opened → BlamesContainer (encodings_of shape) entry (g.D.Disk.holds c.args.disk.now) c.in-Err-read_block.fault) c.as_slice-4.ensures.value
-    (subst (λ (h : Option Contents). (bes : Beside) → HasOpened entry (length shape.columns) bes c.as_slice-4.result.now h c.in-Ok.opened → BlamesContainer (encodings_of shape) entry h c.in-Err-read_block.fault) c.at_hand.ensures.kept c.in-Err-read_block.ensures.blamed) in
+    let blames = subst (λ (ps : List (Option ℕ)). (bes : Beside) → HasOpened (written_of shape) entry (length shape.columns) bes ps (g.D.Disk.holds c.args.disk.now) c.in-Ok.opened → BlamesContainer (written_of shape) entry (g.D.Disk.holds c.args.disk.now) c.in-Err-read_block.fault) c.as_slice-4.ensures.value
+    (subst (λ (h : Option Contents). (bes : Beside) → HasOpened (written_of shape) entry (length shape.columns) bes c.as_slice-4.result.now h c.in-Ok.opened → BlamesContainer (written_of shape) entry h c.in-Err-read_block.fault) c.at_hand.ensures.kept c.in-Err-read_block.ensures.blamed) in
     block_unblamed m (g.D.Disk.holds c.args.disk.now) p s.epoch s.places.items s.bounds.items s.stamps s.container s.block s.opened c.in-Ok.opened s.taken shape c.as_slice-2.result.now left c.in-Err-read_block.fault told
     c.entry-shape.ensures.entry c.as_slice-2.ensures there has blames was
 
@@ -97,9 +97,9 @@ returns-clause-gives g c = λ m told left are.
     let entry = get_or c.as_slice-2.result.now s.container blank in
     let shape = c.entry-shape.result.now in
     let shown = c.in-Ok-read_block.batch in
-    let found = subst (λ (w : List Bound). (bes : Beside) → HasOpened entry (length shape.columns) bes s.places.items (g.D.Disk.holds c.args.disk.now) c.in-Ok.opened → OfBlock (ShowsRows s.epoch s.places.items w s.stamps (mark_in bes) (1024 * block) shown) (g.D.Disk.holds c.args.disk.now) (encodings_of shape) entry block) c.as_slice-5.ensures.value
-    (subst (λ (ps : List (Option ℕ)). (bes : Beside) → HasOpened entry (length shape.columns) bes ps (g.D.Disk.holds c.args.disk.now) c.in-Ok.opened → OfBlock (ShowsRows s.epoch ps c.as_slice-5.result.now s.stamps (mark_in bes) (1024 * block) shown) (g.D.Disk.holds c.args.disk.now) (encodings_of shape) entry block) c.as_slice-4.ensures.value
-    (subst (λ (h : Option Contents). (bes : Beside) → HasOpened entry (length shape.columns) bes c.as_slice-4.result.now h c.in-Ok.opened → OfBlock (ShowsRows s.epoch c.as_slice-4.result.now c.as_slice-5.result.now s.stamps (mark_in bes) (1024 * block) shown) h (encodings_of shape) entry block) c.at_hand.ensures.kept c.in-Ok-read_block.ensures.found)) in
+    let found = subst (λ (w : List Bound). (bes : Beside) → HasOpened (written_of shape) entry (length shape.columns) bes s.places.items (g.D.Disk.holds c.args.disk.now) c.in-Ok.opened → OfBlock (ShowsRows s.epoch s.places.items w s.stamps (mark_in bes) (1024 * block) shown) (g.D.Disk.holds c.args.disk.now) (written_of shape) entry block) c.as_slice-5.ensures.value
+    (subst (λ (ps : List (Option ℕ)). (bes : Beside) → HasOpened (written_of shape) entry (length shape.columns) bes ps (g.D.Disk.holds c.args.disk.now) c.in-Ok.opened → OfBlock (ShowsRows s.epoch ps c.as_slice-5.result.now s.stamps (mark_in bes) (1024 * block) shown) (g.D.Disk.holds c.args.disk.now) (written_of shape) entry block) c.as_slice-4.ensures.value
+    (subst (λ (h : Option Contents). (bes : Beside) → HasOpened (written_of shape) entry (length shape.columns) bes c.as_slice-4.result.now h c.in-Ok.opened → OfBlock (ShowsRows s.epoch c.as_slice-4.result.now c.as_slice-5.result.now s.stamps (mark_in bes) (1024 * block) shown) h (written_of shape) entry block) c.at_hand.ensures.kept c.in-Ok-read_block.ensures.found)) in
     subst (λ (x : Place). Gives m p x (at_place s.epoch s.places.items s.bounds.items s.stamps s.container (block + 1) (Some c.in-Ok.opened) s.taken) left (Some shown)) c.self.view_is
     (block_gives c.values_lie_between.ensures m (g.D.Disk.holds c.args.disk.now) p s.epoch s.places.items s.bounds.items s.stamps s.container s.block block s.opened c.in-Ok.opened s.taken shown shape c.as_slice-2.result.now left told
     c.entry-shape.ensures.entry c.as_slice-2.ensures there from below scan.own has opening misses found was)
