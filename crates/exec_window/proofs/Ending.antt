@@ -39,7 +39,7 @@ module _ (w : BoundWindow) (a : Aggregate) (rows : List (List Value)) (ts vs : L
   rising : Rises (λ y x. is_lt (walk_cmp w y x)) sorted
   rising =
       let less : Tuple → Tuple → Bool = λ x y. is_lt (walk_cmp w (pair_of x) (pair_of y)) in
-      let far : AllPairs (λ x y. less y x ≡ false) vs = λ i j d below inside. sorted_far less (ranks_by (walk_total w a) pair_of) vs up i j d (omega arith) inside in
+      let far : AllPairs (λ x y. less y x ≡ false) vs = λ i j d below inside. sorted_far less (ranks_by (walk_total w) pair_of) vs up i j d (omega arith) inside in
       rises_mapped pair_of (λ y x. is_lt (walk_cmp w y x)) vs (pairs_rise less vs far)
 
   pub ends : AllFit w a None sorted → written w.kind (steps w a None sorted) (map (λ r. wide.Null) rows) ≡ map (λ t. window_value rows t (w, a)) (enumerate_from 0 rows)

@@ -4,7 +4,7 @@ use Rattle.std.specs.Prelude.{◌==◌, ◌⊎◌, not}
 use Rattle.std.specs.Ordering.{is_lt}
 use Rattle.std.specs.List.{All, Contains, count_by, enumerate_from, list_any, sum_by}
 use Rattle.std.proofs.lemmas.Bool.Decides.{nat_tests}
-use Rattle.std.proofs.lemmas.List.{append_assoc, ext_get_or, get_or-set_other, get_or-set_same, length-map, length-set, map-append}
+use Rattle.std.proofs.lemmas.List.{append_assoc, ext_get_or, get_or-set_other, get_or-set_same, length-append, length-map, length-set, map-append}
 use Rattle.std.proofs.lemmas.List.Elements.{All-nil, Contains-append_right, Contains-get_or, filter-append}
 use Rattle.std.proofs.lemmas.List.Sums.{sum_by-append}
 use Rattle.col_value.specs.declared.value.Value.{Value}
@@ -83,17 +83,13 @@ owns_from : (pre rest : List (List Value)) → list_any (λ k. cond (is_own (pre
 owns_from pre [] = refl
 owns_from pre (row ∷ rest) =
     let joined : (pre ++ row ∷ []) ++ rest ≡ pre ++ row ∷ rest = append_assoc pre (row ∷ []) rest in
-    let long : length (pre ++ row ∷ []) ≡ length pre + 1 = length_more pre row in
+    let long : length (pre ++ row ∷ []) ≡ length pre + 1 = omega (arith, length-append pre (row ∷ [])) in
     let here : is_own (pre ++ row ∷ rest) (length pre, row) ≡ true = ap (same_keys row) (at_end pre row rest) ∙ same_itself row in
     let later : list_any (λ k. cond (is_own (pre ++ row ∷ rest) k) false true) (enumerate_from (length pre + 1) rest) ≡ false =
     ap (λ (n : ℕ). list_any (λ k. cond (is_own (pre ++ row ∷ rest) k) false true) (enumerate_from n rest)) (sym long)
     ∙ subst (λ (all : List (List Value)). list_any (λ k. cond (is_own all k) false true) (enumerate_from (length (pre ++ row ∷ [])) rest) ≡ false) joined (owns_from (pre ++ row ∷ []) rest) in
     ap₂ (λ (b c : Bool). cond b false true || c) here later
   where
-    length_more : (xs : List (List Value)) (x : List Value) → length (xs ++ x ∷ []) ≡ length xs + 1
-    length_more [] x = refl
-    length_more (y ∷ xs) x = ap suc (length_more xs x)
-
     at_end : (xs : List (List Value)) (x : List Value) (ys : List (List Value)) → get_or (xs ++ x ∷ ys) (length xs) [] ≡ x
     at_end [] x ys = refl
     at_end (y ∷ xs) x ys = at_end xs x ys
@@ -162,7 +158,7 @@ module _ (w : BoundWindow) (a : Aggregate) (rows : List (List Value)) (s : List 
             ∙ ap (λ (r : List Value). window_value rows (t.0, r) (w, a)) row
             ∙ ap (λ (p : ℕ). window_value rows (p, get_or rows p []) (w, a)) here
         | false ↦ λ e.
-            let other : i ≢ x.place = λ same. let there_too : (t.0 == i) ≡ true = tied (sym place ∙ sym same) in clash (sym there_too ∙ e) in
+            let other : i ≡ x.place → ⊥ = λ same. let there_too : (t.0 == i) ≡ true = tied (sym place ∙ sym same) in clash (sym there_too ∙ e) in
             get_or-set_other below x.place i v wide.Null other
             ∙ written_at i js xs out h rest (own_later t js own) (sym (ap (λ (b : Bool). b || list_any (λ (k : Placed). k.0 == i) js) e) ∙ there)
       ] refl

@@ -14,7 +14,7 @@ use Rattle.col_value.specs.declared.value.Value.{Value}
 use Rattle.sql_bound.specs.declared.query.Aggregate.{Aggregate}
 use Rattle.sql_bound.specs.declared.query.BoundWindow.{BoundWindow}
 use Rattle.sql_bound.specs.Outputs.{in_frame, in_partition, is_numbered_before, keys_of, number_cmp, same_keys, stands_before, values_over, window_cmp}
-use Rattle.exec_group.specs.Accumulators.{accumulated_over, argument_in, taken}
+use Rattle.exec_group.specs.Accumulators.{accumulated, accumulated_over, argument_in, taken}
 use Rattle.exec_group.specs.declared.accumulator.Accumulator.{Accumulator}
 use Rattle.exec_group.proofs.More.{no_values, row_taken}
 use Rattle.query_laws.proofs.Numbered.{counts_cons, counts_more}
@@ -65,6 +65,9 @@ filter_one {X} p x e = ap (λ (b : Bool). cond b (x ∷ []) []) e
 
 -- ---- one window
 
+pub walk_total : (w : BoundWindow) → IsTotalOrder (walk_cmp w)
+walk_total w = then_total (on_total (λ (t : Placed). keys_of w.partition t.1) row_total) (number_total w)
+
 module _ (w : BoundWindow) (a : Aggregate) where
   abbrev pub part : Placed → List Value
   part t = keys_of w.partition t.1
@@ -77,9 +80,6 @@ module _ (w : BoundWindow) (a : Aggregate) where
 
   abbrev pub by_window : Placed → Placed → Ordering
   by_window x y = window_cmp w.order x.1 y.1
-
-  pub walk_total : IsTotalOrder (walk_cmp w)
-  walk_total = then_total (on_total part row_total) (number_total w)
 
   pub placed_total : IsTotalOrder by_window
   placed_total = on_total (λ (t : Placed). t.1) (window_total w.order)

@@ -99,7 +99,7 @@ fn before_at(
 
 /// What the partition adds up to before a tuple that joins it or begins another.
 fn sum_at(joined: bool, aggregate: &Aggregate, at: Option<At<'_>>) -> Accumulator
-    ensures { (w : Window) (t : ℕ × List Value) → joined ≡ joins w (option_map seen_of at) t → result ≡ sum_at w aggregate.now (option_map seen_of at) t }
+    ensures { (w : Window) (t : ℕ × List Value) → joined ≡ joins w (option_map seen_of at.entry) t → result ≡ sum_at w aggregate.now (option_map seen_of at.entry) t }
 {
     match at {
         Some(at) if joined => at.sum,
@@ -117,7 +117,7 @@ fn next<'a>(
 ) -> Result<At<'a>, AllocError>
     requires bounded { is_bounded_aggregate aggregate.now ≡ true }
     requires row { IsRowOf tuple }
-    ensures { IfOk result (λ n. seen_of n ≡ next_at window.now aggregate.now (option_map seen_of at) (pair_of tuple)) }
+    ensures { IfOk result (λ n. seen_of n ≡ next_at window.now aggregate.now (option_map seen_of at.entry) (pair_of tuple.entry)) }
 {
     let joined = joins(window, &at, &tuple);
     let peer = is_peer(window, &at, &tuple);

@@ -44,6 +44,13 @@ in_window f w =
     (given_joined f (map used_outside w.partition) (map (λ (k : WindowKey). used_outside k.column) w.order)
     ∙ ap₂ first_of (given_mapped f used_outside w.partition) (given_mapped f (λ (k : WindowKey). used_outside k.column) w.order))
 
+-- where neither the argument nor PARTITION BY gives one, the keys may
+pub window_to_keys : {Y : Type 0} (f : Use → Option Y) (w : Window) → first_given f (condition_uses w.arg) ≡ None → first_given (λ (r : ColRef). f (used_outside r)) w.partition ≡ None
+    → first_given (λ (k : WindowKey). f (used_outside k.column)) w.order ≡ first_given f (window_uses w)
+window_to_keys {Y} f w first second =
+    let keys = first_given (λ (k : WindowKey). f (used_outside k.column)) w.order in
+    sym (in_window f w ∙ ap₂ (λ (a b : Option Y). first_of a (first_of b keys)) first second)
+
 -- inside an aggregate
 pub given_inside : (v : View) (inside : Bool) (us : List Use) → first_given (named_in v true) us ≡ first_given (named_in v inside) (map used_inside us)
 given_inside v true [] = refl

@@ -33,7 +33,7 @@ use Rattle.db_model.specs.Views.{columns_found, table_found}
 use Rattle.statement_plan.specs.Places.{IsDeleteOf, IsUpdateOf, placed_delete, placed_update}
 use Rattle.statement_plan.specs.Planned.{early_refusal, IsPlanned}
 use Rattle.statement_plan.specs.declared.plans.Plan.{Plan}
-use Rattle.statement_plan.proofs.Sources.{bounded_by, bounded_over, each_passes, no_aggregates, one_column, second_none, unrefused}
+use Rattle.statement_plan.proofs.Sources.{bounded_by, bounded_over, each_passes, one_column, same_bounds, second_none, unrefused}
 
 abbrev pub pair : ℕ × Table → ℕ × List Column
 pair e = (e.0, e.1.columns)
@@ -139,7 +139,7 @@ update_over u n columns accepted =
     let parts = and_parts (list_all (λ (s : ℕ × Expr). is_narrow [] s.1) (bound_update 0 columns u).1.columns) (is_narrow_query (bound_update 0 columns u).0)
     (narrow_update columns u accepted) in
     made u n columns
-    (bounded_by (bound_query ((n, columns) ∷ []) (update_query u)) (no_aggregates ((n, columns) ∷ []) (update_query u))
+    (bounded_by (bound_query ((n, columns) ∷ []) (update_query u)) (same_bounds ((n, columns) ∷ []) (update_query u))
     (same_narrow ((n, columns) ∷ []) ((0, columns) ∷ []) (update_sight columns u) (update_query u) ∙ parts.1))
     (each_passes (λ (s : ℕ × Expr). is_narrow [] s.1) (bound_update 0 columns u).1.columns parts.0)
   where

@@ -1,7 +1,7 @@
 -- The tables of a query's FROM items, and the bounds of a query that isn't refused.
 use Rattle.std.proofs.Common.{◌≡◌, ℕ, List, [], ◌∷◌, ◌++◌, Bool, true, false, cond, map, refl, sym, ◌∙◌, ap, ap₂, subst, true≢false}
 use Rattle.std.specs.Prelude.{Option, Some, None, option_map, option_and_then, not, ◌&&◌, Result, IfErr}
-use Rattle.std.specs.List.{All, list_all, flat_map}
+use Rattle.std.specs.List.{All, list_all, flat_map, zip}
 use Rattle.std.specs.Option.{option_map_or}
 use Rattle.std.proofs.lemmas.Bool.{and_parts}
 use Rattle.std.proofs.lemmas.Option.{same_Some}
@@ -9,6 +9,8 @@ use Rattle.std.proofs.lemmas.List.Elements.{All-nil, All-cons}
 use Rattle.col_value.specs.declared.column.Column.{Column}
 use Rattle.sql_tree.specs.declared.query.Query.{Query}
 use Rattle.sql_tree.specs.declared.query.Source.{Source}
+use Rattle.sql_tree.specs.declared.query.Window.{Window}
+use Rattle.sql_tree.specs.declared.query.WindowKind.{WindowKind}
 use Rattle.sql_tree.specs.declared.refusal.Refusal.{Refusal}
 use Rattle.sql_bound.specs.declared.expr.Expr.{Expr}
 use Rattle.sql_bound.specs.declared.query.Aggregate.{Aggregate}
@@ -16,15 +18,16 @@ use Rattle.sql_bound.specs.declared.query.BoundQuery.{BoundQuery}
 use Rattle.sql_bound.specs.Bounds.{bound_of_aggregate, is_narrow}
 use Rattle.sql_binding.specs.Firsts.{first_of, refused_where, with_first, all_there}
 use Rattle.sql_binding.specs.Sight.{Seen, sight}
+use Rattle.sql_binding.specs.Trees.{Scope, aggregate_kind, bound_window, window_aggregate}
 use Rattle.sql_binding.specs.Uses.{is_grouped}
-use Rattle.sql_binding.specs.Queries.{at_no_place, bound_query, columns_of, from_limit, is_narrow_aggregate, is_narrow_query, is_typed_query, name_refusal, over_groups, over_rows, query_refusal, refusal_over, row_kinds, tree_refusal, unknown_table}
+use Rattle.sql_binding.specs.Queries.{at_no_place, bound_query, columns_of, from_limit, is_narrow_aggregate, is_narrow_query, is_typed_query, name_refusal, over_groups, over_rows, query_refusal, refusal_over, row_kinds, tree_refusal, unknown_table, whole_scope, windows_of}
 use Rattle.sql_binding.specs.Queries as binding
 use Rattle.name_binder.specs.declared.fault.BindFault.{BindFault}
 use Rattle.name_binder.specs.Refusing.{RefusesBy}
 use Rattle.name_binder.specs.Tables as there
 use Rattle.statement_binder.specs.Answers.{IsBoundQuery}
 use Rattle.statement_binder.proofs.Refused.{same_trees}
-use Rattle.query_laws.specs.Bounded.{IsBoundedQuery, seen_bounds}
+use Rattle.query_laws.specs.Bounded.{IsBoundedQuery, bound_beside, seen_bounds, window_bound}
 use Rattle.db_model.specs.Database.{Table}
 use Rattle.db_model.specs.State.{State}
 use Rattle.db_model.specs.Views.{table_found, columns_found, source_tables, bound_in}
@@ -94,15 +97,23 @@ columns_all [] ts is = ap (λ (us : List (ℕ × List Column)). Some (columns_of
 columns_all (None ∷ rest) ts is = cc
 columns_all (Some t ∷ rest) ts is = with_all t (all_there rest) (all_there (there.columns_found rest)) ts (columns_all rest) is
 
--- a query that isn't refused has static bounds
-bounds_are : (grouped : Bool) (aggs : List Aggregate) → (grouped ≡ false → aggs ≡ []) → cond grouped (map bound_of_aggregate aggs) [] ≡ map bound_of_aggregate aggs
-bounds_are true aggs none = refl
-bounds_are false aggs none = ap (λ (l : List Aggregate). map bound_of_aggregate l) (sym (none refl))
+-- a window has the bound of the aggregate that it is over its frame
+window_bounds : (kind : WindowKind) (arg : Option Expr) → (let a : Aggregate = record { kind = aggregate_kind kind; arg = arg } in window_bound kind a ≡ bound_of_aggregate a)
+window_bounds WindowKind.RowNumber arg = refl
+window_bounds WindowKind.Rank arg = refl
+window_bounds WindowKind.CountAll arg = refl
+window_bounds WindowKind.Count arg = refl
+window_bounds WindowKind.Sum arg = refl
 
-pub bounded_by : (b : BoundQuery) → (b.grouped ≡ false → b.aggs ≡ []) → is_narrow_query b ≡ true → IsBoundedQuery b
-bounded_by b none narrow =
+bounds_beside : (s : Scope) (ws : List Window) → map bound_beside (zip (map (bound_window s) ws) (map (window_aggregate s) ws)) ≡ map bound_of_aggregate (map (window_aggregate s) ws)
+bounds_beside s [] = refl
+bounds_beside s (w ∷ ws) = ap₂ (λ (n : ℕ) (ns : List ℕ). n ∷ ns) (window_bounds w.kind (window_aggregate s w).arg) (bounds_beside s ws)
+
+-- a query that isn't refused has static bounds
+pub bounded_by : (b : BoundQuery) → seen_bounds b ≡ map bound_of_aggregate b.aggs → is_narrow_query b ≡ true → IsBoundedQuery b
+bounded_by b seen narrow =
     let bounds : List ℕ = map bound_of_aggregate b.aggs in
-    let same : bounds ≡ seen_bounds b = sym (bounds_are b.grouped b.aggs none) in
+    let same : bounds ≡ seen_bounds b = sym seen in
     let last : Bool = option_map_or (is_narrow bounds) b.having true in
     let shown : Bool = list_all (is_narrow bounds) b.items && last in
     let one = and_parts (list_all (is_narrow []) b.keep) (list_all is_narrow_aggregate b.aggs && shown) narrow in
@@ -115,15 +126,15 @@ bounded_by b none narrow =
       having = subst (λ (ns : List ℕ). option_map_or (is_narrow ns) b.having true ≡ true) same three.1;
     }
 
-pub no_aggregates : (tables : List (ℕ × List Column)) (q : Query) → (bound_query tables q).grouped ≡ false → (bound_query tables q).aggs ≡ []
-no_aggregates tables q = by (is_grouped q)
+pub same_bounds : (tables : List (ℕ × List Column)) (q : Query) → seen_bounds (bound_query tables q) ≡ map bound_of_aggregate (bound_query tables q).aggs
+same_bounds tables q = by (is_grouped q)
   where
     over : Bool → BoundQuery
     over so = cond so (over_groups tables (sight q.sources (columns_of tables)) q) (over_rows tables (sight q.sources (columns_of tables)) q)
 
-    by : (so : Bool) → (over so).grouped ≡ false → (over so).aggs ≡ []
-    by true is = absurd (true≢false is)
-    by false is = refl
+    by : (so : Bool) → seen_bounds (over so) ≡ map bound_of_aggregate (over so).aggs
+    by true = refl
+    by false = bounds_beside (whole_scope (sight q.sources (columns_of tables)) q) (windows_of q.items)
 
 narrow_over : (tables : List (ℕ × List Column)) (q : Query) → refusal_over (columns_of tables) q ≡ None → is_narrow_query (bound_query tables q) ≡ true
 narrow_over tables q accepted =
@@ -145,7 +156,7 @@ bounded_over found tables q all accepted =
     (option_and_then (λ (ts : List (List Column)). refusal_over ts q) (all_there (there.columns_found found))) accepted in
     let over : refusal_over (columns_of tables) q ≡ None =
     sym (ap (λ (o : Option (List (List Column))). option_and_then (λ (ts : List (List Column)). refusal_over ts q) o) (columns_all found tables all)) ∙ behind in
-    bounded_by (bound_query tables q) (no_aggregates tables q) (narrow_over tables q over)
+    bounded_by (bound_query tables q) (same_bounds tables q) (narrow_over tables q over)
 
 bound_by : (found : List (Option (ℕ × List Column))) (q : Query) (b : BoundQuery) (us : List (ℕ × List Column)) (o : Option (List (ℕ × List Column)))
     → all_there found ≡ o → ((vs : List (ℕ × List Column)) → o ≡ Some vs → us ≡ vs) → query_refusal (there.columns_found found) q ≡ None

@@ -4,4 +4,4 @@ use Rattle.exec_window.specs.Walks.{pair_of}
 use Rattle.exec_window.proofs.tuples.placed.Given as goal
 
 abbrev pub invariant-loop-place : goal.invariant-loop-place
-invariant-loop-place l = map pair_of l.out.items ++ enumerate_from l.place (drop l.place l.rows.now) ≡ enumerate_from 0 l.rows.now
+invariant-loop-place l = map pair_of l.out.items ++ enumerate_from l.place (drop l.place l.rows) ≡ enumerate_from 0 l.rows
