@@ -3,7 +3,8 @@ use Rattle.std.proofs.Common.{◌≡◌, ℕ, suc, ◌+◌, ◌<◌, Bool, false
 use Rattle.std.specs.List.{All, AllPairs, enumerate_from}
 use Rattle.std.specs.List.Sorted.{IsPermutation, IsSorted}
 use Rattle.std.specs.Ordering.{is_lt}
-use Rattle.std.proofs.lemmas.List.Elements.{All-map}
+use Rattle.std.proofs.lemmas.List.Elements.{All-cons, All-head, All-map, All-nil, All-tail}
+use Rattle.std.proofs.lemmas.Map.Views.{All-map-IsPermutation}
 use Rattle.std.proofs.lemmas.List.Sorted.{ranks_by, sorted_far}
 use Rattle.col_value.specs.declared.value.Value.{Value}
 use Rattle.col_value.specs.declared.wide.Wide.{Wide}
@@ -14,7 +15,8 @@ use Rattle.sql_bound.specs.Outputs.{window_value}
 use Rattle.query_laws.proofs.Alike.{Alike, alike_map, alike_permuted}
 use Rattle.exec_window.specs.declared.tuples.Tuple.{Tuple}
 use Rattle.exec_window.specs.Partitions.{HasGreatPartition}
-use Rattle.exec_window.specs.Walks.{AllFit, SomeGreat, pair_of, steps, walk_cmp, written}
+use Rattle.col_value.specs.Order.{IsRow}
+use Rattle.exec_window.specs.Walks.{AllFit, IsRowOf, SomeGreat, pair_of, steps, walk_cmp, written}
 use Rattle.exec_window.proofs.Orders.{Rises, pairs_rise}
 use Rattle.exec_window.proofs.Walking.{walk_total}
 use Rattle.exec_window.proofs.Whole.{all_filled}
@@ -50,3 +52,18 @@ module _ (w : BoundWindow) (a : Aggregate) (rows : List (List Value)) (ts vs : L
 
   pub fails : SomeGreat w a None sorted → HasGreatPartition w a rows
   fails great = some_too_great w a rows sorted alike rising great
+
+-- they are rows
+unmapped : {X Y : Type 0} (f : X → Y) (P : Y → Type 0) (xs : List X) → All P (map f xs) → All (λ x. P (f x)) xs
+unmapped f P [] h = All-nil (λ x. P (f x))
+unmapped f P (x ∷ xs) h = All-cons (λ z. P (f z)) x xs (All-head P (f x) (map f xs) h) (unmapped f P xs (All-tail P (f x) (map f xs) h))
+
+rows_in_place : (n : ℕ) (rows : List (List Value)) → All IsRow rows → All (λ (t : ℕ × List Value). IsRow t.1) (enumerate_from n rows)
+rows_in_place n [] h = All-nil (λ (t : ℕ × List Value). IsRow t.1)
+rows_in_place n (r ∷ rows) h = All-cons (λ (t : ℕ × List Value). IsRow t.1) (n, r) (enumerate_from (n + 1) rows) (All-head IsRow r rows h) (rows_in_place (n + 1) rows (All-tail IsRow r rows h))
+
+pub tuples_are_rows : (rows : List (List Value)) (ts vs : List Tuple) → map pair_of ts ≡ enumerate_from 0 rows → IsPermutation ts vs → All IsRow rows → All IsRowOf vs
+tuples_are_rows rows ts vs placed same all =
+    let P : ℕ × List Value → Type 0 = λ t. IsRow t.1 in
+    let here : All P (map pair_of ts) = subst (All P) (sym placed) (rows_in_place 0 rows all) in
+    unmapped pair_of P vs (All-map-IsPermutation pair_of P ts vs same here)

@@ -80,6 +80,7 @@ is_own : List (List Value) → Placed → Bool
 is_own rows k = same_keys k.1 (get_or rows k.0 [])
 
 owns_from : (pre rest : List (List Value)) → list_any (λ k. cond (is_own (pre ++ rest) k) false true) (enumerate_from (length pre) rest) ≡ false
+unfolding is_own
 owns_from pre [] = refl
 owns_from pre (row ∷ rest) =
     let joined : (pre ++ row ∷ []) ++ rest ≡ pre ++ row ∷ rest = append_assoc pre (row ∷ []) rest in
@@ -178,11 +179,12 @@ module _ (w : BoundWindow) (a : Aggregate) (rows : List (List Value)) (s : List 
       ext_get_or wide.Null (written w.kind xs out) (map (λ t. window_value rows t (w, a)) (enumerate_from 0 rows))
       (written_length xs out ∙ (long ∙ sym (length-map (enumerate_from 0 rows) (λ (t : Placed). window_value rows t (w, a)) ∙ length_enumerated 0 rows)))
       (λ i h.
+      let none : 0 + i ≡ i = omega arith in
       let inside : i < length rows = subst (λ (n : ℕ). i < n) (written_length xs out ∙ long) h in
       let there : list_any (λ (k : Placed). k.0 == i) s ≡ true = any_alike (λ (k : Placed). k.0 == i) s (enumerate_from 0 rows) same ∙ covered_from i 0 rows (omega arith) (omega arith) in
       written_at i s xs out (subst (λ (n : ℕ). i < n) (sym long) inside) fill own there
       ∙ sym (mapped_at i (enumerate_from 0 rows) (subst (λ (n : ℕ). i < n) (sym (length_enumerated 0 rows)) inside)
-      ∙ ap (λ (t : Placed). window_value rows t (w, a)) (placed_at 0 i rows (0, []) inside)))
+      ∙ ap (λ (t : Placed). window_value rows t (w, a)) (placed_at 0 i rows (0, []) inside ∙ ap (λ (p : ℕ). (p, get_or rows i [])) none)))
     where
       mapped_at : (i : ℕ) (ks : List Placed) → i < length ks → get_or (map (λ t. window_value rows t (w, a)) ks) i wide.Null ≡ window_value rows (get_or ks i (0, [])) (w, a)
       mapped_at i [] h = absurd (omega arith)

@@ -5,4 +5,4 @@ pub mod Refused
 pub mod Scoped
 pub mod Stars
 pub mod Growing
-pub mod Items
+pub mod ItemLists

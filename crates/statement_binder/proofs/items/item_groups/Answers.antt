@@ -3,7 +3,7 @@ use Rattle.sql_bound.specs.declared.expr.Expr.{Expr}
 use Rattle.sql_bound.specs.declared.query.Aggregate.{Aggregate}
 use Rattle.sql_binding.specs.Trees.{all_aggs, bound_item, groups_of, items_behind}
 use Rattle.statement_binder.specs.Scopes.{scope_of}
-use Rattle.statement_binder.proofs.Items.{aggs_behind, group_behind}
+use Rattle.statement_binder.proofs.ItemLists.{aggs_behind, group_behind}
 use Rattle.statement_binder.proofs.items.item_groups.Goals as goal
 
 pub loop-item-preserved : goal.loop-item-preserved

@@ -2,7 +2,7 @@ use Rattle.std.proofs.Common.{ap, ap₂, ◌∙◌, ℕ, ◌++◌, [], ◌∷◌
 use Rattle.sql_bound.specs.declared.expr.Expr.{Expr}
 use Rattle.sql_binding.specs.Trees.{items_behind, rows_of}
 use Rattle.statement_binder.specs.Scopes.{scope_of}
-use Rattle.statement_binder.proofs.Items.{row_behind}
+use Rattle.statement_binder.proofs.ItemLists.{row_behind}
 use Rattle.statement_binder.proofs.items.item_rows.Goals as goal
 
 pub loop-item-preserved : goal.loop-item-preserved
