@@ -1,6 +1,6 @@
 -- Rows that are, for a query, those of its FROM items.
-use Rattle.std.specs.Prelude.{◌≡◌, ℕ, ◌+◌, ◌<◌, ◌==◌, if◌then◌else◌, Bool, true, List, [], ◌∷◌, length, map, Option, Some, None, is_some, slice_index_or}
-use Rattle.std.specs.List.{All, list_any, slice_get}
+use Rattle.std.specs.Prelude.{◌≡◌, ℕ, ◌+◌, ◌<◌, true, List, [], ◌∷◌, length, map, Option, Some, None, is_some, slice_index_or}
+use Rattle.std.specs.List.{All, slice_get}
 use Rattle.std.specs.Option.{IfSome, option_map_or}
 use Rattle.common_laws.specs.Bags.{SameBag}
 use Rattle.col_value.specs.declared.value.Value.{Value}

@@ -1,28 +1,21 @@
 -- The output rows of a query are the same for every order of the rows of its FROM items.
-use Rattle.std.proofs.Common.{◌≡◌, ℕ, ◌+◌, ◌++◌, ℤ, pos, negsuc, ◌+ℤ◌, if◌then◌else◌, not, Bool, true, false, List, [], ◌∷◌, length, map, fold, Option, Some, None, refl, sym, ap, ap₂, arith, subst}
-use Rattle.std.proofs.lemmas.Cmp.{back_total, tied_itself}
-use Rattle.std.proofs.lemmas.Int.{ints}
-use Rattle.std.proofs.lemmas.List.Sums.{sum_by-cons}
-use Rattle.std.specs.FinMap.{IsAntisymmetric}
-use Rattle.std.specs.List.{sum_by}
+use Rattle.std.proofs.Common.{◌≡◌, ℕ, ◌+◌, ◌++◌, if◌then◌else◌, Bool, true, false, List, [], ◌∷◌, map, sym, ap, subst}
+use Rattle.std.proofs.lemmas.Cmp.{tied_itself}
 use Rattle.std.specs.List.Sorted.{IsPermutation}
 use Rattle.std.specs.Option.{option_map_or}
-use Rattle.std.specs.Ordering.{flip_args, is_eq}
-use Rattle.col_value.specs.Laws.{tie_told, wide_exact, wide_row_exact, wide_row_total, wide_total}
-use Rattle.col_value.specs.Order.{wide_cmp, wide_row_cmp}
+use Rattle.std.specs.Ordering.{is_eq}
+use Rattle.col_value.specs.Laws.{tie_told, wide_row_exact, wide_row_total}
+use Rattle.col_value.specs.Order.{wide_row_cmp}
 use Rattle.col_value.specs.declared.value.Value.{Value}
 use Rattle.col_value.specs.declared.wide.Wide.{Wide}
 use Rattle.col_value.specs.declared.wide.Wide.TheVariants as wide
-use Rattle.sql_tree.specs.declared.tree.AggKind.{AggKind}
-use Rattle.sql_bound.specs.declared.expr.Expr.{Expr}
-use Rattle.sql_bound.specs.declared.query.Aggregate.{Aggregate}
 use Rattle.sql_bound.specs.declared.query.BoundQuery.{BoundQuery}
 use Rattle.sql_bound.specs.declared.query.BoundWindow.{BoundWindow}
-use Rattle.sql_bound.specs.Outputs.{aggregate_over, aggregated, group_keys, group_scope, group_scopes, is_kept, kept, keys_of, members, number_or_zero, output, plain_sum, same_keys, scopes, seen_rows, tuple_scopes, tuples, values_over}
+use Rattle.sql_bound.specs.Outputs.{aggregate_over, group_keys, group_scope, group_scopes, is_kept, kept, keys_of, members, output, scopes, seen_rows, tuple_scopes, tuples}
 use Rattle.sql_bound.specs.Used.{blanked, is_used}
-use Rattle.sql_bound.specs.Values.{Scope, is_null, is_true, of_row, value_of}
+use Rattle.sql_bound.specs.Values.{Scope, is_true, of_row, value_of}
 use Rattle.query_laws.specs.Laws.{ArePermuted}
-use Rattle.query_laws.proofs.Alike.{Alike, alike_filter, alike_flat, alike_length, alike_map, alike_permuted, alike_permutes}
+use Rattle.query_laws.proofs.Alike.{Alike, alike_filter, alike_flat, alike_map, alike_permuted, alike_permutes}
 use Rattle.query_laws.proofs.Once.{alike_distinct}
 use Rattle.query_laws.proofs.Sames.{alike_refl, map_same, members_alike, same_aggregate}
 use Rattle.query_laws.proofs.Windowed.{windows_alike}

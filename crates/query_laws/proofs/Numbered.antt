@@ -1,8 +1,8 @@
 -- Elements of a list, each with how many like it stand before it: the same for every order of the list.
-use Rattle.std.proofs.Common.{◌≡◌, ℕ, ◌+◌, ◌++◌, ◌||◌, Bool, true, false, cond, List, [], ◌∷◌, length, refl, sym, ap, ap₂, ◌∙◌, arith, subst}
+use Rattle.std.proofs.Common.{◌≡◌, ℕ, ◌+◌, ◌++◌, ◌||◌, Bool, true, false, cond, List, [], ◌∷◌, refl, sym, ap, ap₂, ◌∙◌, arith, subst}
 use Rattle.std.proofs.lemmas.List.Sums.{sum_by-cons, sum_by-append}
 use Rattle.std.specs.List.{sum_by, count_by, list_any}
-use Rattle.query_laws.proofs.Alike.{Alike, Place, alike_length, any_alike, cancelled, place}
+use Rattle.query_laws.proofs.Alike.{Alike, alike_length, any_alike, cancelled, place}
 
 abbrev one_if : Bool → ℕ
 one_if b = cond b 1 0

@@ -1,28 +1,23 @@
 -- What is made of the same tuples, in whatever order they come, is the same.
-use Rattle.std.proofs.Common.{◌≡◌, ℕ, ◌+◌, ◌++◌, ℤ, pos, negsuc, ◌+ℤ◌, if◌then◌else◌, not, Bool, true, false, List, [], ◌∷◌, length, map, fold, Option, Some, None, refl, sym, ap, ap₂, arith, subst}
-use Rattle.std.proofs.lemmas.Cmp.{back_total, tied_itself}
+use Rattle.std.proofs.Common.{◌≡◌, ℕ, ◌+◌, ℤ, pos, negsuc, ◌+ℤ◌, not, List, [], ◌∷◌, length, map, fold, Option, Some, None, refl, sym, ap, ap₂, arith}
+use Rattle.std.proofs.lemmas.Cmp.{back_total}
 use Rattle.std.proofs.lemmas.Int.{ints}
 use Rattle.std.proofs.lemmas.List.Sums.{sum_by-cons}
 use Rattle.std.specs.FinMap.{IsAntisymmetric}
 use Rattle.std.specs.List.{sum_by}
-use Rattle.std.specs.List.Sorted.{IsPermutation}
-use Rattle.std.specs.Option.{option_map_or}
-use Rattle.std.specs.Ordering.{flip_args, is_eq}
-use Rattle.col_value.specs.Laws.{tie_told, wide_exact, wide_row_exact, wide_row_total, wide_total}
-use Rattle.col_value.specs.Order.{wide_cmp, wide_row_cmp}
+use Rattle.std.specs.Ordering.{flip_args}
+use Rattle.col_value.specs.Laws.{wide_exact, wide_total}
+use Rattle.col_value.specs.Order.{wide_cmp}
 use Rattle.col_value.specs.declared.value.Value.{Value}
 use Rattle.col_value.specs.declared.wide.Wide.{Wide}
 use Rattle.col_value.specs.declared.wide.Wide.TheVariants as wide
 use Rattle.sql_tree.specs.declared.tree.AggKind.{AggKind}
 use Rattle.sql_bound.specs.declared.expr.Expr.{Expr}
 use Rattle.sql_bound.specs.declared.query.Aggregate.{Aggregate}
-use Rattle.sql_bound.specs.declared.query.BoundQuery.{BoundQuery}
-use Rattle.sql_bound.specs.Outputs.{aggregate_over, aggregated, group_keys, group_scope, group_scopes, is_kept, kept, keys_of, members, number_or_zero, output, plain_sum, same_keys, scopes, tuples, values_over}
-use Rattle.sql_bound.specs.Values.{Scope, is_null, is_true, of_row, value_of}
-use Rattle.query_laws.specs.Laws.{ArePermuted}
-use Rattle.query_laws.proofs.Alike.{Alike, alike_filter, alike_flat, alike_length, alike_map, alike_permuted, alike_permutes}
+use Rattle.sql_bound.specs.Outputs.{aggregate_over, aggregated, keys_of, members, number_or_zero, plain_sum, same_keys, values_over}
+use Rattle.sql_bound.specs.Values.{is_null, of_row, value_of}
+use Rattle.query_laws.proofs.Alike.{Alike, alike_filter, alike_length, alike_map}
 use Rattle.query_laws.proofs.Best.{same_best}
-use Rattle.query_laws.proofs.Once.{alike_distinct}
 
 pub alike_refl : {X : Type 0} (xs : List X) → Alike xs xs
 alike_refl xs = record { sums = λ f. refl }
@@ -85,4 +80,3 @@ same_aggregate rows others same a =
 
 pub members_alike : (keys : List ℕ) (group : List Value) (rows others : List (List Value)) → Alike rows others → Alike (members keys group rows) (members keys group others)
 members_alike keys group rows others a = alike_filter (λ row. same_keys group (keys_of keys row)) rows others a
-

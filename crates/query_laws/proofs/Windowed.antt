@@ -1,12 +1,12 @@
 -- What windows make of tuples is the same for every order of the tuples.
-use Rattle.std.proofs.Common.{◌≡◌, ℕ, suc, ◌+◌, ◌<◌, ◌≤◌, ◌++◌, nat_lt, Bool, true, false, cond, List, [], ◌∷◌, length, map, filter, refl, sym, ap, ap₂, ◌∙◌, arith, subst}
+use Rattle.std.proofs.Common.{◌≡◌, ℕ, ◌+◌, ◌<◌, ◌≤◌, ◌++◌, nat_lt, Bool, true, false, cond, List, [], ◌∷◌, length, map, filter, refl, sym, ap, ap₂, ◌∙◌, arith, subst}
 use Rattle.std.specs.Prelude.{◌&&◌}
 use Rattle.std.specs.List.{count_by, enumerate_from, zip}
-use Rattle.std.specs.Ordering.{is_eq, is_lt, nat_cmp, ordering_then, then_cmp}
+use Rattle.std.specs.Ordering.{is_eq, is_lt, nat_cmp, ordering_then}
 use Rattle.std.specs.declared.cmp.Ordering.{Ordering}
 use Rattle.std.proofs.lemmas.Bool.Decides.{nat_tests}
 use Rattle.std.proofs.lemmas.Cmp.{tied_back, tied_itself}
-use Rattle.std.proofs.lemmas.List.{append_assoc, append-nil, length-append}
+use Rattle.std.proofs.lemmas.List.{append_assoc, length-append}
 use Rattle.col_value.specs.Laws.{row_total}
 use Rattle.col_value.specs.Order.{row_cmp}
 use Rattle.col_value.specs.declared.value.Value.{Value}
@@ -57,8 +57,8 @@ module _ (w : BoundWindow) (t other : ℕ × Row) where
   other_rows : same_keys t.1 other.1 ≡ false → one_if (is_numbered_before w t other) ≡ one_if (row_before w t.1 other.1) + one_if (like_before t other)
   other_rows unlike =
       elim (row_cmp other.1 t.1) as (λ b. row_cmp other.1 t.1 ≡ b →
-          one_if (in_partition w t.1 other.1 && is_lt (ordering_then (window_cmp w.order other.1 t.1) (ordering_then b (nat_cmp other.0 t.0))))
-          ≡ one_if (in_partition w t.1 other.1 && is_lt (ordering_then (window_cmp w.order other.1 t.1) b)) + one_if (like_before t other)) [
+      one_if (in_partition w t.1 other.1 && is_lt (ordering_then (window_cmp w.order other.1 t.1) (ordering_then b (nat_cmp other.0 t.0))))
+      ≡ one_if (in_partition w t.1 other.1 && is_lt (ordering_then (window_cmp w.order other.1 t.1) b)) + one_if (like_before t other)) [
         | Ordering.Less ↦ λ h. let none = ap one_if second in omega arith
         | Ordering.Equal ↦ λ h.
             let same : same_keys t.1 other.1 ≡ true = ap is_eq (tied_back row_total other.1 t.1 h) in
@@ -83,8 +83,14 @@ split_from : (w : BoundWindow) (t : ℕ × Row) (n : ℕ) (rows : List Row)
     → count_by (is_numbered_before w t) (enumerate_from n rows) ≡ count_by (row_before w t.1) rows + count_by (like_before t) (enumerate_from n rows)
 split_from w t n [] = refl
 split_from w t n (row ∷ rows) =
-    omega (arith, counts_cons (is_numbered_before w t) (n, row) (enumerate_from (n + 1) rows), counts_cons (row_before w t.1) row rows,
-    counts_cons (like_before t) (n, row) (enumerate_from (n + 1) rows), one_split w t (n, row), split_from w t (n + 1) rows)
+    omega (
+      arith,
+      counts_cons (is_numbered_before w t) (n, row) (enumerate_from (n + 1) rows),
+      counts_cons (row_before w t.1) row rows,
+      counts_cons (like_before t) (n, row) (enumerate_from (n + 1) rows),
+      one_split w t (n, row),
+      split_from w t (n + 1) rows,
+    )
 
 -- ---- how many alike stand before a place
 

@@ -1,5 +1,5 @@
 -- What a query's expressions may count on in a group.
-use Rattle.std.specs.Prelude.{ℕ, ◌≤◌, Bool, true, List, [], map, slice_index_or}
+use Rattle.std.specs.Prelude.{ℕ, ◌≤◌, Bool, true, List, map, slice_index_or}
 use Rattle.std.specs.Option.{option_map_or}
 use Rattle.std.specs.List.{Contains}
 use Rattle.col_value.specs.Order.{IsRow}

@@ -1,8 +1,7 @@
 -- The values of windows beside a row, and the items' bounds beside them.
-use Rattle.std.proofs.Common.{◌≡◌, ◌++◌, ℕ, zero, suc, pos, ◌+◌, ◌<◌, ◌≤◌, Bool, true, false, cond, List, [], ◌∷◌, length, map, filter, get_or, drop, Option, Some, None, refl, sym, ap, ap₂, ◌∙◌, arith, subst}
+use Rattle.std.proofs.Common.{◌≡◌, ◌++◌, ℕ, zero, suc, ◌+◌, ◌<◌, ◌≤◌, Bool, true, false, cond, List, [], ◌∷◌, length, map, filter, get_or, Option, Some, None, refl, sym, ap, ap₂, ◌∙◌, arith, subst}
 use Rattle.std.specs.Prelude.{◌&&◌, not, zip}
 use Rattle.std.specs.List.{All, Contains, count_by, enumerate_from, sum_by}
-use Rattle.std.specs.Ordering.{is_le, is_lt}
 use Rattle.std.proofs.lemmas.List.{append_assoc}
 use Rattle.std.proofs.lemmas.List.Elements.{All-cons, All-filter, All-head, All-nil, All-tail, All-weaker, Contains-append_right, Contains-get_or}
 use Rattle.std.proofs.lemmas.List.Sums.{count_by-le-length, sum_by-cons}
@@ -23,7 +22,7 @@ use Rattle.query_laws.proofs.AtMost.{aggregate_at_most}
 use Rattle.query_laws.proofs.Great.{size_sum}
 use Rattle.query_laws.proofs.NarrowLess.{less}
 use Rattle.query_laws.specs.Bounded.{bound_beside, window_bound}
-use Rattle.query_run.specs.Windows.{AreColumns, HasGreatWindow, column_of}
+use Rattle.query_run.specs.Windows.{HasGreatWindow, column_of}
 
 -- what a row adds to the magnitudes of an argument's values
 adds : Expr → List Value → ℕ

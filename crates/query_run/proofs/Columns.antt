@@ -1,17 +1,16 @@
 -- Columns of window values, one after another, and the rows beside them.
-use Rattle.std.proofs.Common.{◌≡◌, ◌++◌, ℕ, ◌+◌, ◌<◌, ◌≤◌, Bool, true, List, [], ◌∷◌, length, map, get_or, take, sym, ap, ap₂, ◌∙◌, arith, subst}
-use Rattle.std.specs.Prelude.{min, zip}
-use Rattle.std.specs.List.{All, Contains}
+use Rattle.std.proofs.Common.{◌≡◌, ◌++◌, ℕ, ◌+◌, ◌<◌, ◌≤◌, List, [], ◌∷◌, length, map, get_or, take, sym, ap, ap₂, ◌∙◌, arith, subst}
+use Rattle.std.specs.Prelude.{zip}
+use Rattle.std.specs.List.{All}
 use Rattle.std.proofs.lemmas.List.{map-append, take_all, take_more}
 use Rattle.std.proofs.lemmas.List.Elements.{All-push}
 use Rattle.std.proofs.lemmas.Slice.Zip.{get_or-zip, length-zip}
 use Rattle.col_value.specs.declared.value.Value.{Value}
-use Rattle.col_value.specs.declared.wide.Wide.{Wide}
 use Rattle.sql_bound.specs.declared.query.Aggregate.{Aggregate}
 use Rattle.sql_bound.specs.declared.query.BoundQuery.{BoundQuery}
 use Rattle.sql_bound.specs.declared.query.BoundWindow.{BoundWindow}
 use Rattle.exec_window.specs.Partitions.{HasGreatPartition}
-use Rattle.query_run.specs.Windows.{HasGreatWindow, column_of}
+use Rattle.query_run.specs.Windows.{HasGreatWindow}
 
 -- what is mapped goes on with one more
 pub mapped_more : {X Y : Type 0} (f : X → Y) (xs : List X) (i : ℕ) (x : X) (y : Y) (out next : List Y) → i < length xs → x ≡ get_or xs i x → y ≡ f x → next ≡ out ++ y ∷ [] → out ≡ map f (take i xs) → next ≡ map f (take (i + 1) xs)
@@ -21,18 +20,18 @@ mapped_more {X} {Y} f xs i x y out next h at is more before =
 pub mapped_all : {X Y : Type 0} (f : X → Y) (xs : List X) (i : ℕ) (out : List Y) → length xs ≤ i → out ≡ map f (take i xs) → out ≡ map f xs
 mapped_all f xs i out h before = before ∙ ap (map f) (take_all xs i h)
 
-module _ (ws : List BoundWindow) (as : List Aggregate) (i : ℕ) where
-  pub pair_inside : i < length ws → i < length as → i < length (zip ws as)
-  pair_inside h g = omega (arith, length-zip ws as)
+module _ (ws : List BoundWindow) (aggs : List Aggregate) (i : ℕ) where
+  pub pair_inside : i < length ws → i < length aggs → i < length (zip ws aggs)
+  pair_inside h g = omega (arith, length-zip ws aggs)
 
-  pub pair_at : (w : BoundWindow) (a : Aggregate) → i < length ws → w ≡ get_or ws i w → i < length as → a ≡ get_or as i a → (w, a) ≡ get_or (zip ws as) i (w, a)
-  pair_at w a h is g are = ap₂ (λ (x : BoundWindow) (y : Aggregate). (x, y)) is are ∙ sym (get_or-zip ws as i (w, a) h g)
+  pub pair_at : (w : BoundWindow) (a : Aggregate) → i < length ws → w ≡ get_or ws i w → i < length aggs → a ≡ get_or aggs i a → (w, a) ≡ get_or (zip ws aggs) i (w, a)
+  pair_at w a h is g are = ap₂ (λ (x : BoundWindow) (y : Aggregate). (x, y)) is are ∙ sym (get_or-zip ws aggs i (w, a) h g)
 
-  pub pairs_past : length ws ≤ i → length (zip ws as) ≤ i
-  pairs_past h = omega (arith, length-zip ws as)
+  pub pairs_past : length ws ≤ i → length (zip ws aggs) ≤ i
+  pairs_past h = omega (arith, length-zip ws aggs)
 
-  pub pairs_gone : length as ≤ i → length (zip ws as) ≤ i
-  pairs_gone h = omega (arith, length-zip ws as)
+  pub pairs_gone : length aggs ≤ i → length (zip ws aggs) ≤ i
+  pairs_gone h = omega (arith, length-zip ws aggs)
 
 -- no partition's sum is too great in a column
 abbrev pub Fits : List (List Value) → BoundWindow × Aggregate → Type 0

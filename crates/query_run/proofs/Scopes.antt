@@ -18,7 +18,7 @@ use Rattle.sql_bound.specs.declared.query.BoundWindow.{BoundWindow}
 use Rattle.sql_bound.specs.Bounds.{bound_of_aggregate, column_bound, is_narrow}
 use Rattle.sql_bound.specs.Outputs.{aggregate_over, group_keys, group_scope, group_scopes, keys_of, kept, members, output, same_keys, seen_rows, tuple_scopes, window_scopes, IsSumTooGreat}
 use Rattle.sql_bound.specs.Used.{blanked, is_used}
-use Rattle.sql_bound.specs.Values.{Scope, of_row}
+use Rattle.sql_bound.specs.Values.{Scope}
 use Rattle.query_order.specs.Enough.{IsEnough}
 use Rattle.query_run.specs.Outputs.{HoldsOutput, items_in, scope_of, scopes_of, shown, IsPlain, IsWindowed}
 use Rattle.query_run.specs.Windows.{HasGreatWindow}

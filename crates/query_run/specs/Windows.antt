@@ -1,10 +1,9 @@
 -- The values of windows beside rows.
-use Rattle.std.specs.Prelude.{◌≡◌, true, List, [], ◌∷◌, map, zip}
-use Rattle.std.specs.List.{All, Contains, enumerate_from, slice_index_or}
+use Rattle.std.specs.Prelude.{◌≡◌, true, List, map, zip}
+use Rattle.std.specs.List.{All, Contains, enumerate_from}
 use Rattle.col_value.specs.Order.{IsRow}
 use Rattle.col_value.specs.declared.value.Value.{Value}
 use Rattle.col_value.specs.declared.wide.Wide.{Wide}
-use Rattle.col_value.specs.declared.wide.Wide.TheVariants.{Null}
 use Rattle.sql_bound.specs.declared.query.Aggregate.{Aggregate}
 use Rattle.sql_bound.specs.declared.query.BoundQuery.{BoundQuery}
 use Rattle.sql_bound.specs.declared.query.BoundWindow.{BoundWindow}

@@ -34,7 +34,10 @@ pub fn output(
     ensures great { IsErrOf result QueryFault.SumOutOfRange → (inputs : List (List (List Value))) → HasCollected query.now inputs collected → IsSumTooGreat query.now inputs }
 {
     let Collected {
-        rows, seen, groups, ..
+        rows,
+        seen,
+        groups,
+        ..
     } = collected;
     if !query.grouped {
         if query.windows.as_slice().is_empty() {

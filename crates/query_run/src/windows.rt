@@ -1,7 +1,7 @@
 //! The output rows of a query with windows.
 
-ghost use Rattle.std.specs.Prelude.{◌≡◌, ◌<◌, map, zip, length, IfOk, OnOk, IsErrOf};
-ghost use Rattle.std.specs.List.{All, enumerate_from};
+ghost use Rattle.std.specs.Prelude.{◌≡◌, ◌<◌, map, length, IfOk, OnOk, IsErrOf};
+ghost use Rattle.std.specs.List.{All};
 ghost use Rattle.col_value.specs.Order.{IsRow};
 ghost use Rattle.col_value.specs.declared.wide.Wide.TheVariants.{Null};
 ghost use Rattle.std.specs.List.{slice_index_or};
@@ -20,11 +20,7 @@ use sql_bound::BoundQuery;
 use std::alloc::{AllocError, Global};
 
 /// The values of each window, down the rows.
-fn columns(
-    alloc: Global,
-    query: &BoundQuery,
-    rows: &[Row],
-) -> Result<Vec<WideRow>, QueryFault>
+fn columns(alloc: Global, query: &BoundQuery, rows: &[Row]) -> Result<Vec<WideRow>, QueryFault>
     requires bounded { IsBoundedQuery query.now }
     requires rows { All IsRow rows.now }
     ensures columns { IfOk result (λ v. AreColumns query.now rows.now v.items) }

@@ -3,8 +3,6 @@ use Rattle.std.proofs.Common.{◌≡◌, inl, inr, ℕ, pos, Bool, true, false, 
 use Rattle.sql_words.specs.declared.token.Key.{Key}
 use Rattle.sql_words.specs.declared.token.Sign.{Sign}
 use Rattle.sql_words.specs.Symbols.{Symbol}
-use Rattle.sql_tree.specs.declared.tree.ColRef.{ColRef}
-use Rattle.sql_tree.specs.declared.tree.Tree.{Tree}
 use Rattle.sql_tree.specs.declared.part.Part.{Part}
 use Rattle.sql_tree.specs.declared.part.Tally.{Tally}
 use Rattle.sql_tree.specs.declared.query.Item.{Item}
@@ -21,9 +19,9 @@ use Rattle.sql_tree.specs.declared.query.WindowKind.{WindowKind}
 use Rattle.sql_tree.specs.Makers.{as_aggregate, as_window, over_all, over_parts}
 use Rattle.sql_tree.specs.Modes.{after_item, is_windowed}
 use Rattle.sql_tree.specs.Phrases.{Nothing, Then, Either}
-use Rattle.sql_tree.specs.Symbols.{Word, Glyph}
+use Rattle.sql_tree.specs.Symbols.{Glyph}
 use Rattle.sql_tree.specs.Expressions.{Over, Base, Expr, GroupedExpr}
-use Rattle.sql_tree.specs.Queries.{Alias, Descending, RowKey, PartitionBy, RowOrder, OverRows, Ranking, ItemTally, Windows, ItemTrees, SelectItem, MoreItems, ItemList, SelectList, FromItem, joined_on, Joined, NextSource, Sources, Where, GroupBy, Having, KeyName, OrderKey, OrderBy, Limit, Queries}
+use Rattle.sql_tree.specs.Queries.{Alias, Descending, RowKey, PartitionBy, RowOrder, OverRows, Ranking, ItemTally, Windows, ItemTrees, SelectItem, ItemList, SelectList, FromItem, joined_on, Joined, NextSource, Sources, Where, GroupBy, Having, KeyName, OrderKey, OrderBy, Limit, Queries}
 use Rattle.sql_phrases.specs.Readings.{head_is}
 use Rattle.sql_phrases.specs.Classes.{Class, is_sign, in_set, name_classes, number_classes, tally_classes, ranking_classes, window_classes, source_classes}
 use Rattle.sql_phrases.specs.Readers.{alias, descending, row_key, partition_by, row_order, parts_of, over_rows, bare_window, next_item, ranking, item_tally, ranked, windows, tally_expr, tally_window, tally_item, plain_item, item_tree, select_item, items, select_list, from_item, joins, next_source, sources, where_clause, group_by, having, key_name, order_key, order_by, limit, queries}

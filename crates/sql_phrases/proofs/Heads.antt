@@ -1,6 +1,6 @@
 -- An expression whose first symbol is COUNT or SUM begins with that aggregate: it is read as that, and then what stands
 -- behind it.
-use Rattle.std.proofs.Common.{◌≡◌, ℕ, zero, suc, Bool, true, false, if◌then◌else◌, List, [], ◌∷◌, ◌++◌, refl, sym, ◌∙◌, ap}
+use Rattle.std.proofs.Common.{◌≡◌, ℕ, zero, suc, Bool, true, false, if◌then◌else◌, List, [], ◌∷◌, refl, sym, ◌∙◌, ap}
 use Rattle.sql_words.specs.declared.token.Key.{Key}
 use Rattle.sql_words.specs.declared.token.Sign.{Sign}
 use Rattle.sql_words.specs.Symbols.{Symbol}
@@ -17,8 +17,8 @@ use Rattle.sql_phrases.specs.Classes.{Class, is_key, is_sign, in_set, aggregate_
 use Rattle.sql_phrases.specs.Readers.{Reads, word_rest, glyph_rest, by_word, by_glyph, atom, unary, product, sum_rest, sum, tail, predicate, negation, conjunction, over, over_from, tallied, aggregate, primary, leaf, grouped, base, expr, item_tally}
 use Rattle.sql_phrases.proofs.Goods.{Good, key_tells, sign_tells, good_then, good_stops, head_apart, head_within, begins_head}
 use Rattle.sql_phrases.proofs.Placing.{reads_whole, found_whole}
-use Rattle.sql_phrases.proofs.GoodExpressions.{OverFrom, good_atom, good_over, good_over_from, good_tallied, good_primary, good_base, good_expr}
-use Rattle.sql_phrases.proofs.Sets.{dot, over_more}
+use Rattle.sql_phrases.proofs.GoodExpressions.{OverFrom, good_atom, good_over, good_over_from, good_tallied, good_base, good_expr}
+use Rattle.sql_phrases.proofs.Sets.{over_more}
 
 choose_first : {V : Type 0} (p : Symbol → Bool) (a b : Reads V) (ts : List Symbol) → head_is p ts ≡ true → choose p a b ts ≡ a ts
 unfolding choose

@@ -1,4 +1,4 @@
-ghost use Rattle.std.specs.Prelude.{◌≡◌, [], ◌∷◌};
+ghost use Rattle.std.specs.Prelude.{[], ◌∷◌};
 ghost use Rattle.sql_words.specs.declared.token.Sign.{Sign as ASign};
 ghost use Rattle.sql_phrases.specs.Readings.{Shortens, joined, many};
 ghost use Rattle.sql_phrases.specs.Classes.{is_sign};

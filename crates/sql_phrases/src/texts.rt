@@ -2,7 +2,7 @@
 #![tactic(auto)]
 
 ghost use Rattle.std.specs.Prelude.{◌≡◌, length, All, IfOk};
-ghost use Rattle.sql_words.specs.Words.{IsWithin, tokens_of};
+ghost use Rattle.sql_words.specs.Words.{IsWithin};
 ghost use Rattle.sql_phrases.specs.Dates.{day_named};
 ghost use Rattle.sql_tree.specs.Symbols.{task_named, table_named, whole_name};
 

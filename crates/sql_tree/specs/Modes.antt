@@ -1,5 +1,5 @@
 -- Which expressions hold aggregates, and what the items of a list let stand behind them.
-use Rattle.std.specs.Prelude.{◌||◌, if◌then◌else◌, Bool, true, false, List, map}
+use Rattle.std.specs.Prelude.{◌||◌, if◌then◌else◌, Bool, true, false}
 use Rattle.std.specs.List.{list_any}
 use Rattle.sql_tree.specs.declared.tree.Term.{Term}
 use Rattle.sql_tree.specs.declared.tree.Tree.{Tree}

@@ -88,8 +88,8 @@ pub const RESERVED: [(&str, Key); 73] = [
 
 /// The place in `RESERVED` at which each letter's words begin, so that a word is compared with few of them.
 const STARTS: [usize; 28] = [
-    0, 7, 12, 17, 24, 27, 29, 33, 34, 41, 42, 42, 44, 47, 49, 53, 57, 57, 62, 67,
-    69, 70, 72, 73, 73, 73, 73, 73,
+    0, 7, 12, 17, 24, 27, 29, 33, 34, 41, 42, 42, 44, 47, 49, 53, 57, 57, 62, 67, 69, 70, 72, 73,
+    73, 73, 73, 73,
 ];
 
 /// The place in the alphabet of a word's first letter. What is before `a` counts as it, and what is behind `z` is 26.
