@@ -11,7 +11,7 @@ use Rattle.col_disk.proofs.Moving.{changed_kept, changed_elsewhere, insert_there
 use Rattle.catalog_types.specs.declared.catalogue.Catalogue.{Catalogue}
 use Rattle.catalog_types.specs.Valid.{IsValid}
 use Rattle.catalog_bytes.specs.declared.form.Form.TheVariants.{Two}
-use Rattle.catalog_bytes.specs.Spelling.{spelling, Fits, Spells}
+use Rattle.catalog_bytes.specs.Spelling.{spelling, Fits}
 use Rattle.catalog_root.specs.Root.{data_file, body_file, gate_file, IsOpenGate, HoldsBody, IsAbove, IsWritten, OpensAsBefore, NewOrOld}
 
 -- two contents with the same gates and the same data files, and the same bodies below a version that is above the open gates
@@ -60,7 +60,7 @@ is_gate (Some (b ∷ x ∷ rest)) = inr (λ e. absurd cc)
 
 -- a body that was written is held
 pub held_written : (held : Option (List ℕ)) (c : Catalogue) → Fits Two c → held ≡ Some (spelling Two c) → HoldsBody held c
-held_written held c fits is = subst (λ (h : Option (List ℕ)). HoldsBody h c) (sym is) (Spells.InTwo fits refl)
+held_written held c fits is = subst (λ (h : Option (List ℕ)). HoldsBody h c) (sym is) (record { form = Two; whole = tt; fits = fits; same = refl })
 
 -- the body is there, of the gates only that of the version may have changed, and it is open
 pub gate_opened : (version : ℕ) (c : Catalogue) (m n : Contents) → IsValid c → Fits Two c → version < c.next → IsAbove version m
