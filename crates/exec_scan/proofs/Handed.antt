@@ -6,6 +6,7 @@ use Rattle.common_laws.specs.Maps.{Contents}
 use Rattle.catalog_types.specs.declared.catalogue.Container.{Container}
 use Rattle.catalog_types.specs.declared.catalogue.Projection.{Projection}
 use Rattle.del_vector.specs.declared.mark.Mark.{Mark}
+use Rattle.ros_container.specs.Encodings.{written_of}
 use Rattle.proj_store.specs.Sound.{IsKept}
 use Rattle.stored_rows.specs.Stored.{Beside, Projected}
 use Rattle.exec_scan.specs.Opened.{HasOpened, Opening}

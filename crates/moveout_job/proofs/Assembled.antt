@@ -66,9 +66,6 @@ files_low columns next mid k j is low = record {
 made_low : (columns : List ProjColumn) (mid after : ℕ) (k : Container) → IsNumbered (length columns) mid after k → IsReadable columns k × HasVectorNumber k
 made_low columns mid after k is = (record { of_columns = of_columns; numbers = by k.marks is.ends }, of k.marks is.vector is.ends)
   where
-    n : ℕ
-    n = length columns
-
     of_columns : IsOfColumns columns k
     of_columns = record {
       rows = is.rows;
@@ -80,7 +77,7 @@ made_low columns mid after k is = (record { of_columns = of_columns; numbers = b
     by None e = let base = is.base in let below = is.below in omega (arith, e, base, below)
     by (Some v) e = let base = is.base in let below = is.below in omega (arith, e, base, below)
 
-    of : (o : Option ℕ) → IfSome o (λ v. v ≡ mid + file_count n) → after ≡ mid + (file_count k.stored + option_map_or (λ _. 1) o 0) → IfSome o (λ v. v < 2 ^ 62)
+    of : (o : Option ℕ) → IfSome o (λ v. v ≡ mid + file_count (length columns)) → after ≡ mid + (file_count k.stored + option_map_or (λ _. 1) o 0) → IfSome o (λ v. v < 2 ^ 62)
     of None v e = tt
     of (Some v) is_v e = let below = is.below in let stored = is.stored in omega (arith, is_v, e, below, stored)
 

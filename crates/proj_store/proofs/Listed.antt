@@ -36,7 +36,7 @@ default_value columns c is has = by (slice_get columns c.ordinal) c.default is h
   where
     by : (o : Option Column) (d : Option Value) → IsSomeAnd o (λ column. (takes_kind c.encoding column.kind ≡ true) × IfSome d (FitsColumn column)) → IsSome d → IsSomeAnd d IsValue
     by None d is has = absurd is
-    by (Some column) None is has = absurd has
+    by (Some column) None is has = absurd cc
     by (Some column) (Some v) is has = fits_value column v is.1
 
 pub valid_of_columns : (c : Catalogue) (t : Table) (p : Projection) → IsProjection c t p → All (IsOfColumns p.columns) p.containers

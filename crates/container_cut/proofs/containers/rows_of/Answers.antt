@@ -16,7 +16,7 @@ rows-requires g c =
     let k = c.args.container.now in
     let low = c.requires.below.files in
     let most = c.requires.numbers in
-    subst (λ (columns : List ProjColumn). IsReadable columns k) (sym (ap (λ (q : Projection). q.columns) c.requires.front)) (front_reads k p c.requires.below.of_columns (omega (arith, low, most)))
+    record { entry = subst (λ (columns : List ProjColumn). IsReadable columns k) (sym (ap (λ (q : Projection). q.columns) c.requires.front)) (front_reads k p c.requires.below.of_columns (omega (arith, low, most))) }
 
 pub returns-clause-blamed : goal.returns-clause-blamed
 returns-clause-blamed g c =

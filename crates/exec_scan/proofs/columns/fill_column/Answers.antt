@@ -1,6 +1,7 @@
 use Rattle.std.proofs.Common.{◌<◌, subst, sym}
 use Rattle.std.specs.Prelude.{None}
 use Rattle.col_disk.proofs.Moving.{moved_none}
+use Rattle.ros_container.specs.Encodings.{written_of}
 use Rattle.container_blocks.specs.Blocks.{rows_in}
 use Rattle.exec_scan.specs.Opened.{HoldsNeeded, IsNeeded}
 use Rattle.exec_scan.proofs.Filled.{fills_one}

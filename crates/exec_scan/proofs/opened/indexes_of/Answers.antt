@@ -3,6 +3,7 @@ use Rattle.common_laws.specs.Maps.{Contents}
 use Rattle.std.specs.Prelude.{Option, None}
 use Rattle.std.specs.List.{AllZip}
 use Rattle.col_disk.proofs.Moving.{moved_join, moved_none}
+use Rattle.ros_container.specs.Encodings.{written_of}
 use Rattle.pos_index.specs.declared.index.PosIndex.{PosIndex}
 use Rattle.exec_scan.specs.Opened.{IsNeeded, HoldsNeeded}
 use Rattle.exec_scan.proofs.Indexed.{zip_more}

@@ -1,6 +1,7 @@
 use Rattle.std.proofs.Common.{◌≡◌, take}
 use Rattle.std.specs.List.{AllZip}
 use Rattle.col_disk.specs.Moved.{Moved, NoName}
+use Rattle.ros_container.specs.Encodings.{written_of}
 use Rattle.exec_scan.specs.Opened.{IsNeeded, HoldsNeeded}
 use Rattle.exec_scan.proofs.opened.indexes_of.Given as goal
 

@@ -3,6 +3,7 @@ use Rattle.std.specs.List.{All}
 use Rattle.std.proofs.lemmas.List.{length-append}
 use Rattle.std.proofs.lemmas.List.Elements.{All-nil, All-push}
 use Rattle.col_disk.proofs.Moving.{moved_join, moved_none}
+use Rattle.ros_container.specs.Encodings.{written_of}
 use Rattle.container_blocks.specs.Blocks.{IsIndexOf}
 use Rattle.proj_store.proofs.BlockRows.{indexes_more, indexes_none}
 use Rattle.proj_store.proofs.blocks.indexes_of.Goals as goal

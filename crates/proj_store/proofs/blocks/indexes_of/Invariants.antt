@@ -1,6 +1,7 @@
 use Rattle.std.proofs.Common.{◌≡◌, length}
 use Rattle.std.specs.List.{All}
 use Rattle.col_disk.specs.Moved.{Moved, NoName}
+use Rattle.ros_container.specs.Encodings.{written_of}
 use Rattle.container_blocks.specs.Blocks.{IsIndexOf}
 use Rattle.proj_store.specs.Blocks.{HasIndexes}
 use Rattle.proj_store.proofs.blocks.indexes_of.Given as goal
