@@ -1,8 +1,8 @@
 -- The values that are written where their tuples stand, and the sums of partitions, over tuples in another order than that of the list.
 use Rattle.std.proofs.Common.{◌≡◌, ◌++◌, ℕ, zero, suc, ◌+◌, ◌<◌, ◌≤◌, ◌||◌, Bool, true, false, cond, List, [], ◌∷◌, length, map, filter, get_or, set, Option, Some, None, refl, sym, ap, ap₂, ◌∙◌, arith, subst, inl, inr}
-use Rattle.std.specs.Prelude.{◌==◌, ◌⊎◌, not}
+use Rattle.std.specs.Prelude.{◌==◌, not}
 use Rattle.std.specs.Ordering.{is_lt}
-use Rattle.std.specs.List.{All, Contains, count_by, enumerate_from, list_any, sum_by}
+use Rattle.std.specs.List.{All, Contains, count_by, enumerate_from, list_any}
 use Rattle.std.proofs.lemmas.Bool.Decides.{nat_tests}
 use Rattle.std.proofs.lemmas.List.{append_assoc, ext_get_or, get_or-set_other, get_or-set_same, length-append, length-map, length-set, map-append}
 use Rattle.std.proofs.lemmas.List.Elements.{All-nil, Contains-append_right, Contains-get_or, filter-append}
@@ -17,8 +17,6 @@ use Rattle.sql_bound.specs.Bounds.{magnitude, result_bound}
 use Rattle.sql_bound.specs.Values as scopes
 use Rattle.sql_bound.specs.Values.{is_null, value_of}
 use Rattle.sql_bound.specs.Outputs.{aggregate_over, in_frame, in_partition, is_numbered_before, number_or_zero, same_keys, size_of, stands_before, values_over, window_over, window_value, IsGreatSum}
-use Rattle.exec_group.specs.Accumulators.{accumulated_over}
-use Rattle.exec_group.specs.declared.accumulator.Accumulator.TheVariants.{TooGreat}
 use Rattle.exec_group.proofs.More.{great_over, is_great}
 use Rattle.query_laws.proofs.Alike.{Alike, Place, alike_filter, alike_map, any_alike, place}
 use Rattle.query_laws.proofs.Great.{same_size, size_sum}
@@ -27,10 +25,10 @@ use Rattle.query_laws.proofs.Once.{same_equal, same_itself}
 use Rattle.query_laws.proofs.Sames.{same_aggregate, values_alike}
 use Rattle.exec_window.specs.declared.walk.Step.{Step}
 use Rattle.exec_window.specs.Partitions.{HasGreatPartition}
-use Rattle.exec_window.specs.Walks.{AllFit, IsGreat, Seen, SomeGreat, frame_of, next_at, shared, steps, value_of_step, walk_cmp, written}
+use Rattle.exec_window.specs.Walks.{AllFit, Seen, SomeGreat, frame_of, next_at, shared, value_of_step, walk_cmp, written}
 use Rattle.exec_window.proofs.Orders.{Rises}
-use Rattle.exec_window.proofs.Walking.{Early, IsAt, IsState, Placed, all_more, before, each, filter_alike, goes_on, of_part, parts_alike, rows_of_part, stands_on}
-use Rattle.exec_window.proofs.Whole.{Ahead, Fill, ahead_more, first_early, none_from, once_from, value_in}
+use Rattle.exec_window.proofs.Walking.{Early, IsState, Placed, before, each, filter_alike, goes_on, of_part, parts_alike, rows_of_part, stands_on}
+use Rattle.exec_window.proofs.Whole.{Ahead, Fill, ahead_more, first_early, once_from, value_in}
 
 abbrev one_if : Bool → ℕ
 one_if b = cond b 1 0

@@ -1,5 +1,5 @@
 -- The walk back, begun with what is shared and written behind.
-use Rattle.std.proofs.Common.{◌≡◌, ◌++◌, List, [], ◌∷◌, Option, None, set, refl, sym, ap, ap₂, ◌∙◌}
+use Rattle.std.proofs.Common.{◌≡◌, ◌++◌, List, [], ◌∷◌, Option, None, set, refl, ap, ap₂}
 use Rattle.col_value.specs.declared.wide.Wide.{Wide}
 use Rattle.sql_tree.specs.declared.query.WindowKind.{WindowKind}
 use Rattle.exec_window.specs.declared.walk.Step.{Step}

@@ -1,27 +1,27 @@
 -- Where a walk stands, by what it has behind it.
-use Rattle.std.proofs.Common.{◌≡◌, ◌++◌, ℕ, zero, suc, ◌+◌, ◌<◌, ◌≤◌, Bool, true, false, cond, List, [], ◌∷◌, length, map, filter, Option, Some, None, refl, sym, ap, ap₂, ◌∙◌, arith, subst}
+use Rattle.std.proofs.Common.{◌≡◌, ◌++◌, ℕ, ◌+◌, Bool, true, false, cond, List, [], ◌∷◌, map, filter, Option, Some, None, refl, sym, ap, ap₂, ◌∙◌, arith, subst}
 use Rattle.std.specs.Prelude.{◌&&◌, if◌then◌else◌}
 use Rattle.std.specs.Cmp.{IsTotalOrder}
 use Rattle.std.specs.List.{All, count_by}
-use Rattle.std.specs.Ordering.{is_eq, is_le, is_lt, ordering_then}
+use Rattle.std.specs.Ordering.{is_eq, is_lt, ordering_then}
 use Rattle.std.specs.declared.cmp.Ordering.{Ordering}
-use Rattle.std.proofs.lemmas.Cmp.{alike_right, on_total, then_total, tied_itself}
+use Rattle.std.proofs.lemmas.Cmp.{alike_right, on_total, then_total}
 use Rattle.std.proofs.lemmas.List.{map-append}
 use Rattle.std.proofs.lemmas.List.Elements.{All-append, All-cons, All-head, All-nil, All-tail, All-weaker, filter-append}
-use Rattle.col_value.specs.Laws.{row_exact, row_total, tie_told}
+use Rattle.col_value.specs.Laws.{row_total, tie_told}
 use Rattle.col_value.specs.Order.{row_cmp}
 use Rattle.col_value.specs.declared.value.Value.{Value}
 use Rattle.sql_bound.specs.declared.query.Aggregate.{Aggregate}
 use Rattle.sql_bound.specs.declared.query.BoundWindow.{BoundWindow}
-use Rattle.sql_bound.specs.Outputs.{in_frame, in_partition, is_numbered_before, keys_of, number_cmp, same_keys, stands_before, values_over, window_cmp}
+use Rattle.sql_bound.specs.Outputs.{in_partition, keys_of, number_cmp, same_keys, stands_before, window_cmp}
 use Rattle.exec_group.specs.Accumulators.{accumulated, accumulated_over, argument_in, taken}
 use Rattle.exec_group.specs.declared.accumulator.Accumulator.{Accumulator}
 use Rattle.exec_group.proofs.More.{no_values, row_taken}
 use Rattle.query_laws.proofs.Numbered.{counts_cons, counts_more}
 use Rattle.query_laws.proofs.Once.{same_equal, same_itself}
-use Rattle.query_laws.proofs.WindowOrders.{number_total, window_itself, window_total}
-use Rattle.exec_window.specs.Walks.{Seen, before_at, fresh_of, is_peer, joins, next_at, number_at, sum_at, walk_cmp}
-use Rattle.exec_window.proofs.Orders.{at_most, beyond, less_of, less_through, neither, not_less, through_less}
+use Rattle.query_laws.proofs.WindowOrders.{number_total, window_total}
+use Rattle.exec_window.specs.Walks.{Seen, fresh_of, next_at, walk_cmp}
+use Rattle.exec_window.proofs.Orders.{less_of, neither, through_less}
 
 abbrev pub Placed : Type 0
 Placed = ℕ × List Value
@@ -206,19 +206,19 @@ module _ (w : BoundWindow) (a : Aggregate) where
           ∙ sym (counts_more (of_part t) front at.tuple ∙ ap₂ (λ (n : ℕ) (b : Bool). n + one_if b) (count_same (of_part t) (of_part at.tuple) front (each (λ k. of_part t k ≡ of_part at.tuple k) front (parts_alike t at.tuple e)) ∙ sym is.numbered) e);
       before = elim (is_eq (by_window at.tuple t)) as (λ b. is_eq (by_window at.tuple t) ≡ b →
           (if of_part t at.tuple && b then at.before else (if of_part t at.tuple then at.numbered + 1 else 0)) ≡ count_by (before t) (front ++ at.tuple ∷ [])) [
-        | true ↦ λ peer.
-            ap (λ (b : Bool). if b && true then at.before else (if b then at.numbered + 1 else 0)) e
-            ∙ (is.before
-            ∙ (sym (count_same (before t) (before at.tuple) front (each (λ k. before t k ≡ before at.tuple k) front (peers_before at.tuple t e peer)))
-            ∙ sym (counts_more (before t) front at.tuple ∙ none_more (count_by (before t) front) (before t at.tuple) (peers_apart at.tuple t peer))))
-        | false ↦ λ unlike.
-            ap (λ (b : Bool). if b && false then at.before else (if b then at.numbered + 1 else 0)) e
-            ∙ (numbers e
-            ∙ sym (count_same (before t) (of_part t) (front ++ at.tuple ∷ [])
-            (all_more (λ k. before t k ≡ of_part t k) front at.tuple
-            (All-weaker (Early at.tuple) (λ k. before t k ≡ of_part t k) (λ k h. before_all k at.tuple t h late e unlike) front rise)
-            (before_last at.tuple t late e unlike))))
-      ] refl;
+            | true ↦ λ peer.
+                ap (λ (b : Bool). if b && true then at.before else (if b then at.numbered + 1 else 0)) e
+                ∙ (is.before
+                ∙ (sym (count_same (before t) (before at.tuple) front (each (λ k. before t k ≡ before at.tuple k) front (peers_before at.tuple t e peer)))
+                ∙ sym (counts_more (before t) front at.tuple ∙ none_more (count_by (before t) front) (before t at.tuple) (peers_apart at.tuple t peer))))
+            | false ↦ λ unlike.
+                ap (λ (b : Bool). if b && false then at.before else (if b then at.numbered + 1 else 0)) e
+                ∙ (numbers e
+                ∙ sym (count_same (before t) (of_part t) (front ++ at.tuple ∷ [])
+                (all_more (λ k. before t k ≡ of_part t k) front at.tuple
+                (All-weaker (Early at.tuple) (λ k. before t k ≡ of_part t k) (λ k h. before_all k at.tuple t h late e unlike) front rise)
+                (before_last at.tuple t late e unlike))))
+          ] refl;
       sum = sum_more t (front ++ at.tuple ∷ []) (if of_part t at.tuple then at.sum else fresh_of a)
           (ap (λ (b : Bool). if b then at.sum else fresh_of a) e
           ∙ (is.sum ∙ ap (λ (rows : List (List Value)). accumulated_over rows a) (sym (same_rows e))));

@@ -1,31 +1,27 @@
 -- What a whole walk leaves is what the definitions count over all tuples.
-use Rattle.std.proofs.Common.{◌≡◌, ◌++◌, ℕ, zero, suc, ◌+◌, ◌<◌, ◌≤◌, nat_lt, nat_le, Bool, true, false, cond, List, [], ◌∷◌, length, map, filter, get_or, set, replicate, Option, Some, None, refl, sym, ap, ap₂, ◌∙◌, arith, subst, inl, inr}
-use Rattle.std.specs.Prelude.{◌&&◌, ◌==◌, ◌⊎◌, if◌then◌else◌}
-use Rattle.std.specs.List.{All, Contains, count_by, enumerate_from, sum_by}
-use Rattle.std.specs.List.Sorted.{IsPermutation}
+use Rattle.std.proofs.Common.{◌≡◌, ◌++◌, ℕ, ◌+◌, ◌<◌, ◌≤◌, Bool, true, false, cond, List, [], ◌∷◌, map, filter, Option, Some, None, refl, sym, ap, ap₂, ◌∙◌, arith}
+use Rattle.std.specs.Prelude.{◌&&◌, ◌==◌, if◌then◌else◌}
+use Rattle.std.specs.List.{All, count_by, enumerate_from}
 use Rattle.std.specs.Ordering.{is_eq, is_le, is_lt, nat_cmp, ordering_then}
 use Rattle.std.specs.declared.cmp.Ordering.{Ordering}
 use Rattle.std.proofs.lemmas.Bool.Decides.{nat_tests}
 use Rattle.std.proofs.lemmas.Cmp.{alike_right, tied_itself}
 use Rattle.std.proofs.lemmas.List.{append_assoc, append-nil}
-use Rattle.std.proofs.lemmas.List.Elements.{All-append, All-cons, All-head, All-nil, All-tail, All-weaker, filter-append}
-use Rattle.std.proofs.lemmas.List.Sums.{sum_by-append, sum_by-cons}
-use Rattle.col_value.specs.Laws.{row_exact, tie_told}
+use Rattle.std.proofs.lemmas.List.Elements.{All-cons, All-head, All-nil, All-tail, All-weaker, filter-append}
+use Rattle.std.proofs.lemmas.List.Sums.{sum_by-append}
+use Rattle.col_value.specs.Laws.{tie_told}
 use Rattle.col_value.specs.Order.{row_cmp}
 use Rattle.col_value.specs.declared.value.Value.{Value}
 use Rattle.col_value.specs.declared.wide.Wide.{Wide}
 use Rattle.sql_bound.specs.declared.query.Aggregate.{Aggregate}
 use Rattle.sql_bound.specs.declared.query.BoundWindow.{BoundWindow}
-use Rattle.sql_bound.specs.Outputs.{aggregate_over, in_frame, in_partition, is_numbered_before, number_cmp, stands_before, window_cmp, window_over, window_value}
-use Rattle.exec_group.specs.Accumulators.{accumulated_over, worth_or_null}
-use Rattle.exec_group.specs.declared.accumulator.Accumulator.TheVariants.{TooGreat}
+use Rattle.sql_bound.specs.Outputs.{aggregate_over, in_frame, is_numbered_before, number_cmp, window_cmp, window_over}
+use Rattle.exec_group.specs.Accumulators.{worth_or_null}
 use Rattle.exec_group.proofs.More.{worth_over}
-use Rattle.query_laws.proofs.Alike.{Alike, alike_filter, alike_map, alike_permuted}
 use Rattle.query_laws.proofs.Numbered.{counts_cons}
-use Rattle.query_laws.proofs.Sames.{same_aggregate}
 use Rattle.query_laws.proofs.WindowOrders.{number_total, window_itself}
 use Rattle.exec_window.specs.declared.walk.Step.{Step}
-use Rattle.exec_window.specs.Walks.{AllFit, IsGreat, Seen, SomeGreat, frame_of, is_peer, next_at, shared, shared_of, step_of, steps, value_of_step, walk_cmp, written}
+use Rattle.exec_window.specs.Walks.{AllFit, IsGreat, Seen, frame_of, next_at, shared, step_of, steps, value_of_step, walk_cmp}
 use Rattle.exec_window.proofs.Orders.{Rises, at_most, beyond, less_of, less_through}
 use Rattle.exec_window.proofs.Walking.{IsAt, IsState, Early, Placed, all_more, before, between, by_window, count_none, count_same, each, early_number, early_window, filter_alike, filter_none, goes_on, of_part, own_part, part, parts_alike, parts_equal, placed_total, rows_of_part, stands_on}
 
@@ -268,7 +264,7 @@ module _ (w : BoundWindow) (a : Aggregate) where
         let next = frames_are (pre ++ t ∷ []) (Some at) u js (next_place pre t (u ∷ js) e) (stands_on w a pre o t st early) (ahead_more pre t (u ∷ js) h) fit.1 in
         let later : Early w a u t = All-head (λ y. Early w a y t) u js h.rises.0 in
         elim (peers t u) as (λ b. peers t u ≡ b →
-            frame_of (step_of at) (if b then Some (frame_of (step_of (next_at w a (Some at) u)) (shared (steps w a (Some (next_at w a (Some at) u)) js))) else None) ≡ frame_at t) [
+        frame_of (step_of at) (if b then Some (frame_of (step_of (next_at w a (Some at) u)) (shared (steps w a (Some (next_at w a (Some at) u)) js))) else None) ≡ frame_at t) [
           | true ↦ λ same.
               next ∙ ap (λ (ks : List Placed). aggregate_over (map (λ (k : Placed). k.1) ks) a) (sym (filter_alike (framed t) (framed u) s (each (λ k. framed t k ≡ framed u k) s (frame_peers t u same))))
           | false ↦ λ other.

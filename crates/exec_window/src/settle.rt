@@ -26,12 +26,7 @@ fn shared_of(step: &Step, frame: Wide) -> Option<Wide>
     if step.peer { Some(frame) } else { None }
 }
 
-fn value_of(
-    alloc: Global,
-    kind: WindowKind,
-    step: &Step,
-    frame: &Wide,
-) -> Result<Wide, AllocError>
+fn value_of(alloc: Global, kind: WindowKind, step: &Step, frame: &Wide) -> Result<Wide, AllocError>
     ensures { IfOk result (λ v. v ≡ value_of_step kind step.now frame.now) }
 {
     match kind {

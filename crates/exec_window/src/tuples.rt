@@ -27,10 +27,7 @@ fn placed<'a>(alloc: Global, rows: &'a [Row]) -> Result<Vec<Tuple<'a>>, AllocErr
     Ok(out)
 }
 
-fn in_order<'a>(
-    window: &BoundWindow,
-    tuples: Vec<Tuple<'a>>,
-) -> Result<Vec<Tuple<'a>>, AllocError>
+fn in_order<'a>(window: &BoundWindow, tuples: Vec<Tuple<'a>>) -> Result<Vec<Tuple<'a>>, AllocError>
     ensures same { IfOk result (λ v. IsPermutation tuples.entry.items v.items) }
     ensures ascending { IfOk result (λ v. IsSorted (λ a b. walk_cmp window.now (pair_of a) (pair_of b)) v.items) }
 {

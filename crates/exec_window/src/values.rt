@@ -1,6 +1,6 @@
 //! The values of a window.
 
-ghost use Rattle.std.specs.Prelude.{◌≡◌, true, map, List, IfOk, OnOk, IsErrOf};
+ghost use Rattle.std.specs.Prelude.{◌≡◌, true, map, IfOk, OnOk, IsErrOf};
 ghost use Rattle.std.specs.List.{All, enumerate_from};
 ghost use Rattle.col_value.specs.Order.{IsRow};
 ghost use Rattle.exec_group.specs.Accumulators.{is_bounded_aggregate};

@@ -82,12 +82,7 @@ fn raised(n: u64) -> Result<u64, AllocError>
 }
 
 /// Behind how many that stand before it; `numbered` is how many of its partition there are so far.
-fn before_at(
-    window: &BoundWindow,
-    at: &Option<At<'_>>,
-    tuple: &Tuple<'_>,
-    numbered: u64,
-) -> u64
+fn before_at(window: &BoundWindow, at: &Option<At<'_>>, tuple: &Tuple<'_>, numbered: u64) -> u64
     requires { numbered ≡ number_at window.now (option_map seen_of at.now) (pair_of tuple.now) }
     ensures { result ≡ before_at window.now (option_map seen_of at.now) (pair_of tuple.now) }
 {
