@@ -1,7 +1,7 @@
 use Rattle.std.proofs.Common.{ap, ap₂, ◌∙◌, ℕ, ◌+◌, ◌++◌, [], ◌∷◌, List, length, drop, arith}
 use Rattle.sql_bound.specs.declared.expr.Expr.{Expr}
 use Rattle.sql_bound.specs.declared.query.Aggregate.{Aggregate}
-use Rattle.sql_binding.specs.Trees.{all_aggs, bound_item, groups_of, items_behind}
+use Rattle.sql_binding.specs.Trees.{all_aggs, groups_of, items_behind, windows_in}
 use Rattle.statement_binder.specs.Scopes.{scope_of}
 use Rattle.statement_binder.proofs.ItemLists.{aggs_behind, group_behind}
 use Rattle.statement_binder.proofs.items.item_groups.Goals as goal
@@ -15,13 +15,13 @@ loop-item-preserved c =
     let out = c.loop-item.out.items in
     let gs = c.loop-item.aggs.items in
     let n = c.loop-item.windows in
-    let more = ap (λ (k : ℕ). n + k) c.windows_in.ensures.value in
+    let more = ap (λ (k : ℕ). n + k) c.windows_in.ensures.many in
     record {
       items = ap (λ (m : ℕ). c.in_ok-push.out.items ++ groups_of (items_behind s m (drop (i + 1) xs)) (length c.in_ok-item_group.aggs.items)) more
-          ∙ (ap₂ (λ (os : List Expr) (as : List Aggregate). os ++ groups_of (items_behind s (n + length (windows_in x.tree)) (drop (i + 1) xs)) (length as))
+          ∙ (ap₂ (λ (os : List Expr) (made : List Aggregate). os ++ groups_of (items_behind s (n + length (windows_in x.tree)) (drop (i + 1) xs)) (length made))
           (c.in_ok-push.ensures.items ∙ ap (λ (v : Expr). out ++ (v ∷ [])) c.in_ok-item_group.ensures.tree) c.in_ok-item_group.ensures.aggs
           ∙ (group_behind s xs i x out gs n c.loop-item-test.true c.item-item.is ∙ c.loop-item.invariant.items));
-      aggs = ap₂ (λ (as : List Aggregate) (m : ℕ). as ++ all_aggs (items_behind s m (drop (i + 1) xs))) c.in_ok-item_group.ensures.aggs more
+      aggs = ap₂ (λ (made : List Aggregate) (m : ℕ). made ++ all_aggs (items_behind s m (drop (i + 1) xs))) c.in_ok-item_group.ensures.aggs more
           ∙ (aggs_behind s xs i x gs n c.loop-item-test.true c.item-item.is ∙ c.loop-item.invariant.aggs);
       few = let one = c.windows_in.ensures.one in let few = c.loop-item.invariant.few in omega arith;
     }
