@@ -96,7 +96,7 @@ fn betweens(
 
 /// `sum {, sum}`, behind `part IN (`
 #[cycle(read)]
-#[tactic(auto, unfolding(sql_phrases::specs::Readings::both, sql_phrases::specs::Readings::nothing, sql_phrases::specs::Readers::by_glyph))]
+#[tactic(auto, unfolding(sql_phrases::specs::Readings::both, sql_phrases::specs::Readings::nothing, sql_phrases::specs::Readers::glyph_rest, sql_phrases::specs::Readers::by_glyph))]
 fn choices(
     alloc: Global,
     tokens: &mut Tokens<'_>,

@@ -22,8 +22,8 @@ loop-alloc-smaller c = shorter c.loop-alloc.mode c.loop-alloc.tokens c.in-Ok.ite
 
 pub loop-alloc-preserved : goal.loop-alloc-preserved
 loop-alloc-preserved c =
-    ap (λ z. joined z (turns (is_sign Sign.Comma) next_item after_item c.after-mode-2.result c.next_item.new.tokens)) c.in_ok-push-2.ensures.items
-    ∙ ap (λ m. joined (c.loop-alloc.found.items ++ (c.in-Ok.item ∷ [])) (turns (is_sign Sign.Comma) next_item after_item m c.next_item.new.tokens)) c.after-mode-2.ensures
+    ap (λ z. joined z (turns (is_sign Sign.Comma) next_item after_item c.after-mode-in-loop-alloc.result c.next_item.new.tokens)) c.in_ok-push-2.ensures.items
+    ∙ ap (λ m. joined (c.loop-alloc.found.items ++ (c.in-Ok.item ∷ [])) (turns (is_sign Sign.Comma) next_item after_item m c.next_item.new.tokens)) c.after-mode-in-loop-alloc.ensures
     ∙ turns_go (is_sign Sign.Comma) next_item after_item shorter c.loop-alloc.mode c.loop-alloc.found.items c.loop-alloc.tokens c.in-Ok.item c.next_item.new.tokens _ c.loop-alloc.invariant (sym c.begins_sign.ensures ∙ c.loop-alloc-test.true) c.in-Ok.ensures
 
 pub returns : goal.returns
