@@ -49,18 +49,25 @@ def main():
     say("INSERT INTO names VALUES (1, 'one'), (2, 'two'), (2, 'zwei'), (4, 'four')", "INSERT 4")
     say("COMMIT", "COMMIT EPOCH 2")
 
-    def window(columns, used):
-        """A window, as text for each of the two, and the kind of its values. `used` are the columns that the query uses, in FROM order."""
-        partition = chance.sample(columns, chance.choice([0, 1, 1, 2]))
-        order = [(c, chance.choice(["", "", " ASC", " DESC"])) for c in chance.sample(columns, chance.choice([0, 1, 1, 2]))]
+    def window(columns):
+        """A function, the columns of its partition, its keys, and whether each stands behind DESC."""
+        partition = [c for c, _ in chance.sample(columns, chance.choice([0, 1, 1, 2]))]
+        order = [(c, chance.choice(["", "", " ASC", " DESC"])) for c, _ in chance.sample(columns, chance.choice([0, 1, 1, 2]))]
         head = chance.choice(["ROW_NUMBER()", "RANK()", "COUNT(*)", "COUNT({})", "SUM({})", "SUM({} + 1)", "SUM(-{} * 2)"])
         if "{}" in head:
             head = head.format(chance.choice([c for c in columns if c[1] == "n" or "COUNT" in head])[0])
-        parts = "PARTITION BY " + ", ".join(c for (c, _) in partition) if partition else ""
-        keys = "ORDER BY " + ", ".join(c + d for ((c, _), d) in order) if order else ""
-        ties = [c for c in used if c not in [o[0][0] for o in order]] if head == "ROW_NUMBER()" else []
-        other = "ORDER BY " + ", ".join([c + d for ((c, _), d) in order] + ties) if order or ties else ""
-        return head, f"{head} OVER ({' '.join(x for x in (parts, keys) if x)})", f"{head} OVER ({' '.join(x for x in (parts, other) if x)})"
+        return head, partition, [c for c, _ in order], [d for _, d in order]
+
+    def written(head, partition, keys, directions):
+        parts = ["PARTITION BY " + ", ".join(partition)] if partition else []
+        order = ["ORDER BY " + ", ".join(c + d for c, d in zip(keys, directions))] if keys else []
+        return f"{head} OVER ({' '.join(parts + order)})"
+
+    def told_apart(draft, used):
+        """The same for sqlite3: the used columns stand behind the keys of ROW_NUMBER."""
+        head, partition, keys, directions = draft
+        behind = [c for c in used if c not in keys] if head == "ROW_NUMBER()" else []
+        return head, partition, keys + behind, directions + [""] * len(behind)
 
     def ask(at=""):
         joined = chance.random() < 0.25
@@ -71,20 +78,17 @@ def main():
         condition = chance.choice(CONDITIONS).format(before) if chance.random() < 0.4 else None
         looked = chance.sample(columns, chance.choice([2, 3, 4])) + ([names[1]] if joined and chance.random() < 0.5 else [])
         items = chance.sample(looked, chance.choice([1, 2]))
-        # what the query uses: all that is looked at, so that both tell peers apart by the same columns
-        everything = columns + names
+        # tuples that are alike in all used columns are numbered in any order: so at most one ROW_NUMBER
         while True:
-            state = chance.getstate()
-            some = chance.choice([1, 1, 2, 3])
-            draft = [window(looked, [])[1] for _ in range(some)]
-            words = " ".join([n for n, _ in items] + draft + [condition or "", "t.p s.p" if joined else ""]).replace("(", " ").replace(")", " ").replace(",", " ").split()
-            used = [n for n, _ in everything if n in words]
-            chance.setstate(state)
-            some = chance.choice([1, 1, 2, 3])
-            made = [window(looked, used) for _ in range(some)]
-            break
-        mine = ", ".join([n for n, _ in items] + [text for _, text, _ in made])
-        other = ", ".join([n for n, _ in items] + [text for _, _, text in made])
+            drafts = [window(looked) for _ in range(chance.choice([1, 1, 2, 3]))]
+            if sum(head == "ROW_NUMBER()" for head, _, _, _ in drafts) < 2:
+                break
+        text = " ".join([n for n, _ in items] + [written(*draft) for draft in drafts] + [condition or "", "t.p s.p" if joined else ""])
+        words = "".join(c if c.isalnum() or c in "._" else " " for c in text).split()
+        used = [n for n, _ in columns + names if n in words]
+        made = [(written(*draft), written(*told_apart(draft, used))) for draft in drafts]
+        mine = ", ".join([n for n, _ in items] + [text for text, _ in made])
+        other = ", ".join([n for n, _ in items] + [text for _, text in made])
         where = f" WHERE {condition}" if condition else ""
         limit = chance.choice([4, 9, 30])
         by = ", ".join(str(i + 1) for i in range(len(items) + len(made)))

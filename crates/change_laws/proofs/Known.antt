@@ -75,7 +75,7 @@ columns_known : (seen : List Seen) (q : Query) (reach : Reach) (settings : List 
 columns_known seen q reach [] none = All-nil _
 columns_known seen q reach (s ∷ settings) none =
     let P : Setting → Type 0 = λ x. first_in_tree (column_search seen q) reach (tree.Col (column_named x.column)) ≡ None in
-    let first : Item → Option (List ℕ) = λ i. first_in_tree (column_search seen q) reach i.tree in
+    let first : Item → Option (List ℕ) = λ i. first_in_item (column_search seen q) reach i.tree in
     let both : first_given first (item_of (tree.Col (column_named s.column)) ∷ (item_of s.tree ∷ flat_map setting_items settings)) ≡ None = ap (first_given first) (sym (flat_map-cons setting_items s settings)) ∙ none in
     let here = first_none (first (item_of (tree.Col (column_named s.column)))) (first_given first (item_of s.tree ∷ flat_map setting_items settings)) both in
     let rest = first_none (first (item_of s.tree)) (first_given first (flat_map setting_items settings)) here.1 in

@@ -43,19 +43,16 @@ sizes e (row ∷ rows) =
 -- a part of some rows adds no more
 less_kept : {X : Type 0} (f : X → ℕ) (p q : X → Bool) → ((x : X) → p x ≡ true → q x ≡ true) → (xs : List X) → sum_by f (filter p xs) ≤ sum_by f (filter q xs)
 less_kept f p q h [] = omega arith
-less_kept {X} f p q h (x ∷ xs) = by (p x) (q x) refl refl
+less_kept {X} f p q h (x ∷ xs) = by (p x) (q x) refl refl (less_kept f p q h xs)
   where
-    rest : sum_by f (filter p xs) ≤ sum_by f (filter q xs)
-    rest = less_kept f p q h xs
-
-    by : (b c : Bool) → p x ≡ b → q x ≡ c → sum_by f (cond b (x ∷ filter p xs) (filter p xs)) ≤ sum_by f (cond c (x ∷ filter q xs) (filter q xs))
-    by true true e g = omega (arith, rest, sum_by-cons f x (filter p xs), sum_by-cons f x (filter q xs))
-    by true false e g = absurd (clash (sym (h x e) ∙ g))
+    by : (b c : Bool) → p x ≡ b → q x ≡ c → sum_by f (filter p xs) ≤ sum_by f (filter q xs) → sum_by f (cond b (x ∷ filter p xs) (filter p xs)) ≤ sum_by f (cond c (x ∷ filter q xs) (filter q xs))
+    by true true e g rest = omega (arith, rest, sum_by-cons f x (filter p xs), sum_by-cons f x (filter q xs))
+    by true false e g rest = absurd (clash (sym (h x e) ∙ g))
       where
         clash : true ≡ false → ⊥
         clash c = cc
-    by false true e g = omega (arith, rest, sum_by-cons f x (filter q xs))
-    by false false e g = rest
+    by false true e g rest = omega (arith, rest, sum_by-cons f x (filter q xs))
+    by false false e g rest = rest
 
 part_of_frame : (w : BoundWindow) (row other : List Value) → in_frame w row other ≡ true → in_partition w row other ≡ true
 part_of_frame w row other e = left (in_partition w row other) _ e
@@ -143,4 +140,6 @@ cell_at rows f n (suc i) (row ∷ rest) h =
 -- the values beside a row
 pub values_beside : (rows : List (List Value)) (i : ℕ) → i < length rows → (ps : List (BoundWindow × Aggregate)) → map (λ c. get_or c i wide.Null) (map (column_of rows) ps) ≡ map (window_value rows (i, get_or rows i [])) ps
 values_beside rows i h [] = refl
-values_beside rows i h (p ∷ ps) = ap₂ (λ (v : Wide) (vs : List Wide). v ∷ vs) (cell_at rows (λ t. window_value rows t p) 0 i rows h) (values_beside rows i h ps)
+values_beside rows i h (p ∷ ps) =
+    let none : 0 + i ≡ i = omega arith in
+    ap₂ (λ (v : Wide) (vs : List Wide). v ∷ vs) (cell_at rows (λ t. window_value rows t p) 0 i rows h ∙ ap (λ (m : ℕ). window_value rows (m, get_or rows i []) p) none) (values_beside rows i h ps)

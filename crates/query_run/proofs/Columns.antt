@@ -18,7 +18,7 @@ mapped_more {X} {Y} f xs i x y out next h at is more before =
     more ∙ ap₂ (λ (o : List Y) (v : Y). o ++ v ∷ []) before is ∙ sym (map-append f (take i xs) (x ∷ [])) ∙ ap (λ (z : X). map f (take i xs ++ z ∷ [])) at ∙ ap (map f) (sym (take_more xs i x h))
 
 pub mapped_all : {X Y : Type 0} (f : X → Y) (xs : List X) (i : ℕ) (out : List Y) → length xs ≤ i → out ≡ map f (take i xs) → out ≡ map f xs
-mapped_all f xs i out h before = before ∙ ap (map f) (take_all xs i h)
+mapped_all f xs i out h before = before ∙ ap (map f) (take_all i xs h)
 
 module _ (ws : List BoundWindow) (aggs : List Aggregate) (i : ℕ) where
   pub pair_inside : i < length ws → i < length aggs → i < length (zip ws aggs)
@@ -43,7 +43,7 @@ fit_more rows ps i p h at fits before =
 
 pub all_fit : (q : BoundQuery) (rows : List (List Value)) (i : ℕ) → length (zip q.windows q.aggs) ≤ i → All (Fits rows) (take i (zip q.windows q.aggs)) → HasGreatWindow q rows → ⊥
 all_fit q rows i h fits (p, (k, lt, same), great) =
-    let all : All (λ z. HasGreatPartition z.0 z.1 rows → ⊥) (zip q.windows q.aggs) = subst (All (λ z. HasGreatPartition z.0 z.1 rows → ⊥)) (take_all (zip q.windows q.aggs) i h) fits in
+    let all : All (λ z. HasGreatPartition z.0 z.1 rows → ⊥) (zip q.windows q.aggs) = subst (All (λ z. HasGreatPartition z.0 z.1 rows → ⊥)) (take_all i (zip q.windows q.aggs) h) fits in
     subst (λ (z : BoundWindow × Aggregate). HasGreatPartition z.0 z.1 rows → ⊥) same (all k p lt) great
 
 pub one_great : (q : BoundQuery) (rows : List (List Value)) (i : ℕ) (w : BoundWindow) (a : Aggregate) → i < length (zip q.windows q.aggs) → (w, a) ≡ get_or (zip q.windows q.aggs) i (w, a) → HasGreatPartition w a rows → HasGreatWindow q rows

@@ -169,21 +169,21 @@ group_or_not : {P : Type 0} (q : BoundQuery) → q.grouped ≡ false → q.group
 group_or_not q plain grouped = cc
 
 pub groups_great : (q : BoundQuery) (inputs : List (List (List Value))) → q.grouped ≡ true → HasGreatSum q (kept q inputs) → IsSumTooGreat q inputs
-groups_great q inputs grouped great = inl (grouped, great)
+groups_great q inputs grouped (group, a, there, asked, sum) = inl (grouped, group, a, there, asked, sum)
 
 pub groups_fit : (q : BoundQuery) (inputs : List (List (List Value))) → q.grouped ≡ true → IsSumTooGreat q inputs → HasGreatSum q (kept q inputs)
-groups_fit q inputs grouped (inl great) = great.1
+groups_fit q inputs grouped (inl (is, group, a, there, asked, sum)) = (group, a, there, asked, sum)
 groups_fit q inputs grouped (inr great) = group_or_not q great.0 grouped
 
 pub windows_great : (q : BoundQuery) (inputs : List (List (List Value))) (c : Collected) → IsWindowed q → HoldsOutput q (kept q inputs) c → HasGreatWindow q c.seen.items → IsSumTooGreat q inputs
 windows_great q inputs c is held great = here (subst (HasGreatWindow q) (held.seen is) great)
   where
     here : HasGreatWindow q (seen_rows q (kept q inputs)) → IsSumTooGreat q inputs
-    here (p, there, row, inside, sum) = inr (is.rows, p, row, there, inside, sum)
+    here (p, there, (row, inside, sum)) = inr (is.rows, p, row, there, inside, sum)
 
 pub windows_fit : (q : BoundQuery) (inputs : List (List (List Value))) (c : Collected) → IsWindowed q → HoldsOutput q (kept q inputs) c → IsSumTooGreat q inputs → HasGreatWindow q c.seen.items
 windows_fit q inputs c is held (inl great) = group_or_not q is.rows great.0
-windows_fit q inputs c is held (inr (plain, p, row, there, inside, sum)) = subst (HasGreatWindow q) (sym (held.seen is)) (p, there, row, inside, sum)
+windows_fit q inputs c is held (inr (plain, p, row, there, inside, sum)) = subst (HasGreatWindow q) (sym (held.seen is)) (p, there, (row, inside, sum))
 
 -- without groups and windows no sum is
 pub plain_fits : (q : BoundQuery) (inputs : List (List (List Value))) → IsPlain q → IsSumTooGreat q inputs → ⊥

@@ -24,7 +24,7 @@ abbrev pub HasGreatWindow : BoundQuery → List (List Value) → Type 0
 HasGreatWindow q rows = (p : BoundWindow × Aggregate) × Contains (zip q.windows q.aggs) p × HasGreatPartition p.0 p.1 rows
 
 -- the columns are those of the windows, and the items are narrow beside their values
-pub record AreBeside (q : BoundQuery) (rows : List (List Value)) (columns : List (List Wide)) : Type 0 where
-  pub rows : All IsRow rows
-  pub columns : AreColumns q rows columns
-  pub narrow : All (λ t. All (λ e. is_narrow (map bound_of_value (window_scope q rows t).aggs) e ≡ true) q.items) (enumerate_from 0 rows)
+pub record AreBeside (q : BoundQuery) (seen : List (List Value)) (beside : List (List Wide)) : Type 0 where
+  pub rows : All IsRow seen
+  pub columns : AreColumns q seen beside
+  pub narrow : All (λ t. All (λ e. is_narrow (map bound_of_value (window_scope q seen t).aggs) e ≡ true) q.items) (enumerate_from 0 seen)

@@ -8,7 +8,7 @@ ghost use Rattle.query_order.specs.Enough.{AreFew};
 ghost use Rattle.query_run.specs.Outputs.{HoldsOutput, IsAdded};
 
 use crate::bar::{bar_of, is_barred};
-use crate::seen::seen_row;
+use crate::seen::{has_windows, seen_row};
 use col_value::{Row, Value, WideRow};
 use exec_group::Groups;
 use expr_value::items_of;
@@ -62,7 +62,7 @@ impl Collected {
         if query.grouped {
             return self.groups.push(alloc, query, tuple);
         }
-        if !query.windows.as_slice().is_empty() {
+        if has_windows(query) {
             self.seen.push(seen_row(alloc, query, tuple)?)?;
             return Ok(());
         }

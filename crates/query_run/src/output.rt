@@ -14,6 +14,7 @@ ghost use Rattle.query_run.specs.Outputs.{HasCollected, items_in, scope_of, scop
 
 use crate::collected::Collected;
 use crate::fault::QueryFault;
+use crate::seen::has_windows;
 use crate::windows::of_windows;
 use col_value::{Value, Wide, WideRow};
 use exec_group::{GroupFault, Grouped};
@@ -40,10 +41,10 @@ pub fn output(
         ..
     } = collected;
     if !query.grouped {
-        if query.windows.as_slice().is_empty() {
-            return Ok(rows);
+        if has_windows(query) {
+            return of_windows(alloc, query, seen.as_slice());
         }
-        return of_windows(alloc, query, seen.as_slice());
+        return Ok(rows);
     }
     match groups.finish(alloc) {
         Ok(grouped) => Ok(of_groups(alloc, query, &grouped)?),

@@ -1,6 +1,6 @@
 //! Tuples as windows see them.
 
-ghost use Rattle.std.specs.Prelude.{◌≡◌, if◌then◌else◌, IfOk};
+ghost use Rattle.std.specs.Prelude.{◌≡◌, true, false, [], if◌then◌else◌, length, IfOk};
 ghost use Rattle.col_value.specs.declared.value.Value.TheVariants.{Null};
 ghost use Rattle.sql_bound.specs.Used.{blanked, is_used};
 
@@ -8,6 +8,14 @@ use col_value::{List, Row, Value};
 use expr_places::is_used;
 use sql_bound::BoundQuery;
 use std::alloc::{AllocError, Global};
+
+/// Whether the query has windows.
+pub fn has_windows(query: &BoundQuery) -> bool
+    ensures some { result ≡ true → length query.now.windows ≡ 0 → ⊥ }
+    ensures none { result ≡ false → query.now.windows ≡ [] }
+{
+    !query.windows.as_slice().is_empty()
+}
 
 /// The value of a column that the query uses, or NULL.
 fn seen_value(

@@ -5,7 +5,7 @@ use Rattle.std.proofs.lemmas.Option.{same_Some}
 use Rattle.sql_words.specs.Symbols.{Symbol}
 use Rattle.sql_tree.specs.declared.statement.Statement.{Statement}
 use Rattle.sql_tree.specs.Symbols.{kept, number_of}
-use Rattle.sql_tree.specs.Spells.{Creates, Drops, Inserts, Deletes, Updates, Copies, Selects, SelectsAt, Explains, Sessions, Controls, Spells}
+use Rattle.sql_tree.specs.Spells.{Creates, Alters, Drops, Inserts, Deletes, Updates, Copies, Selects, SelectsAt, Explains, Sessions, Controls, Spells}
 
 -- a session that is named has a number from 1 to 8
 abbrev pub NamesASession : Statement → Type 0
@@ -37,6 +37,9 @@ drops front s (r, b, inr (r2, b2, (a, t, c, j, one, (e, same)))) = leaf s _ same
 inserts : (front : List Symbol) (s : Statement) → Inserts front s → NamesASession s
 inserts front s (r, b, (r2, b2, (a, t, c, j, one, (r3, b3, (a2, rows, c2, j2, two, (e, same)))))) = leaf s _ same tt
 
+alters : (front : List Symbol) (s : Statement) → Alters front s → NamesASession s
+alters front s (r, b, (r2, b2, (a, t, c, j, one, (r3, b3, (r4, b4, (a2, column, c2, j2, two, (r5, b5, (a3, d, c3, j3, three, (e, same))))))))) = leaf s _ same tt
+
 deletes : (front : List Symbol) (s : Statement) → Deletes front s → NamesASession s
 deletes front s (r, b, (r2, b2, (a, t, c, j, one, (a2, w, c2, j2, two, (e, same))))) = leaf s _ same tt
 
@@ -67,12 +70,13 @@ controls front s (inr (inr (inr (r, b, (e, same))))) = leaf s _ same tt
 
 pub names_a_session : (front : List Symbol) (s : Statement) → Spells front s → NamesASession s
 names_a_session front s (inl is) = creates front s is
-names_a_session front s (inr (inl is)) = drops front s is
-names_a_session front s (inr (inr (inl is))) = inserts front s is
-names_a_session front s (inr (inr (inr (inl is)))) = deletes front s is
-names_a_session front s (inr (inr (inr (inr (inl is))))) = updates front s is
-names_a_session front s (inr (inr (inr (inr (inr (inl is)))))) = copies front s is
-names_a_session front s (inr (inr (inr (inr (inr (inr (inl is))))))) = selects front s is
-names_a_session front s (inr (inr (inr (inr (inr (inr (inr (inl is)))))))) = selects_at front s is
-names_a_session front s (inr (inr (inr (inr (inr (inr (inr (inr (inl is))))))))) = explains front s is
-names_a_session front s (inr (inr (inr (inr (inr (inr (inr (inr (inr is))))))))) = controls front s is
+names_a_session front s (inr (inl is)) = alters front s is
+names_a_session front s (inr (inr (inl is))) = drops front s is
+names_a_session front s (inr (inr (inr (inl is)))) = inserts front s is
+names_a_session front s (inr (inr (inr (inr (inl is))))) = deletes front s is
+names_a_session front s (inr (inr (inr (inr (inr (inl is)))))) = updates front s is
+names_a_session front s (inr (inr (inr (inr (inr (inr (inl is))))))) = copies front s is
+names_a_session front s (inr (inr (inr (inr (inr (inr (inr (inl is)))))))) = selects front s is
+names_a_session front s (inr (inr (inr (inr (inr (inr (inr (inr (inl is))))))))) = selects_at front s is
+names_a_session front s (inr (inr (inr (inr (inr (inr (inr (inr (inr (inl is)))))))))) = explains front s is
+names_a_session front s (inr (inr (inr (inr (inr (inr (inr (inr (inr (inr is)))))))))) = controls front s is

@@ -5,7 +5,7 @@ use Rattle.std.proofs.lemmas.Option.{same_Some}
 use Rattle.sql_words.specs.Symbols.{Symbol}
 use Rattle.sql_tree.specs.declared.statement.Statement.{Statement}
 use Rattle.sql_tree.specs.Symbols.{kept, number_of}
-use Rattle.sql_tree.specs.Spells.{Creates, Drops, Inserts, Deletes, Updates, Copies, Selects, SelectsAt, Explains, Sessions, Controls, Spells}
+use Rattle.sql_tree.specs.Spells.{Creates, Alters, Drops, Inserts, Deletes, Updates, Copies, Selects, SelectsAt, Explains, Sessions, Controls, Spells}
 use Rattle.store_step.specs.Texts.{HasRange}
 
 within : (m : ℕ) → (nat_le 1 m && nat_le m 8) ≡ true → (1 ≤ m) × (m ≤ 8)
@@ -32,6 +32,9 @@ drops front s (r, b, inr (r2, b2, (a, t, c, j, one, (e, same)))) = leaf s _ same
 
 inserts : (front : List Symbol) (s : Statement) → Inserts front s → HasRange s
 inserts front s (r, b, (r2, b2, (a, t, c, j, one, (r3, b3, (a2, rows, c2, j2, two, (e, same)))))) = leaf s _ same tt
+
+alters : (front : List Symbol) (s : Statement) → Alters front s → HasRange s
+alters front s (r, b, (r2, b2, (a, t, c, j, one, (r3, b3, (r4, b4, (a2, column, c2, j2, two, (r5, b5, (a3, d, c3, j3, three, (e, same))))))))) = leaf s _ same tt
 
 deletes : (front : List Symbol) (s : Statement) → Deletes front s → HasRange s
 deletes front s (r, b, (r2, b2, (a, t, c, j, one, (a2, w, c2, j2, two, (e, same))))) = leaf s _ same tt
@@ -63,12 +66,13 @@ controls front s (inr (inr (inr (r, b, (e, same))))) = leaf s _ same tt
 
 pub has_range : (front : List Symbol) (s : Statement) → Spells front s → HasRange s
 has_range front s (inl is) = creates front s is
-has_range front s (inr (inl is)) = drops front s is
-has_range front s (inr (inr (inl is))) = inserts front s is
-has_range front s (inr (inr (inr (inl is)))) = deletes front s is
-has_range front s (inr (inr (inr (inr (inl is))))) = updates front s is
-has_range front s (inr (inr (inr (inr (inr (inl is)))))) = copies front s is
-has_range front s (inr (inr (inr (inr (inr (inr (inl is))))))) = selects front s is
-has_range front s (inr (inr (inr (inr (inr (inr (inr (inl is)))))))) = selects_at front s is
-has_range front s (inr (inr (inr (inr (inr (inr (inr (inr (inl is))))))))) = explains front s is
-has_range front s (inr (inr (inr (inr (inr (inr (inr (inr (inr is))))))))) = controls front s is
+has_range front s (inr (inl is)) = alters front s is
+has_range front s (inr (inr (inl is))) = drops front s is
+has_range front s (inr (inr (inr (inl is)))) = inserts front s is
+has_range front s (inr (inr (inr (inr (inl is))))) = deletes front s is
+has_range front s (inr (inr (inr (inr (inr (inl is)))))) = updates front s is
+has_range front s (inr (inr (inr (inr (inr (inr (inl is))))))) = copies front s is
+has_range front s (inr (inr (inr (inr (inr (inr (inr (inl is)))))))) = selects front s is
+has_range front s (inr (inr (inr (inr (inr (inr (inr (inr (inl is))))))))) = selects_at front s is
+has_range front s (inr (inr (inr (inr (inr (inr (inr (inr (inr (inl is)))))))))) = explains front s is
+has_range front s (inr (inr (inr (inr (inr (inr (inr (inr (inr (inr is)))))))))) = controls front s is

@@ -1,10 +1,10 @@
-use Rattle.std.proofs.Common.{◌∙◌, refl, subst, sym}
+use Rattle.std.proofs.Common.{◌∙◌, Err, ap, arith, refl, subst, sym}
 use Rattle.query_laws.proofs.TupleRows.{kept_are_rows}
 use Rattle.sql_bound.specs.Outputs.{kept, output}
 use Rattle.query_order.specs.Enough.{IsEnough}
 use Rattle.query_order.proofs.Enough.{enough_itself}
 use Rattle.exec_group.specs.Groups.{HoldsGroups}
-use Rattle.query_run.proofs.Scopes.{groups_put_out, held_few, rows_put_out, scopes_fit}
+use Rattle.query_run.proofs.Scopes.{groups_fit, groups_great, groups_put_out, held_few, scopes_fit}
 use Rattle.query_run.proofs.output.output.Goals as goal
 
 pub of_groups-requires-clause-groups : goal.of_groups-requires-clause-groups
@@ -14,7 +14,7 @@ of_groups-requires-clause-groups c =
     let rows = kept q inputs in
     let groups : HoldsGroups q rows c.args.collected.groups = has.held.groups c.if-not-query.false in
     scopes_fit q rows c.in-Ok.grouped (c.in-Ok.ensures.groups q rows groups) (kept_are_rows q.keep inputs rows refl has.rows)
-    (held_few q rows c.args.collected has.held) (c.in-Ok.ensures.in_range q rows groups)
+    (omega (arith, held_few q rows c.args.collected has.held)) (c.in-Ok.ensures.in_range q rows groups)
 
 pub returns-in-Ok-clause-rows : goal.returns-in-Ok-clause-rows
 returns-in-Ok-clause-rows c = λ inputs has.
@@ -24,5 +24,13 @@ returns-in-Ok-clause-rows c = λ inputs has.
     let all = c.in_ok-of_groups-in-Ok.ensures ∙ groups_put_out q inputs c.in-Ok.grouped c.if-not-query.false (c.in-Ok.ensures.groups q rows groups) in
     subst (IsEnough q.order q.limit (output q inputs)) (sym all) (enough_itself q.order q.limit (output q inputs))
 
-pub returns-then-not-query-clause-rows : goal.returns-then-not-query-clause-rows
-returns-then-not-query-clause-rows c = λ inputs has. rows_put_out c.args.query.now inputs c.args.collected c.if-not-query.true has.held
+pub returns-in-Ok-clause-in_range : goal.returns-in-Ok-clause-in_range
+returns-in-Ok-clause-in_range c = λ inputs has great.
+    let q = c.args.query.now in
+    let rows = kept q inputs in
+    c.in-Ok.ensures.in_range q rows (has.held.groups c.if-not-query.false) (groups_fit q inputs c.if-not-query.false great)
+
+pub returns-in-Err-SumOutOfRange-clause-great : goal.returns-in-Err-SumOutOfRange-clause-great
+returns-in-Err-SumOutOfRange-clause-great c = λ failed inputs has.
+    let q = c.args.query.now in
+    groups_great q inputs c.if-not-query.false (c.in-Err-SumOutOfRange.ensures.great (ap Err c.in-Err-SumOutOfRange.field-0-is) q (kept q inputs) (has.held.groups c.if-not-query.false))

@@ -17,7 +17,7 @@ loop-item-preserved c =
     let n = c.loop-item.windows in
     let more = ap (λ (k : ℕ). n + k) c.windows_in.ensures.many in
     record {
-      items = ap (λ (m : ℕ). c.in_ok-push.out.items ++ groups_of (items_behind s m (drop (i + 1) xs)) (length c.in_ok-item_group.aggs.items)) more
+      items = ap (λ (m : ℕ). c.push.new.self.items ++ groups_of (items_behind s m (drop (i + 1) xs)) (length c.item_group.new.aggs.items)) more
           ∙ (ap₂ (λ (os : List Expr) (made : List Aggregate). os ++ groups_of (items_behind s (n + length (windows_in x.tree)) (drop (i + 1) xs)) (length made))
           (c.in_ok-push.ensures.items ∙ ap (λ (v : Expr). out ++ (v ∷ [])) c.in_ok-item_group.ensures.tree) c.in_ok-item_group.ensures.aggs
           ∙ (group_behind s xs i x out gs n c.loop-item-test.true c.item-item.is ∙ c.loop-item.invariant.items));
