@@ -1,6 +1,6 @@
 -- What an event draws.
 use Rattle.std.proofs.Common.{◌≡◌, ℕ, zero, suc, ◌+◌, ◌*◌, ◌<◌, ◌≤◌, Bool, ◌||◌, true, false, List, [], ◌∷◌, length, map, get_or, drop, take, refl, sym, ◌∙◌, ap, subst, arith}
-use Rattle.std.specs.Prelude.{◌≢◌, Option, Some, None, IsSomeAnd}
+use Rattle.std.specs.Prelude.{◌≢◌, Option, Some, None, IfSome, IsSomeAnd}
 use Rattle.std.specs.List.{All, AllByRecursion, IsDistinct, list_any, slice_get}
 use Rattle.std.proofs.lemmas.Bool.{eqb-true, ne_eqb}
 use Rattle.std.proofs.lemmas.List.{get_or-map, get_or_default, length-map}
@@ -15,7 +15,7 @@ use Rattle.catalog_types.specs.declared.catalogue.Projection.{Projection}
 use Rattle.catalog_types.specs.declared.catalogue.Table as kept
 use Rattle.catalog_types.specs.declared.catalogue.Catalogue.{Catalogue}
 use Rattle.catalog_types.specs.Lists.{Pairwise}
-use Rattle.catalog_types.specs.Parts.{IsProjColumn, IsProjection, takes_kind}
+use Rattle.catalog_types.specs.Parts.{FitsColumn, IsProjColumn, IsProjection, takes_kind}
 use Rattle.catalog_types.specs.Valid.{IsValid}
 use Rattle.db_model.specs.Numbers.{most_drawn}
 use Rattle.stored_rows.specs.Stored.{Projected}
@@ -84,7 +84,7 @@ columns_below columns (k ∷ ks) all q found = by (eqb q k.ordinal) refl (column
     by : (b : Bool) → eqb q k.ordinal ≡ b → (list_any (eqb q) (map (λ l. l.ordinal) ks) ≡ true → q < length columns) → (b || list_any (eqb q) (map (λ l. l.ordinal) ks)) ≡ true → q < length columns
     by true is behind there =
         let same : q ≡ k.ordinal = eqb-true q k.ordinal is in
-        let within : k.ordinal < length columns = place_within columns k.ordinal (λ column. takes_kind k.encoding column.kind ≡ true) (All-head (IsProjColumn columns) k ks all) in
+        let within : k.ordinal < length columns = place_within columns k.ordinal (λ column. (takes_kind k.encoding column.kind ≡ true) × IfSome k.default (FitsColumn column)) (All-head (IsProjColumn columns) k ks all) in
         omega arith
     by false is behind there = behind there
 
