@@ -15,14 +15,15 @@ use Rattle.sql_bound.specs.declared.query.Aggregate.{Aggregate}
 use Rattle.sql_bound.specs.declared.query.BoundQuery.{BoundQuery}
 use Rattle.sql_bound.specs.declared.query.BoundWindow.{BoundWindow}
 use Rattle.sql_bound.specs.Bounds.{bound_of_aggregate, bound_of_value, column_bound, is_narrow, magnitude, result_bound}
-use Rattle.sql_bound.specs.Outputs.{aggregate_over, in_frame, in_partition, is_numbered_before, number_or_zero, size_of, stands_before, values_over, window_over, window_scope, window_value, IsGreatSum}
-use Rattle.sql_bound.specs.Values.{is_null, of_row, value_of}
+use Rattle.sql_bound.specs.Outputs.{aggregate_over, in_frame, in_partition, is_numbered_before, number_or_zero, size_of, stands_before, values_over, window_over, window_scope, window_scopes, window_value, IsGreatSum}
+use Rattle.sql_bound.specs.Values.{Scope, is_null, of_row, value_of}
 use Rattle.exec_window.specs.Partitions.{HasGreatPartition}
 use Rattle.query_laws.proofs.AtMost.{aggregate_at_most}
 use Rattle.query_laws.proofs.Great.{size_sum}
 use Rattle.query_laws.proofs.NarrowLess.{less}
 use Rattle.query_laws.specs.Bounded.{bound_beside, window_bound}
-use Rattle.query_run.specs.Windows.{HasGreatWindow, column_of}
+use Rattle.query_run.specs.Outputs.{items_in}
+use Rattle.query_run.specs.Windows.{AreBeside, AreColumns, HasGreatWindow, column_of}
 
 -- what a row adds to the magnitudes of an argument's values
 adds : Expr → List Value → ℕ
@@ -143,3 +144,43 @@ values_beside rows i h [] = refl
 values_beside rows i h (p ∷ ps) =
     let none : 0 + i ≡ i = omega arith in
     ap₂ (λ (v : Wide) (vs : List Wide). v ∷ vs) (cell_at rows (λ t. window_value rows t p) 0 i rows h ∙ ap (λ (m : ℕ). window_value rows (m, get_or rows i []) p) none) (values_beside rows i h ps)
+
+enumerated : (n i : ℕ) (rest : List (List Value)) (d : ℕ × List Value) → i < length rest → get_or (enumerate_from n rest) i d ≡ (n + i, get_or rest i [])
+enumerated n i [] d h = absurd (omega arith)
+enumerated n zero (row ∷ rest) d h = let same : n ≡ n + 0 = omega arith in ap (λ (m : ℕ). (m, row)) same
+enumerated n (suc i) (row ∷ rest) d h =
+    let same : (n + 1) + i ≡ n + suc i = omega arith in
+    enumerated (n + 1) i rest d (omega arith) ∙ ap (λ (m : ℕ). (m, get_or rest i [])) same
+
+pub row_at_place : (rows : List (List Value)) (i : ℕ) (d : ℕ × List Value) → i < length rows → get_or (enumerate_from 0 rows) i d ≡ (i, get_or rows i [])
+row_at_place rows i d h =
+    let none : 0 + i ≡ i = omega arith in
+    enumerated 0 i rows d h ∙ ap (λ (m : ℕ). (m, get_or rows i [])) none
+
+pub inside_enumerated : (rows : List (List Value)) (i : ℕ) → i < length rows → i < length (enumerate_from 0 rows)
+inside_enumerated rows i h = omega (arith, long_enumerated 0 rows)
+
+pub past_enumerated : (rows : List (List Value)) (i : ℕ) → length rows ≤ i → length (enumerate_from 0 rows) ≤ i
+past_enumerated rows i h = omega (arith, long_enumerated 0 rows)
+
+-- ---- a row as the items see it
+
+pub scope_beside : (q : BoundQuery) (rows : List (List Value)) (i : ℕ) (row : List Value) (values : List Wide) (columns : List (List Wide)) (s : Scope) → i < length rows → row ≡ get_or rows i [] → values ≡ map (λ c. get_or c i wide.Null) columns
+    → AreColumns q rows columns → (let made : Scope = record { row = row; keys = []; aggs = values } in s ≡ made) → s ≡ window_scope q rows (i, get_or rows i [])
+scope_beside q rows i row values columns s h is are all same =
+    same
+    ∙ ap₂ (λ (r : List Value) (ws : List Wide). let made : Scope = record { row = r; keys = []; aggs = ws } in made) is
+    (are ∙ ap (map (λ (c : List Wide). get_or c i wide.Null)) all ∙ values_beside rows i h (zip q.windows q.aggs))
+
+pub row_narrow : (q : BoundQuery) (rows : List (List Value)) (columns : List (List Wide)) → AreBeside q rows columns → (i : ℕ) → i < length rows
+    → All (λ e. is_narrow (map bound_of_value (window_scope q rows (i, get_or rows i [])).aggs) e ≡ true) q.items
+row_narrow q rows columns beside i h =
+    let d : ℕ × List Value = (0, []) in
+    subst (λ (t : ℕ × List Value). All (λ e. is_narrow (map bound_of_value (window_scope q rows t).aggs) e ≡ true) q.items) (row_at_place rows i d h) (beside.narrow i d (inside_enumerated rows i h))
+
+twice_mapped : {X Y Z : Type 0} (f : X → Y) (g : Y → Z) (xs : List X) → map (λ x. g (f x)) xs ≡ map g (map f xs)
+twice_mapped f g [] = refl
+twice_mapped {X} {Y} {Z} f g (x ∷ xs) = ap (λ (l : List Z). g (f x) ∷ l) (twice_mapped f g xs)
+
+pub all_beside : (q : BoundQuery) (rows : List (List Value)) → map (λ t. items_in q (window_scope q rows t)) (enumerate_from 0 rows) ≡ map (items_in q) (window_scopes q rows)
+all_beside q rows = twice_mapped (window_scope q rows) (items_in q) (enumerate_from 0 rows)

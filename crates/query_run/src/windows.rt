@@ -1,6 +1,6 @@
 //! The output rows of a query with windows.
 
-ghost use Rattle.std.specs.Prelude.{◌≡◌, ◌<◌, map, length, IfOk, OnOk, IsErrOf};
+ghost use Rattle.std.specs.Prelude.{◌≡◌, ◌<◌, false, map, length, IfOk, OnOk, IsErrOf};
 ghost use Rattle.std.specs.List.{All};
 ghost use Rattle.col_value.specs.Order.{IsRow};
 ghost use Rattle.col_value.specs.declared.wide.Wide.TheVariants.{Null};
@@ -90,6 +90,7 @@ pub fn of_windows(
     rows: &[Row],
 ) -> Result<Vec<WideRow>, QueryFault>
     requires bounded { IsBoundedQuery query.now }
+    requires plain { query.now.grouped ≡ false }
     requires rows { All IsRow rows.now }
     requires few { length rows.now < column_bound }
     ensures rows { IfOk result (λ v. v.items ≡ map (items_in query.now) (window_scopes query.now rows.now)) }

@@ -1,12 +1,13 @@
 -- Whether a sum is too great is decided.
 use Rattle.std.proofs.Common.{◌≡◌, ◌<◌, ℕ, zero, suc, inl, inr, Bool, true, false, List, [], ◌∷◌, refl, subst, sym, arith}
-use Rattle.std.specs.Prelude.{◌⊎◌, Contains}
+use Rattle.std.specs.Prelude.{◌⊎◌, Contains, filter, zip}
 use Rattle.col_value.specs.declared.value.Value.{Value}
 use Rattle.sql_tree.specs.declared.tree.AggKind.{AggKind}
 use Rattle.sql_bound.specs.declared.query.Aggregate.{Aggregate}
 use Rattle.sql_bound.specs.declared.query.BoundQuery.{BoundQuery}
+use Rattle.sql_bound.specs.declared.query.BoundWindow.{BoundWindow}
 use Rattle.sql_bound.specs.Bounds.{result_bound}
-use Rattle.sql_bound.specs.Outputs.{group_keys, kept, members, size_of, values_over, IsGreatSum, IsSumTooGreat}
+use Rattle.sql_bound.specs.Outputs.{group_keys, in_partition, kept, members, seen_rows, size_of, values_over, HasGreatGroup, HasGreatPartition, IsGreatSum, IsSumTooGreat}
 
 abbrev pub Decided : Type 0 → Type 0
 Decided P = P ⊎ (P → ⊥)
@@ -28,6 +29,19 @@ less_decided (suc m) (suc n) = decided_as (m < n) (suc m < suc n) (λ h. omega (
 pub true_decided : (b : Bool) → Decided (b ≡ true)
 true_decided true = inl refl
 true_decided false = inr (λ h. cc)
+
+false_decided : (b : Bool) → Decided (b ≡ false)
+false_decided false = inl refl
+false_decided true = inr (λ h. cc)
+
+either_decided : (P Q : Type 0) → Decided P → Decided Q → Decided (P ⊎ Q)
+either_decided P Q (inl p) other = inl (inl p)
+either_decided P Q (inr never) (inl q) = inl (inr q)
+either_decided P Q (inr never) (inr neither) = inr (neither_of never neither)
+  where
+    neither_of : (P → ⊥) → (Q → ⊥) → P ⊎ Q → ⊥
+    neither_of first second (inl p) = first p
+    neither_of first second (inr q) = second q
 
 -- ---- some element of a list
 
@@ -71,13 +85,32 @@ InGroup q inputs group = Some_of (IsGreatSum (members q.keys group (kept q input
 group_decided : (q : BoundQuery) (inputs : List (List (List Value))) (group : List Value) → Decided (InGroup q inputs group)
 group_decided q inputs group = some_decided (IsGreatSum (members q.keys group (kept q inputs))) (great_decided (members q.keys group (kept q inputs))) q.aggs
 
-to_sum : (q : BoundQuery) (inputs : List (List (List Value))) → (q.grouped ≡ true) × Some_of (InGroup q inputs) (group_keys q.keys (kept q inputs)) → IsSumTooGreat q inputs
-to_sum q inputs (grouped, (group, there, (a, own, great))) = (grouped, group, a, there, own, great)
+to_group : (q : BoundQuery) (inputs : List (List (List Value))) → (q.grouped ≡ true) × Some_of (InGroup q inputs) (group_keys q.keys (kept q inputs)) → HasGreatGroup q (kept q inputs)
+to_group q inputs (grouped, (group, there, (a, own, great))) = (grouped, group, a, there, own, great)
 
-from_sum : (q : BoundQuery) (inputs : List (List (List Value))) → IsSumTooGreat q inputs → (q.grouped ≡ true) × Some_of (InGroup q inputs) (group_keys q.keys (kept q inputs))
-from_sum q inputs (grouped, group, a, there, own, great) = (grouped, (group, there, (a, own, great)))
+from_group : (q : BoundQuery) (inputs : List (List (List Value))) → HasGreatGroup q (kept q inputs) → (q.grouped ≡ true) × Some_of (InGroup q inputs) (group_keys q.keys (kept q inputs))
+from_group q inputs (grouped, group, a, there, own, great) = (grouped, (group, there, (a, own, great)))
+
+-- or in a partition of a window
+abbrev InPartition : BoundQuery → List (List (List Value)) → BoundWindow × Aggregate → List Value → Type 0
+InPartition q inputs p row = IsGreatSum (filter (in_partition p.0 row) (seen_rows q (kept q inputs))) p.1
+
+abbrev InWindow : BoundQuery → List (List (List Value)) → BoundWindow × Aggregate → Type 0
+InWindow q inputs p = Some_of (InPartition q inputs p) (seen_rows q (kept q inputs))
+
+window_decided : (q : BoundQuery) (inputs : List (List (List Value))) (p : BoundWindow × Aggregate) → Decided (InWindow q inputs p)
+window_decided q inputs p = some_decided (InPartition q inputs p) (λ row. great_decided (filter (in_partition p.0 row) (seen_rows q (kept q inputs))) p.1) (seen_rows q (kept q inputs))
+
+to_window : (q : BoundQuery) (inputs : List (List (List Value))) → (q.grouped ≡ false) × Some_of (InWindow q inputs) (zip q.windows q.aggs) → HasGreatPartition q (kept q inputs)
+to_window q inputs (plain, (p, there, (row, inside, great))) = (plain, p, row, there, inside, great)
+
+from_window : (q : BoundQuery) (inputs : List (List (List Value))) → HasGreatPartition q (kept q inputs) → (q.grouped ≡ false) × Some_of (InWindow q inputs) (zip q.windows q.aggs)
+from_window q inputs (plain, p, row, there, inside, great) = (plain, (p, there, (row, inside, great)))
 
 pub sum_decided : (q : BoundQuery) (inputs : List (List (List Value))) → Decided (IsSumTooGreat q inputs)
 sum_decided q inputs =
-    decided_as ((q.grouped ≡ true) × Some_of (InGroup q inputs) (group_keys q.keys (kept q inputs))) (IsSumTooGreat q inputs) (to_sum q inputs) (from_sum q inputs)
-    (both_decided (q.grouped ≡ true) (Some_of (InGroup q inputs) (group_keys q.keys (kept q inputs))) (true_decided q.grouped) (some_decided (InGroup q inputs) (group_decided q inputs) (group_keys q.keys (kept q inputs))))
+    either_decided (HasGreatGroup q (kept q inputs)) (HasGreatPartition q (kept q inputs))
+    (decided_as ((q.grouped ≡ true) × Some_of (InGroup q inputs) (group_keys q.keys (kept q inputs))) (HasGreatGroup q (kept q inputs)) (to_group q inputs) (from_group q inputs)
+    (both_decided (q.grouped ≡ true) (Some_of (InGroup q inputs) (group_keys q.keys (kept q inputs))) (true_decided q.grouped) (some_decided (InGroup q inputs) (group_decided q inputs) (group_keys q.keys (kept q inputs)))))
+    (decided_as ((q.grouped ≡ false) × Some_of (InWindow q inputs) (zip q.windows q.aggs)) (HasGreatPartition q (kept q inputs)) (to_window q inputs) (from_window q inputs)
+    (both_decided (q.grouped ≡ false) (Some_of (InWindow q inputs) (zip q.windows q.aggs)) (false_decided q.grouped) (some_decided (InWindow q inputs) (window_decided q inputs) (zip q.windows q.aggs))))

@@ -1,10 +1,15 @@
-use Rattle.std.proofs.Common.{◌∙◌, Err, ap, arith, refl, subst, sym}
+use Rattle.std.proofs.Common.{◌∙◌, Err, List, ap, arith, map, refl, subst, sym}
+use Rattle.std.proofs.lemmas.Result.{IfOk-weaker}
+use Rattle.std.specs.List.{All}
+use Rattle.col_value.specs.Order.{IsRow}
+use Rattle.col_value.specs.declared.value.Value.{Value}
 use Rattle.query_laws.proofs.TupleRows.{kept_are_rows}
-use Rattle.sql_bound.specs.Outputs.{kept, output}
+use Rattle.sql_bound.specs.Outputs.{kept, output, window_scopes}
 use Rattle.query_order.specs.Enough.{IsEnough}
 use Rattle.query_order.proofs.Enough.{enough_itself}
 use Rattle.exec_group.specs.Groups.{HoldsGroups}
-use Rattle.query_run.proofs.Scopes.{groups_fit, groups_great, groups_put_out, held_few, scopes_fit}
+use Rattle.query_run.specs.Outputs.{items_in, IsWindowed}
+use Rattle.query_run.proofs.Scopes.{groups_fit, groups_great, groups_put_out, held_few, scopes_fit, seen_are_rows, windows_put_out}
 use Rattle.query_run.proofs.output.output.Goals as goal
 
 pub of_groups-requires-clause-groups : goal.of_groups-requires-clause-groups
@@ -34,3 +39,19 @@ pub returns-in-Err-SumOutOfRange-clause-great : goal.returns-in-Err-SumOutOfRang
 returns-in-Err-SumOutOfRange-clause-great c = λ failed inputs has.
     let q = c.args.query.now in
     groups_great q inputs c.if-not-query.false (c.in-Err-SumOutOfRange.ensures.great (ap Err c.in-Err-SumOutOfRange.field-0-is) q (kept q inputs) (has.held.groups c.if-not-query.false))
+
+pub of_windows-requires-clause-rows : goal.of_windows-requires-clause-rows
+of_windows-requires-clause-rows c =
+    let q = c.args.query.now in
+    let (inputs, has) = c.requires.some in
+    let is : IsWindowed q = record { rows = c.if-not-query.true; windows = c.has_windows.ensures.some c.if-has_windows.true } in
+    subst (All IsRow) (sym c.as_slice.ensures.value) (seen_are_rows q inputs c.args.collected is (kept_are_rows q.keep inputs (kept q inputs) refl has.rows) has.held)
+
+pub returns-then-has_windows-clause-rows : goal.returns-then-has_windows-clause-rows
+returns-then-has_windows-clause-rows c =
+    let q = c.args.query.now in
+    let is : IsWindowed q = record { rows = c.if-not-query.true; windows = c.has_windows.ensures.some c.if-has_windows.true } in
+    IfOk-weaker c.of_windows.result _ _ (λ v made inputs has.
+    subst (IsEnough q.order q.limit (output q inputs))
+    (sym (made ∙ ap (λ (seen : List (List Value)). map (items_in q) (window_scopes q seen)) c.as_slice.ensures.value ∙ windows_put_out q inputs c.args.collected is has.held))
+    (enough_itself q.order q.limit (output q inputs))) c.of_windows.ensures.rows
