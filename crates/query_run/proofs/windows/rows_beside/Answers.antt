@@ -1,5 +1,6 @@
 use Rattle.std.proofs.Common.{◌≡◌, ◌≤◌, ◌<◌, ◌∙◌, ℕ, true, List, [], ap₂, get_or, length, map, rules, subst, sym}
 use Rattle.std.specs.List.{All, enumerate_from}
+use Rattle.std.proofs.lemmas.List.{get_or_default}
 use Rattle.col_value.specs.declared.value.Value.{Value}
 use Rattle.sql_bound.specs.declared.expr.Expr.{Expr}
 use Rattle.sql_bound.specs.Bounds.{bound_of_value, is_narrow}
@@ -16,7 +17,8 @@ items_at-requires-clause-narrow c =
     let rows = c.args.rows.now in
     let i = c.loop-i.i in
     let h : i < length rows = search rules in
-    let row : c.as_slice-in-loop-i.result.now ≡ get_or rows i [] = search rules in
+    let own : c.as_slice-in-loop-i.result.now ≡ get_or rows i c.as_slice-in-loop-i.result.now = search rules in
+    let row = own ∙ get_or_default rows i c.as_slice-in-loop-i.result.now [] h in
     let here = scope_beside q rows i c.as_slice-in-loop-i.result.now c.as_slice-in-loop-i-2.result.now c.args.columns.now c.of_tuple.result h row
     (c.as_slice-in-loop-i-2.ensures.value ∙ c.in_ok-values.ensures) c.requires.beside.columns c.of_tuple.ensures in
     subst (λ (s : Scope). All (λ e. is_narrow (map bound_of_value s.aggs) e ≡ true) c.as_slice.result.now) (sym here)
@@ -28,7 +30,8 @@ loop-i-preserved c =
     let rows = c.args.rows.now in
     let i = c.loop-i.i in
     let h : i < length rows = search rules in
-    let row : c.as_slice-in-loop-i.result.now ≡ get_or rows i [] = search rules in
+    let own : c.as_slice-in-loop-i.result.now ≡ get_or rows i c.as_slice-in-loop-i.result.now = search rules in
+    let row = own ∙ get_or_default rows i c.as_slice-in-loop-i.result.now [] h in
     let here = scope_beside q rows i c.as_slice-in-loop-i.result.now c.as_slice-in-loop-i-2.result.now c.args.columns.now c.of_tuple.result h row
     (c.as_slice-in-loop-i-2.ensures.value ∙ c.in_ok-values.ensures) c.requires.beside.columns c.of_tuple.ensures in
     let t : ℕ × List Value = (i, get_or rows i []) in
