@@ -48,6 +48,12 @@ returns-in-Ok-finish-clause-in_range g c = λ d can great.
     c.in-Ok-finish.ensures.in_range seen.1 enough.came enough.taken
     (not_great_less q enough.came enough.passed seen.0 seen.1 enough.parts enough.out (not_great_seen q (seen.0 ∷ seen.1) (source_rows c.args.at d c.args.changes.now q) seen.2 great))
 
+pub returns-in-Ok-clause-in_range : goal.returns-in-Ok-clause-in_range
+returns-in-Ok-clause-in_range g c = λ d can great.
+    let q = c.args.query.now in
+    let none = nothing_read c.args.at d c.args.changes.now q c.as_slice.result.now c.as_slice.ensures c.in_default.ensures.cases in
+    c.in-Ok.ensures.in_range (subst (λ (inputs : List (List (List Value))). IsSumTooGreat q inputs) none great)
+
 pub returns-in-Err-clause-great : goal.returns-in-Err-clause-great
 returns-in-Err-clause-great g c = λ is d can.
     let q = c.args.query.now in
