@@ -34,11 +34,7 @@ fn is_typed_over(alloc: Global, columns: &[Kind], query: &BoundQuery) -> Result<
     }
 }
 
-fn is_typed_tuples(
-    alloc: Global,
-    columns: &[Kind],
-    query: &BoundQuery,
-) -> Result<bool, AllocError>
+fn is_typed_tuples(alloc: Global, columns: &[Kind], query: &BoundQuery) -> Result<bool, AllocError>
     ensures { IfOk result (λ t. t ≡ is_typed_in (over_columns columns.now) (tuple_kinds (over_columns columns.now) query.now) query.now) }
 {
     let rows = Places::new(columns, &[], &[]);

@@ -44,11 +44,7 @@ fn item_windows(
     Ok(out)
 }
 
-fn bind_window(
-    alloc: Global,
-    scope: Scope<'_>,
-    window: &Window,
-) -> Result<BoundWindow, AllocError>
+fn bind_window(alloc: Global, scope: Scope<'_>, window: &Window) -> Result<BoundWindow, AllocError>
     ensures { IfOk result (λ w. w ≡ bound_window (scope_of scope.entry) window.now) }
 {
     let partition = bind_columns(alloc, scope, window.partition.as_slice())?;
@@ -133,11 +129,7 @@ fn window_aggregate(
     })
 }
 
-fn bind_arg(
-    alloc: Global,
-    scope: Scope<'_>,
-    arg: &Option<Tree>,
-) -> Result<Option<Expr>, AllocError>
+fn bind_arg(alloc: Global, scope: Scope<'_>, arg: &Option<Tree>) -> Result<Option<Expr>, AllocError>
     ensures { IfOk result (λ e. e ≡ option_map (λ tree. (bound (scope_of scope.entry) tree).row) arg.now) }
 {
     match arg {

@@ -1,4 +1,4 @@
-use Rattle.std.proofs.Common.{ap, ap₂, ◌∙◌, List, [], map}
+use Rattle.std.proofs.Common.{ap, ap₂, ◌∙◌, List, map}
 use Rattle.sql_bound.specs.declared.expr.Kind.{Kind}
 use Rattle.sql_bound.specs.declared.query.Aggregate.{Aggregate}
 use Rattle.sql_bound.specs.Kinds.{Kinds, kind_of_aggregate}

@@ -1,4 +1,4 @@
-use Rattle.std.proofs.Common.{◌≡◌, ◌<◌, ◌+◌, refl, arith}
+use Rattle.std.proofs.Common.{◌<◌, ◌+◌, refl, arith}
 use Rattle.sql_bound.specs.Bounds.{column_bound}
 use Rattle.query_run.specs.Outputs.{IsPlain}
 use Rattle.query_run.proofs.Bars.{held_barred}
