@@ -6,8 +6,10 @@ use Rattle.std.specs.List.{list_any, slice_set, enumerate_from}
 use Rattle.std.specs.Option.{option_map_or}
 use Rattle.col_value.specs.declared.value.Value.{Value}
 use Rattle.col_value.specs.declared.row.Asked.{Asked}
+use Rattle.col_value.specs.declared.row.Stamped.{Stamped}
 use Rattle.col_value.specs.declared.column.Column.{Column}
 use Rattle.col_value.specs.declared.kinds.Encoding.{Encoding}
+use Rattle.sql_tree.specs.declared.statement.AddColumn.{AddColumn}
 use Rattle.sql_tree.specs.declared.statement.Delete.{Delete}
 use Rattle.sql_tree.specs.declared.statement.Update.{Update}
 use Rattle.sql_tree.specs.declared.statement.NewProjection.{NewProjection}
@@ -15,12 +17,14 @@ use Rattle.sql_bound.specs.declared.expr.Expr.{Expr}
 use Rattle.sql_bound.specs.Values.{of_row, value_of}
 use Rattle.sql_bound.specs.Outputs.{is_kept}
 use Rattle.sql_binding.specs.Inserts.{narrowed}
+use Rattle.sql_binding.specs.Additions.{default_value}
 use Rattle.sql_binding.specs.Changes.{bound_delete, bound_update}
 use Rattle.sql_binding.specs.Projections.{bound_projection}
 use Rattle.row_history.specs.History.{retained}
-use Rattle.db_model.specs.Database.{Shape, Table, super_name, put_table}
+use Rattle.db_model.specs.Database.{Shape, Table, super_name, put_table, ordinals, has_columns}
 use Rattle.db_model.specs.State.{State, Changes, own_changes, with_changes, with_rows, pending_rows, has_changes, committed, change_named}
 use Rattle.db_model.specs.Views.{table_found, committed_view}
+use Rattle.db_model.specs.Epochs.{all_shapes}
 
 -- the projection that CREATE TABLE makes: all columns in order, sorted by all, each block in its shortest encoding
 abbrev pub first_shape : List ℕ → List Column → ℕ → Shape
@@ -87,6 +91,27 @@ without_shape name t = record t { shapes = filter (λ s. is_not_named name s.nam
 
 abbrev pub projection_dropped : List ℕ → State → State
 projection_dropped name state = record (with_tables (map (without_shape name) state.database.tables) state) { asked = filter (is_not_named name) state.asked; busy = 0 }
+
+-- ALTER TABLE .. ADD COLUMN: the column becomes the table's last, and each row has the default in it, at every epoch. Each projection that
+-- had all columns of the table gets it as its last, each block in its shortest encoding, and is sorted as it was. The mover's job is given up.
+abbrev pub with_value : Value → Stamped → Stamped
+with_value v s = record s { row = s.row ++ v ∷ [] }
+
+abbrev pub with_column : Table → Shape → Shape
+with_column t s = if has_columns s (ordinals t) then record s { columns = s.columns ++ (length t.columns, Encoding.Auto) ∷ [] } else s
+
+abbrev pub widened : Column → Value → Table → Table
+widened c v t = record t { columns = t.columns ++ c ∷ []; rows = map (with_value v) t.rows; shapes = map (with_column t) t.shapes }
+
+abbrev pub column_added : AddColumn → State → State
+column_added a state = record (with_tables (change_named a.table (widened a.column (default_value a)) state.database.tables) state) { busy = 0 }
+
+-- START_REFRESH: the mover is asked for all projections that aren't up to date
+abbrev pub stale_names : List Shape → List (List ℕ)
+stale_names shapes = map (λ s. s.name) (filter (λ s. not s.fresh) shapes)
+
+abbrev pub refresh_started : State → State
+refresh_started state = record state { asked = stale_names (all_shapes state.database.tables) }
 
 -- MAKE_AHM_NOW and SET_AHM_EPOCH: the ancient history mark rises
 abbrev pub mark_raised : ℕ → State → State

@@ -8,9 +8,9 @@ use Rattle.db_model.specs.State.{State}
 use Rattle.db_model.specs.Views.{table_found}
 use Rattle.db_model.specs.Epochs.{last_good, rises}
 use Rattle.db_model.specs.Numbers.{IsDrawn}
-use Rattle.db_model.specs.Events.{table_created, projection_created, table_dropped, projection_dropped, mark_raised, rows_pending, on_table, rows_deleted, rows_updated, rows_loaded, changes_committed, changes_dropped}
+use Rattle.db_model.specs.Events.{table_created, projection_created, table_dropped, projection_dropped, is_of_table, column_added, refresh_started, mark_raised, rows_pending, on_table, rows_deleted, rows_updated, rows_loaded, changes_committed, changes_dropped}
 use Rattle.db_model.specs.Loading.{Files, Load, Loads}
-use Rattle.db_model.specs.Mover.{MovesAll, MoverSteps}
+use Rattle.db_model.specs.Mover.{MovesAll, RaisesAll, RefreshesAll, MoverSteps}
 
 -- COPY loads the rows of its file
 abbrev pub LoadLeaves : State → ℕ × Table → List ℕ → State → Type 0
@@ -26,7 +26,7 @@ abbrev pub MarkLeaves : Bool → ℕ → State → State → Type 0
 MarkLeaves true mark state new = IsDrawn state (mark_raised mark state) new
 MarkLeaves false mark state new = new ≡ state
 
--- the functions that are defined so far
+-- what each function leaves
 abbrev pub CallLeaves : State → Function → State → Type 0
 CallLeaves state Function.Lge new = new ≡ state
 CallLeaves state Function.Ahm new = new ≡ state
@@ -34,10 +34,10 @@ CallLeaves state Function.Current new = new ≡ state
 CallLeaves state Function.MakeAhmNow new = MarkLeaves (rises (last_good state.database) state.database) (last_good state.database) state new
 CallLeaves state (Function.SetAhm n) new = MarkLeaves (rises n state.database) n state new
 CallLeaves state Function.Moveout new = MovesAll state false new
-CallLeaves state Function.Mergeout new = ⊥
-CallLeaves state (Function.Purge table) new = ⊥
-CallLeaves state (Function.Refresh table) new = ⊥
-CallLeaves state Function.StartRefresh new = ⊥
+CallLeaves state Function.Mergeout new = RaisesAll (λ s. true) state false new
+CallLeaves state (Function.Purge table) new = RaisesAll (λ s. is_of_table table state.database.tables s.name) state false new
+CallLeaves state (Function.Refresh table) new = RefreshesAll table state false new
+CallLeaves state Function.StartRefresh new = new ≡ refresh_started state
 
 -- what a statement leaves that isn't refused
 abbrev pub Leaves : State → Files → Statement → State → Type 0
@@ -48,7 +48,7 @@ Leaves state files (Statement.DropProjection name) new = IsDrawn state (projecti
 Leaves state files (Statement.Insert i) new = new ≡ rows_pending i.table (inserted_rows i) state
 Leaves state files (Statement.Delete d) new = new ≡ on_table d.table (rows_deleted d state) state
 Leaves state files (Statement.Update u) new = new ≡ on_table u.table (rows_updated u state) state
-Leaves state files (Statement.AddColumn a) new = ⊥
+Leaves state files (Statement.AddColumn a) new = IsDrawn state (column_added a state) new
 Leaves state files (Statement.Copy table file) new = CopyLeaves state (table_found table state.database.tables) (files file) new
 Leaves state files Statement.Commit new = new ≡ changes_committed state
 Leaves state files Statement.Rollback new = new ≡ changes_dropped state
@@ -58,7 +58,7 @@ Leaves state files (Statement.Call f) new = CallLeaves state f new
 Leaves state files (Statement.Session n) new = new ≡ record state { current = n }
 Leaves state files Statement.Step new = MoverSteps state new
 
--- What a refused statement leaves: nothing changes. A moveout of all alone keeps what it moved before the numbers were spent.
+-- What a refused statement leaves: nothing changes. Functions with jobs alone keep those that came before the numbers were spent.
 abbrev pub RefusedCallLeaves : State → Function → State → Type 0
 RefusedCallLeaves state Function.Lge new = new ≡ state
 RefusedCallLeaves state Function.Ahm new = new ≡ state
@@ -66,9 +66,9 @@ RefusedCallLeaves state Function.Current new = new ≡ state
 RefusedCallLeaves state Function.MakeAhmNow new = new ≡ state
 RefusedCallLeaves state (Function.SetAhm n) new = new ≡ state
 RefusedCallLeaves state Function.Moveout new = (new ≡ state) ⊎ MovesAll state true new
-RefusedCallLeaves state Function.Mergeout new = new ≡ state
-RefusedCallLeaves state (Function.Purge table) new = new ≡ state
-RefusedCallLeaves state (Function.Refresh table) new = new ≡ state
+RefusedCallLeaves state Function.Mergeout new = (new ≡ state) ⊎ RaisesAll (λ s. true) state true new
+RefusedCallLeaves state (Function.Purge table) new = (new ≡ state) ⊎ RaisesAll (λ s. is_of_table table state.database.tables s.name) state true new
+RefusedCallLeaves state (Function.Refresh table) new = (new ≡ state) ⊎ RefreshesAll table state true new
 RefusedCallLeaves state Function.StartRefresh new = new ≡ state
 
 abbrev pub RefusedLeaves : State → Statement → State → Type 0

@@ -1,12 +1,14 @@
 -- What the tuple mover makes of a state: no row changes, but what is on disk.
-use Rattle.std.specs.Prelude.{ℕ, zero, suc, ◌≡◌, ◌⊎◌, ◌≤◌, ◌-◌, ◌==◌, not, nat_lt, if◌then◌else◌, Bool, true, false, List, [], map, filter, find, length, Contains, Option, Some, None, bytes_eq}
+use Rattle.std.specs.Prelude.{ℕ, zero, suc, ◌≡◌, ◌⊎◌, ◌≤◌, ◌-◌, ◌==◌, not, nat_lt, if◌then◌else◌, Bool, true, false, List, [], ◌∷◌, map, filter, find, length, Contains, Option, Some, None, bytes_eq}
 use Rattle.std.specs.List.{list_all}
+use Rattle.std.specs.Option.{option_map_or}
 use Rattle.std.specs.Ordering.{is_lt, nat_cmp, on, then_cmp}
 use Rattle.std.specs.Cmp.Lexicographic.{slice_cmp}
-use Rattle.db_model.specs.Database.{Shape, Table, Database, is_behind}
+use Rattle.db_model.specs.Database.{Shape, Table, Database, table_named, is_behind}
 use Rattle.db_model.specs.State.{State}
 use Rattle.db_model.specs.Epochs.{all_shapes}
 use Rattle.db_model.specs.Numbers.{are_spent, DrawsWithin, IsDrawn}
+use Rattle.db_model.specs.Events.{stale_names}
 
 -- the projection of a name changed
 abbrev pub change_shape : List ℕ → (Shape → Shape) → Shape → Shape
@@ -42,12 +44,16 @@ abbrev pub MovesFirst : Option Shape → State → State → Type 0
 MovesFirst None old new = ⊥
 MovesFirst (Some s) old new = IsDrawn old (moved_one s old) new
 
--- So many moveouts, one after the other, up to one that would draw where the numbers are spent: there they stop.
-abbrev pub MovesOut : ℕ → State → Bool → State → Type 0
-MovesOut zero old stopped new = (stopped ≡ false) × (new ≡ old)
-MovesOut (suc n) old stopped new =
+-- So many jobs of a statement, one after the other, up to one that would draw where the numbers are spent: there they stop.
+abbrev pub Jobs : (State → State → Type 0) → ℕ → State → Bool → State → Type 0
+Jobs Job zero old stopped new = (stopped ≡ false) × (new ≡ old)
+Jobs Job (suc n) old stopped new =
     ((are_spent old ≡ true) × (stopped ≡ true) × (new ≡ old))
-    ⊎ ((are_spent old ≡ false) × (mid : State) × MovesFirst (first_behind old.database) old mid × MovesOut n mid stopped new)
+    ⊎ ((are_spent old ≡ false) × (mid : State) × Job old mid × Jobs Job n mid stopped new)
+
+-- so many moveouts
+abbrev pub MovesOut : ℕ → State → Bool → State → Type 0
+MovesOut n old stopped new = Jobs (λ one other. MovesFirst (first_behind one.database) one other) n old stopped new
 
 -- the mover's job is given up
 abbrev pub given_up : State → State
@@ -74,6 +80,28 @@ refreshed name state = record state {
   database = with_change name (reached_to state.database.last) state.database;
   asked = filter (λ n. not (bytes_eq n name)) state.asked;
 }
+
+-- Jobs of a statement that each raise the epoch up to which one of these projections is on disk. How many there are, the containers
+-- decide.
+abbrev pub RaisesOne : (Shape → Bool) → State → State → Type 0
+RaisesOne meant old new = (d : Database) × (r : Rises old.database d) × (meant r.shape ≡ true) × IsDrawn old (record old { database = d }) new
+
+pub record RaisesAll (meant : Shape → Bool) (old : State) (stopped : Bool) (new : State) : Type 0 where
+  pub count : ℕ
+  pub jobs : Jobs (RaisesOne meant) count (given_up old) stopped new
+  pub drawn : DrawsWithin old new
+
+-- Jobs of a statement that make the projections of a table up to date that aren't, each in its turn.
+abbrev pub stale_of : List ℕ → Database → List (List ℕ)
+stale_of table d = stale_names (option_map_or (λ t. t.shapes) (table_named table d.tables) [])
+
+abbrev pub RefreshesFirst : List (List ℕ) → State → State → Type 0
+RefreshesFirst [] old new = ⊥
+RefreshesFirst (name ∷ names) old new = IsDrawn old (refreshed name old) new
+
+pub record RefreshesAll (table : List ℕ) (old : State) (stopped : Bool) (new : State) : Type 0 where
+  pub jobs : Jobs (λ one other. RefreshesFirst (stale_of table one.database) one other) (length (stale_of table old.database)) (given_up old) stopped new
+  pub drawn : DrawsWithin old new
 
 -- what a job makes of a state besides its numbers
 abbrev pub Installs : State → State → Type 0

@@ -63,7 +63,7 @@ CopyPrints state None held text = ⊥
 CopyPrints state (Some e) None text = ⊥
 CopyPrints state (Some e) (Some bytes) text = LoadPrints state e bytes text
 
--- the functions that are defined so far
+-- what each function prints
 abbrev pub CallPrints : State → Function → List ℕ → Type 0
 CallPrints state Function.Lge text = text ≡ counted_line (codes "LGE ") (last_good state.database)
 CallPrints state Function.Ahm text = text ≡ counted_line (codes "AHM ") state.database.ahm
@@ -71,10 +71,10 @@ CallPrints state Function.Current text = text ≡ epoch_line (state.database.las
 CallPrints state Function.MakeAhmNow text = text ≡ counted_line (codes "AHM ") (last_good state.database)
 CallPrints state (Function.SetAhm n) text = text ≡ counted_line (codes "AHM ") n
 CallPrints state Function.Moveout text = text ≡ codes "MOVEOUT\n"
-CallPrints state Function.Mergeout text = ⊥
-CallPrints state (Function.Purge table) text = ⊥
-CallPrints state (Function.Refresh table) text = ⊥
-CallPrints state Function.StartRefresh text = ⊥
+CallPrints state Function.Mergeout text = text ≡ codes "MERGEOUT\n"
+CallPrints state (Function.Purge table) text = text ≡ codes "PURGE\n"
+CallPrints state (Function.Refresh table) text = text ≡ codes "REFRESH\n"
+CallPrints state Function.StartRefresh text = text ≡ codes "START REFRESH\n"
 
 -- what a statement prints that isn't refused
 abbrev pub Prints : State → Files → Statement → List ℕ → Type 0
@@ -85,7 +85,7 @@ Prints state files (Statement.DropProjection name) text = text ≡ codes "DROP P
 Prints state files (Statement.Insert i) text = text ≡ insert_line (length i.rows)
 Prints state files (Statement.Delete d) text = text ≡ counted_line (codes "DELETE ") (on_found (table_found d.table state.database.tables) (deleted_count d state))
 Prints state files (Statement.Update u) text = text ≡ counted_line (codes "UPDATE ") (on_found (table_found u.table state.database.tables) (λ e. length (updated_old u state e)))
-Prints state files (Statement.AddColumn a) text = ⊥
+Prints state files (Statement.AddColumn a) text = text ≡ codes "ALTER TABLE\n"
 Prints state files (Statement.Copy table file) text = CopyPrints state (table_found table state.database.tables) (files file) text
 Prints state files Statement.Commit text = text ≡ commit_text state
 Prints state files Statement.Rollback text = text ≡ codes "ROLLBACK\n"

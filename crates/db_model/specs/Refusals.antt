@@ -6,6 +6,7 @@ use Rattle.col_value.specs.declared.value.Value.{Value}
 use Rattle.col_value.specs.declared.wide.Wide.{Wide}
 use Rattle.col_value.specs.declared.column.Column.{Column}
 use Rattle.sql_tree.specs.declared.statement.Function.{Function}
+use Rattle.sql_tree.specs.declared.statement.AddColumn.{AddColumn}
 use Rattle.sql_tree.specs.declared.statement.Insert.{Insert}
 use Rattle.sql_tree.specs.declared.statement.Delete.{Delete}
 use Rattle.sql_tree.specs.declared.statement.Update.{Update}
@@ -23,17 +24,18 @@ use Rattle.sql_binding.specs.Firsts.{first_of, refused_where}
 use Rattle.sql_binding.specs.Queries.{query_refusal}
 use Rattle.sql_binding.specs.Changes.{delete_refusal, update_refusal}
 use Rattle.sql_binding.specs.Projections.{projection_name_refusal, projection_form_refusal, name_limit}
+use Rattle.sql_binding.specs.Additions.{addition_refusal, default_refusal}
 use Rattle.sql_binding.specs.Inserts.{insert_refusal, stored_refusal, first_such, is_out_of_range, is_too_long, is_refused_null}
 use Rattle.db_model.specs.Database.{Database, Table, is_super}
 use Rattle.db_model.specs.State.{State, own_changes, pending_rows}
-use Rattle.db_model.specs.Locks.{conflict}
+use Rattle.db_model.specs.Locks.{conflict, holder}
 use Rattle.db_model.specs.Views.{table_found, columns_found, source_columns, bound_in, inputs}
 use Rattle.db_model.specs.Epochs.{last_good, rises}
 use Rattle.db_model.specs.Numbers.{are_spent, spent_refusal}
-use Rattle.db_model.specs.Events.{update_keep, update_sets, updated_old, rows_pending}
+use Rattle.db_model.specs.Events.{is_of_table, update_keep, update_sets, updated_old, rows_pending}
 use Rattle.db_model.specs.Loading.{Files, Load, Loads}
-use Rattle.db_model.specs.Mover.{MovesAll}
-use Rattle.db_model.specs.Refusing.{if_taken, create_refusal, rows_limit, epoch_refusal, commit_refusal}
+use Rattle.db_model.specs.Mover.{MovesAll, RaisesAll, RefreshesAll}
+use Rattle.db_model.specs.Refusing.{if_taken, create_refusal, column_limit, rows_limit, epoch_refusal, commit_refusal}
 
 -- another session holds the table in a mode that excludes the one that is wanted
 abbrev pub locked : State → List ℕ → Bool → Option Refusal
@@ -89,6 +91,13 @@ rows_inserted_refusal state i =
 
 abbrev pub rows_deleted_refusal : State → Delete → Option Refusal
 rows_deleted_refusal state d = first_of (delete_refusal (columns_found state.database.tables d.table) d) (locked state d.table true)
+
+-- an ALTER TABLE needs its table free of every session, the current one too
+abbrev pub column_added_refusal : State → AddColumn → Option Refusal
+column_added_refusal state a =
+    first_of (addition_refusal (columns_found state.database.tables a.table) a)
+    (first_of (option_and_then (λ columns. column_limit (length columns, a.column)) (columns_found state.database.tables a.table))
+    (first_of (option_map Refusal.Locked (holder state a.table)) (first_of (default_refusal a) (spent_refusal state))))
 
 -- each value that an UPDATE sets, with its column: the columns in table order, and for each the matched rows
 abbrev pub set_pairs : List (ℕ × Expr) → List (List Value) → ℕ × Column → List (Column × Wide)
@@ -162,6 +171,14 @@ SelectRefuses state at q why =
 abbrev pub MoveoutRefuses : State → Option Refusal → Type 0
 MoveoutRefuses state why = (stopped : Bool) × (new : State) × MovesAll state stopped new × (why ≡ refused_where stopped Refusal.NumbersSpent)
 
+-- as is a function of several jobs, behind what refuses it before
+abbrev pub JobsRefuse : (Bool → State → Type 0) → Option Refusal → Type 0
+JobsRefuse Run why = (stopped : Bool) × (new : State) × Run stopped new × (why ≡ refused_where stopped Refusal.NumbersSpent)
+
+abbrev pub TableJobsRefuse : Option Refusal → (Bool → State → Type 0) → Option Refusal → Type 0
+TableJobsRefuse (Some refusal) Run why = why ≡ Some refusal
+TableJobsRefuse None Run why = JobsRefuse Run why
+
 -- the ancient history mark neither falls nor passes the last good epoch
 abbrev pub mark_refusal : ℕ → Database → Option Refusal
 mark_refusal mark d = refused_where (nat_lt mark d.ahm || nat_lt (last_good d) mark) (Refusal.BadMark mark d.ahm (last_good d))
@@ -170,7 +187,7 @@ mark_refusal mark d = refused_where (nat_lt mark d.ahm || nat_lt (last_good d) m
 abbrev pub raise_refusal : ℕ → State → Option Refusal
 raise_refusal mark state = refused_where (rises mark state.database && are_spent state) Refusal.NumbersSpent
 
--- the functions that are defined so far
+-- why a function is refused
 abbrev pub CallRefuses : State → Function → Option Refusal → Type 0
 CallRefuses state Function.Lge why = why ≡ None
 CallRefuses state Function.Ahm why = why ≡ None
@@ -178,10 +195,11 @@ CallRefuses state Function.Current why = why ≡ None
 CallRefuses state Function.MakeAhmNow why = why ≡ raise_refusal (last_good state.database) state
 CallRefuses state (Function.SetAhm n) why = why ≡ first_of (mark_refusal n state.database) (raise_refusal n state)
 CallRefuses state Function.Moveout why = MoveoutRefuses state why
-CallRefuses state Function.Mergeout why = ⊥
-CallRefuses state (Function.Purge table) why = ⊥
-CallRefuses state (Function.Refresh table) why = ⊥
-CallRefuses state Function.StartRefresh why = ⊥
+CallRefuses state Function.Mergeout why = JobsRefuse (RaisesAll (λ s. true) state) why
+CallRefuses state (Function.Purge table) why =
+    TableJobsRefuse (unknown_table_refusal state table) (RaisesAll (λ s. is_of_table table state.database.tables s.name) state) why
+CallRefuses state (Function.Refresh table) why = TableJobsRefuse (unknown_table_refusal state table) (RefreshesAll table state) why
+CallRefuses state Function.StartRefresh why = why ≡ None
 
 -- why a statement is refused over these load files, or that it isn't
 abbrev pub Refuses : State → Files → Statement → Option Refusal → Type 0
@@ -192,7 +210,7 @@ Refuses state files (Statement.DropProjection name) why = why ≡ projection_dro
 Refuses state files (Statement.Insert i) why = why ≡ rows_inserted_refusal state i
 Refuses state files (Statement.Delete d) why = why ≡ rows_deleted_refusal state d
 Refuses state files (Statement.Update u) why = why ≡ rows_updated_refusal state u
-Refuses state files (Statement.AddColumn a) why = ⊥
+Refuses state files (Statement.AddColumn a) why = why ≡ column_added_refusal state a
 Refuses state files (Statement.Copy table file) why = CopyRefuses state table (table_found table state.database.tables) (files file) why
 Refuses state files Statement.Commit why = why ≡ commit_refusal state
 Refuses state files Statement.Rollback why = why ≡ None

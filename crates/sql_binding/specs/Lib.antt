@@ -9,3 +9,4 @@ pub mod Queries
 pub mod Changes
 pub mod Projections
 pub mod Inserts
+pub mod Additions
