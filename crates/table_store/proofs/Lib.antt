@@ -10,6 +10,7 @@ pub mod Readied
 pub mod Standing
 pub mod Moved
 pub mod Makes
+pub mod Installed
 pub mod Drawn
 pub mod Shaped
 pub mod Unshaped
