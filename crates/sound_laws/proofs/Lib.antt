@@ -4,3 +4,4 @@ pub mod Changes
 pub mod Committed
 pub mod Moved
 pub mod Marked
+pub mod Widened
