@@ -5,3 +5,4 @@ pub mod Committed
 pub mod Moved
 pub mod Marked
 pub mod Widened
+pub mod Storable

@@ -62,6 +62,18 @@ database_sound state e asked keeps other sound = record {
   asked = asked;
 }
 
+-- fewer projections are asked for
+pub fewer_asked : (state : State) (p : List ℕ → Bool) → IsSound state → IsSound (record state { asked = filter p state.asked })
+fewer_asked state p sound = record {
+  database = sound.database;
+  eight = sound.eight;
+  first = sound.first;
+  current = sound.current;
+  sessions = sound.sessions;
+  apart = sound.apart;
+  asked = All-filter p (IsStale state.database) state.asked sound.asked;
+}
+
 -- ---- CREATE TABLE
 
 pub first_none : {X : Type 0} (a b : Option X) → first_of a b ≡ None → (a ≡ None) × (b ≡ None)
@@ -231,17 +243,6 @@ fewer_go p one other go = all_go (filter p one) other (All-filter p (λ c. GoesW
 abbrev asked_besides : List ℕ → State → State
 asked_besides name state = record state { asked = filter (λ n. not (is_of_table name state.database.tables n)) state.asked }
 
-besides_sound : (state : State) (name : List ℕ) → IsSound state → IsSound (asked_besides name state)
-besides_sound state name sound = record {
-  database = sound.database;
-  eight = sound.eight;
-  first = sound.first;
-  current = sound.current;
-  sessions = sound.sessions;
-  apart = sound.apart;
-  asked = All-filter (λ n. not (is_of_table name state.database.tables n)) (IsStale state.database) state.asked sound.asked;
-}
-
 -- the session's other changes over the other tables
 others_left : (state : State) (name : List ℕ) → table_dropped_refusal state name ≡ None → IsSound state
     → IsSound (with_changes (filter (λ c. is_not_named name c.table) (own_changes state)) (record (asked_besides name state) { database = without_named name state.database }))
@@ -257,7 +258,7 @@ others_left state name free sound =
     filtered (IsStale d) (IsStale (without_named name d)) (λ n. not (is_of_table name d.tables n)) state.asked (λ n passes is. stale_left d name n sound.database passes is) sound.asked in
     own_sound (asked_besides name state) (without_named name d) (filter p (own_changes state)) stale (dropped_sound d name sound.database) (dropped_session d name (filter p (own_changes state)) gone kept)
     (λ i x lt at. dropped_session d name (get_or state.sessions i x) (none_held name (get_or state.sessions i x) (none_excludes state name true sound.first lock.0 i x lt at)) (sound.sessions i x lt))
-    (λ i x lt at. fewer_go p (own_changes state) (get_or state.sessions i x) (own_with state sound i x lt at)) (besides_sound state name sound)
+    (λ i x lt at. fewer_go p (own_changes state) (get_or state.sessions i x) (own_with state sound i x lt at)) (fewer_asked state (λ n. not (is_of_table name d.tables n)) sound)
 
 pub dropped_state : (state : State) (name : List ℕ) → table_dropped_refusal state name ≡ None → IsSound state → IsSound (table_dropped name state)
 dropped_state state name free sound =

@@ -118,7 +118,7 @@ found_at name k [] = refl
 found_at name k (t ∷ ts) = by (bytes_eq t.name name) (found_at name (k + 1) ts)
   where
     by : (b : Bool) → option_map (λ e. e.1) (find (λ e. bytes_eq e.1.name name) (enumerate_from (k + 1) ts)) ≡ table_named name ts
-        → option_map {B = Table} (λ e. e.1) (cond b (Some (k, t)) (find (λ e. bytes_eq e.1.name name) (enumerate_from (k + 1) ts))) ≡ cond b (Some t) (table_named name ts)
+        → option_map (λ (e : ℕ × Table). e.1) (cond b (Some (k, t)) (find (λ e. bytes_eq e.1.name name) (enumerate_from (k + 1) ts))) ≡ cond b (Some t) (table_named name ts)
     by true rest = refl
     by false rest = rest
 
@@ -203,7 +203,7 @@ shapes_apart (t ∷ ts) pairs =
 -- so each of an up-to-date one's name is up to date
 fresh_named : (ss : List Shape) (s : Shape) → AllPairs Differ (shape_names ss) → Contains ss s → s.fresh ≡ true → All (λ o. o.fresh ≡ false → Differ o.name s.name) ss
 fresh_named [] s pairs there fresh = All-nil (λ o. o.fresh ≡ false → Differ o.name s.name)
-fresh_named (x ∷ ss) s pairs (k, lt, at) fresh = by k lt at
+fresh_named (x ∷ ss) s pairs (k, lt, at) fresh = by k lt at (λ there. fresh_named ss s (pairs_tail Differ x.name (shape_names ss) pairs) there fresh)
   where
     Apart : Shape → Type 0
     Apart o = o.fresh ≡ false → Differ o.name s.name
@@ -211,15 +211,15 @@ fresh_named (x ∷ ss) s pairs (k, lt, at) fresh = by k lt at
     front : All (Differ x.name) (shape_names ss)
     front = pairs_head Differ x.name (shape_names ss) pairs
 
-    by : (j : ℕ) → j < length (x ∷ ss) → get_or (x ∷ ss) j s ≡ s → All Apart (x ∷ ss)
-    by zero below is =
+    by : (j : ℕ) → j < length (x ∷ ss) → get_or (x ∷ ss) j s ≡ s → (Contains ss s → All Apart ss) → All Apart (x ∷ ss)
+    by zero below is more =
         All-cons Apart x ss (λ stale. let on : x.fresh ≡ true = ap (λ (o : Shape). o.fresh) is ∙ fresh in absurd (cc))
         (All-weaker (λ o. Differ x.name o.name) Apart (λ o other stale. subst (λ (y : Shape). Differ o.name y.name) is (differ_turned x.name o.name other)) ss
         (all_of_map (Differ x.name) (λ o. o.name) ss front))
-    by (suc j) below is =
+    by (suc j) below is more =
         let there : Contains ss s = (j, omega (arith, below), is) in
         All-cons Apart x ss (λ stale. All-contains (λ o. Differ x.name o.name) ss s (all_of_map (Differ x.name) (λ o. o.name) ss front) there)
-        (fresh_named ss s (pairs_tail Differ x.name (shape_names ss) pairs) there fresh)
+        (more there)
 
 in_all_shapes : (ts : List Table) (t : Table) (s : Shape) → Contains ts t → Contains t.shapes s → Contains (all_shapes ts) s
 in_all_shapes ts t s there of =

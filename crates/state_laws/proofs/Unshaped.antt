@@ -17,7 +17,7 @@ use Rattle.sound_laws.proofs.Pairs.{pairs_front, pairs_back, pairs_across, pairs
 use Rattle.sound_laws.proofs.Created.{Differ, differ_turned, table_still}
 use Rattle.state_laws.proofs.Tables.{map_named}
 use Rattle.state_laws.proofs.Stale.{HasStale, filtered, in_filter, stale_mapped}
-use Rattle.state_laws.proofs.Events.{first_none, database_sound}
+use Rattle.state_laws.proofs.Events.{first_none, database_sound, fewer_asked}
 
 -- ---- names
 
@@ -232,17 +232,6 @@ has_unshaped name other t off has = record {
 abbrev asked_besides : List ℕ → State → State
 asked_besides name state = record state { asked = filter (is_not_named name) state.asked }
 
-besides_sound : (state : State) (name : List ℕ) → IsSound state → IsSound (asked_besides name state)
-besides_sound state name sound = record {
-  database = sound.database;
-  eight = sound.eight;
-  first = sound.first;
-  current = sound.current;
-  sessions = sound.sessions;
-  apart = sound.apart;
-  asked = All-filter (is_not_named name) (IsStale state.database) state.asked sound.asked;
-}
-
 unshaped_database : (state : State) (name : List ℕ) → projection_dropped_refusal state name ≡ None → IsSound state → IsSound (record (asked_besides name state) { database = unshaped name state.database })
 unshaped_database state name free sound =
     let d = state.database in
@@ -250,7 +239,7 @@ unshaped_database state name free sound =
     let stale : All (IsStale (unshaped name d)) (asked_besides name state).asked =
     filtered (IsStale d) (IsStale (unshaped name d)) (is_not_named name) state.asked
     (λ n passes is. stale_mapped d (unshaped name d) (without_shape name) n refl (λ t has. has_unshaped name n t passes has) is) sound.asked in
-    database_sound (asked_besides name state) (unshaped name d) stale (unshaped_fit d name) (unshaped_sound d name found.0 found.1 found.2 sound.database) (besides_sound state name sound)
+    database_sound (asked_besides name state) (unshaped name d) stale (unshaped_fit d name) (unshaped_sound d name found.0 found.1 found.2 sound.database) (fewer_asked state (is_not_named name) sound)
 
 pub unshaped_state : (state : State) (name : List ℕ) → projection_dropped_refusal state name ≡ None → IsSound state → IsSound (projection_dropped name state)
 unshaped_state state name free sound =
