@@ -32,7 +32,8 @@ use Rattle.db_model.specs.Views.{asked_of, committed_view, less, less_one, is_sa
 use Rattle.sound_laws.proofs.Changes.{HasFitting, all_fit}
 use Rattle.state_laws.proofs.Tables.{named_so}
 use Rattle.state_laws.proofs.Events.{first_none, no_names, own_is_sound}
-use Rattle.row_setting.proofs.Accepted.{IsSetTo, Stored, all_stored, set_to, stored_value}
+use Rattle.sound_laws.proofs.Storable.{stored_value}
+use Rattle.row_setting.proofs.Accepted.{IsSetTo, Stored, all_stored, set_to}
 use Rattle.row_setting.proofs.Flawed.{worth_in}
 use Rattle.change_laws.proofs.Typed.{column_kinds, of_columns, typed_serves}
 use Rattle.change_laws.proofs.Known.{places_there, settings_typed}

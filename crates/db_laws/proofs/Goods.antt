@@ -7,15 +7,19 @@ use Rattle.std.specs.Ordering.{is_lt, nat_cmp}
 use Rattle.std.specs.Cmp.Lexicographic.{slice_cmp}
 use Rattle.std.proofs.lemmas.List.Elements.{All-nil, All-cons, All-head, All-tail, All-append, All-filter, All-map, All-contains, All-weaker}
 use Rattle.col_value.specs.declared.column.Column.{Column}
+use Rattle.col_value.specs.declared.kinds.Encoding.{Encoding}
+use Rattle.sql_tree.specs.declared.statement.AddColumn.{AddColumn}
 use Rattle.sql_tree.specs.declared.statement.NewProjection.{NewProjection}
+use Rattle.sql_binding.specs.Additions.{default_value}
 use Rattle.row_history.specs.History.{retained}
-use Rattle.db_model.specs.Database.{Shape, Table, Database, put_table}
+use Rattle.db_model.specs.Database.{Shape, Table, Database, put_table, has_columns, ordinals}
 use Rattle.db_model.specs.State.{State, Changes, own_changes, has_changes, commit_into, change_named, commit_changes, committed}
 use Rattle.db_model.specs.Sound.{ReachesMark, IsSoundShape, IsSoundTable, IsSoundDatabase}
 use Rattle.db_model.specs.Epochs.{all_shapes, least_or, last_good}
-use Rattle.db_model.specs.Events.{empty_table, is_empty_list, new_shape, put_shape, with_shape, without_shape, is_not_named, table_created, projection_created, table_dropped, projection_dropped, changes_committed}
+use Rattle.db_model.specs.Events.{empty_table, is_empty_list, new_shape, put_shape, with_shape, without_shape, is_not_named, table_created, projection_created, table_dropped, projection_dropped, changes_committed, column_added, widened, with_column}
 use Rattle.db_model.specs.Numbers.{are_spent, IsDrawn}
-use Rattle.db_model.specs.Mover.{change_shape, change_shape_of, with_change, reached_to, behind, first_behind, moved_one, MovesFirst, MovesOut, given_up, MovesAll, Rises, Installs, GoesOn, MayBegin, MovesOrBegins, StepsOn, StepsUnless, MoverSteps, MoverRuns}
+use Rattle.db_model.specs.Mover.{change_shape, change_shape_of, with_change, reached_to, behind, first_behind, moved_one, MovesFirst, given_up, MovesAll, Rises, refreshed, RaisesOne, RaisesAll, stale_of, RefreshesFirst, RefreshesAll, Installs, GoesOn, MayBegin, MovesOrBegins, StepsOn, StepsUnless, MoverSteps, MoverRuns}
+use Rattle.db_laws.proofs.Jobs.{jobs_keep}
 
 -- an up-to-date projection has all its data on disk up to an epoch
 abbrev pub Reaches : ℕ → Shape → Type 0
@@ -68,7 +72,7 @@ least_within other (m ∷ ms) all = let b = fold_below m ms in omega (arith, b.0
 
 -- ---- shapes of all tables
 
-shapes_joined : (P : Shape → Type 0) (ts : List Table) → All (λ t. All P t.shapes) ts → All P (all_shapes ts)
+pub shapes_joined : (P : Shape → Type 0) (ts : List Table) → All (λ t. All P t.shapes) ts → All P (all_shapes ts)
 shapes_joined P [] all = All-nil P
 shapes_joined P (t ∷ ts) all = All-append P t.shapes (all_shapes ts) (All-head (λ u. All P u.shapes) t ts all) (shapes_joined P ts (All-tail (λ u. All P u.shapes) t ts all))
 
@@ -80,7 +84,7 @@ back : (P : Shape → Type 0) (xs ys : List Shape) → All P (xs ++ ys) → All 
 back P [] ys all = all
 back P (x ∷ xs) ys all = back P xs ys (All-tail P x (xs ++ ys) all)
 
-shapes_apart : (P : Shape → Type 0) (ts : List Table) → All P (all_shapes ts) → All (λ t. All P t.shapes) ts
+pub shapes_apart : (P : Shape → Type 0) (ts : List Table) → All P (all_shapes ts) → All (λ t. All P t.shapes) ts
 shapes_apart P [] all = All-nil (λ t. All P t.shapes)
 shapes_apart P (t ∷ ts) all = All-cons (λ u. All P u.shapes) t ts (front P t.shapes (all_shapes ts) all) (shapes_apart P ts (back P t.shapes (all_shapes ts) all))
 
@@ -195,6 +199,20 @@ good_committed n state good = by (has_changes (own_changes state))
     by true = record { closed = later n state.database.last good.closed; tables = good_changes n (state.database.last + 1) (own_changes state) state.database.tables good.tables }
     by false = good
 
+good_with_column : (n : ℕ) (t : Table) (s : Shape) → Reaches n s → Reaches n (with_column t s)
+good_with_column n t s here = by (has_columns s (ordinals t))
+  where
+    by : (b : Bool) → Reaches n (cond b (record s { columns = s.columns ++ (length t.columns, Encoding.Auto) ∷ [] }) s)
+    by true = here
+    by false = here
+
+pub good_widened : (n : ℕ) (a : AddColumn) (state : State) → IsGood n state.database → IsGood n (column_added a state).database
+good_widened n a state good = record {
+  closed = good.closed;
+  tables = good_change n a.table (widened a.column (default_value a)) state.database.tables
+      (λ t here. All-map (Reaches n) (with_column t) t.shapes (All-weaker (Reaches n) (λ s. Reaches n (with_column t s)) (good_with_column n t) t.shapes here)) good.tables;
+}
+
 -- a projection reaches an epoch that is no less
 good_changed : (n epoch : ℕ) (name : List ℕ) (d : Database) → n ≤ epoch → IsGood n d → IsGood n (with_change name (reached_to epoch) d)
 good_changed n epoch name d le good = record {
@@ -216,13 +234,10 @@ good_first : (n : ℕ) (s : Option Shape) (old new : State) → MovesFirst s old
 good_first n None old new moves good = absurd moves
 good_first n (Some s) old new moves good = good_drawn n old (moved_one s old) new moves (good_changed n old.database.last s.name old.database good.closed good)
 
-good_out : (n count : ℕ) (old : State) (stopped : Bool) (new : State) → MovesOut count old stopped new → IsGood n old.database → IsGood n new.database
-good_out n zero old stopped new (is, same) good = subst (λ (x : State). IsGood n x.database) (sym same) good
-good_out n (suc count) old stopped new (inl (spent, is, same)) good = subst (λ (x : State). IsGood n x.database) (sym same) good
-good_out n (suc count) old stopped new (inr (room, mid, first, rest)) good = good_out n count mid stopped new rest (good_first n (first_behind old.database) old mid first good)
-
 pub good_all : (n : ℕ) (old : State) (stopped : Bool) (new : State) → MovesAll old stopped new → IsGood n old.database → IsGood n new.database
-good_all n old stopped new moves good = good_out n (length (behind old.database)) (given_up old) stopped new moves.jobs good
+good_all n old stopped new moves good =
+    jobs_keep (λ s. IsGood n s.database) (λ one other. MovesFirst (first_behind one.database) one other) (λ one other first here. good_first n (first_behind one.database) one other first here)
+    (length (behind old.database)) (given_up old) stopped new moves.jobs good
 
 good_rise : (n : ℕ) (old new : Database) → Rises old new → IsGood n old → IsGood n new
 good_rise n old new rises good =
@@ -230,15 +245,35 @@ good_rise n old new rises good =
     let le : n ≤ rises.epoch = omega (arith, here rises.fresh, rises.from) in
     subst (IsGood n) (sym rises.same) (good_changed n rises.epoch rises.shape.name old le good)
 
+good_refreshed : (n : ℕ) (name : List ℕ) (state : State) → IsGood n state.database → IsGood n (refreshed name state).database
+good_refreshed n name state good = good_changed n state.database.last name state.database good.closed good
+
 good_installs : (n : ℕ) (old made : State) → Installs old made → IsGood n old.database → IsGood n made.database
 good_installs n old made (inl same) good = subst (λ (x : State). IsGood n x.database) (sym same) good
 good_installs n old made (inr (inl (d, rises, same))) good = subst (λ (x : State). IsGood n x.database) (sym same) (good_rise n old.database d rises good)
 good_installs n old made (inr (inr (name, there, same))) good =
-    subst (λ (x : State). IsGood n x.database) (sym same) (good_changed n old.database.last name old.database good.closed good)
+    subst (λ (x : State). IsGood n x.database) (sym same) (good_refreshed n name old good)
 
 good_on : (n : ℕ) (b : Bool) (old new : State) → GoesOn b old new → IsGood n old.database → IsGood n new.database
 good_on n true old new (made, installs, drawn) good = good_drawn n old made new drawn (good_installs n (given_up old) made installs good)
 good_on n false old new same good = subst (λ (x : State). IsGood n x.database) (sym same) good
+
+-- functions of several jobs
+
+good_raise : (n : ℕ) (meant : Shape → Bool) (old new : State) → RaisesOne meant old new → IsGood n old.database → IsGood n new.database
+good_raise n meant old new (d, rises, is, drawn) good = good_drawn n old (record old { database = d }) new drawn (good_rise n old.database d rises good)
+
+pub good_raises : (n : ℕ) (meant : Shape → Bool) (old : State) (stopped : Bool) (new : State) → RaisesAll meant old stopped new → IsGood n old.database → IsGood n new.database
+good_raises n meant old stopped new raises good = jobs_keep (λ s. IsGood n s.database) (RaisesOne meant) (good_raise n meant) raises.count (given_up old) stopped new raises.jobs good
+
+good_refresh : (n : ℕ) (names : List (List ℕ)) (old new : State) → RefreshesFirst names old new → IsGood n old.database → IsGood n new.database
+good_refresh n [] old new never good = absurd never
+good_refresh n (name ∷ names) old new drawn good = good_drawn n old (refreshed name old) new drawn (good_refreshed n name old good)
+
+pub good_refreshes : (n : ℕ) (table : List ℕ) (old : State) (stopped : Bool) (new : State) → RefreshesAll table old stopped new → IsGood n old.database → IsGood n new.database
+good_refreshes n table old stopped new refreshes good =
+    jobs_keep (λ s. IsGood n s.database) (λ one other. RefreshesFirst (stale_of table one.database) one other) (λ one other first here. good_refresh n (stale_of table one.database) one other first here)
+    (length (stale_of table old.database)) (given_up old) stopped new refreshes.jobs good
 
 good_begun : (n : ℕ) (old new : State) → MayBegin old new → IsGood n old.database → IsGood n new.database
 good_begun n old new (inl (none, same)) good = subst (λ (x : State). IsGood n x.database) (sym same) good

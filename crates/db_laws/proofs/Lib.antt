@@ -1,3 +1,4 @@
+pub mod Jobs
 pub mod Goods
 pub mod NeverFalls
 pub mod Cuts

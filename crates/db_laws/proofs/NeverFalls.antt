@@ -13,13 +13,13 @@ use Rattle.db_model.specs.State.{State}
 use Rattle.db_model.specs.Sound.{IsSoundDatabase}
 use Rattle.db_model.specs.Epochs.{last_good, rises}
 use Rattle.db_model.specs.Views.{table_found}
-use Rattle.db_model.specs.Events.{mark_raised, table_created, projection_created, table_dropped, projection_dropped, rows_pending, rows_deleted, rows_updated, rows_loaded}
+use Rattle.db_model.specs.Events.{mark_raised, is_of_table, column_added, table_created, projection_created, table_dropped, projection_dropped, rows_pending, rows_deleted, rows_updated, rows_loaded}
 use Rattle.db_model.specs.Loading.{Files}
-use Rattle.db_model.specs.Mover.{MovesAll}
+use Rattle.db_model.specs.Mover.{MovesAll, RaisesAll, RefreshesAll}
 use Rattle.db_model.specs.Leaving.{Leaves, MarkLeaves, RefusedLeaves, CallLeaves, RefusedCallLeaves, CopyLeaves}
 use Rattle.db_model.specs.Step.{Step, Effect}
 use Rattle.db_model.specs.Run.{Setting, RunTexts, Run, EndsUnless, all_dropped}
-use Rattle.db_laws.proofs.Goods.{IsGood, good_least, good_itself, good_created, good_projected, good_dropped, good_bared, good_committed, good_drawn, good_all, good_mover, good_runs}
+use Rattle.db_laws.proofs.Goods.{IsGood, good_least, good_itself, good_created, good_projected, good_dropped, good_bared, good_committed, good_widened, good_drawn, good_all, good_raises, good_refreshes, good_mover, good_runs}
 
 same_good : (n : ℕ) (old new : State) → new ≡ old → IsGood n old.database → IsGood n new.database
 same_good n old new same good = subst (λ (x : State). IsGood n x.database) (sym same) good
@@ -49,10 +49,10 @@ called_good n state Function.Current new same good = same_good n state new same 
 called_good n state Function.MakeAhmNow new leaves good = marked_good n (rises (last_good state.database) state.database) (last_good state.database) state new leaves good
 called_good n state (Function.SetAhm m) new leaves good = marked_good n (rises m state.database) m state new leaves good
 called_good n state Function.Moveout new moves good = good_all n state false new moves good
-called_good n state Function.Mergeout new leaves good = absurd leaves
-called_good n state (Function.Purge table) new leaves good = absurd leaves
-called_good n state (Function.Refresh table) new leaves good = absurd leaves
-called_good n state Function.StartRefresh new leaves good = absurd leaves
+called_good n state Function.Mergeout new raises good = good_raises n (λ s. true) state false new raises good
+called_good n state (Function.Purge table) new raises good = good_raises n (λ s. is_of_table table state.database.tables s.name) state false new raises good
+called_good n state (Function.Refresh table) new refreshes good = good_refreshes n table state false new refreshes good
+called_good n state Function.StartRefresh new same good = subst (λ (x : State). IsGood n x.database) (sym same) good
 
 left_good : (n : ℕ) (state : State) (files : Files) (s : Statement) (new : State) → Leaves state files s new → IsGood n state.database → IsGood n new.database
 left_good n state files (Statement.CreateTable name columns) new drawn good = good_drawn n state (table_created name columns state) new drawn (good_created n name columns state good)
@@ -62,7 +62,7 @@ left_good n state files (Statement.DropProjection name) new drawn good = good_dr
 left_good n state files (Statement.Insert i) new same good = subst (λ (x : State). IsGood n x.database) (sym same) good
 left_good n state files (Statement.Delete d) new same good = subst (λ (x : State). IsGood n x.database) (sym same) (deleted_good n d state (table_found d.table state.database.tables) good)
 left_good n state files (Statement.Update u) new same good = subst (λ (x : State). IsGood n x.database) (sym same) (updated_good n u state (table_found u.table state.database.tables) good)
-left_good n state files (Statement.AddColumn a) new leaves good = absurd leaves
+left_good n state files (Statement.AddColumn a) new drawn good = good_drawn n state (column_added a state) new drawn (good_widened n a state good)
 left_good n state files (Statement.Copy table file) new leaves good = copied_good n state (table_found table state.database.tables) (files file) new leaves good
 left_good n state files Statement.Commit new same good = subst (λ (x : State). IsGood n x.database) (sym same) (good_committed n state good)
 left_good n state files Statement.Rollback new same good = subst (λ (x : State). IsGood n x.database) (sym same) good
@@ -72,9 +72,9 @@ left_good n state files (Statement.Call f) new leaves good = called_good n state
 left_good n state files (Statement.Session m) new same good = subst (λ (x : State). IsGood n x.database) (sym same) good
 left_good n state files Statement.Step new steps good = good_mover n state new steps good
 
-moved_good : (n : ℕ) (state new : State) → (new ≡ state) ⊎ MovesAll state true new → IsGood n state.database → IsGood n new.database
-moved_good n state new (inl same) good = same_good n state new same good
-moved_good n state new (inr moves) good = good_all n state true new moves good
+stopped_good : (n : ℕ) (Run : State → Type 0) (state new : State) → (Run new → IsGood n state.database → IsGood n new.database) → (new ≡ state) ⊎ Run new → IsGood n state.database → IsGood n new.database
+stopped_good n Run state new keeps (inl same) good = same_good n state new same good
+stopped_good n Run state new keeps (inr ran) good = keeps ran good
 
 refused_call_good : (n : ℕ) (state : State) (f : Function) (new : State) → RefusedCallLeaves state f new → IsGood n state.database → IsGood n new.database
 refused_call_good n state Function.Lge new same good = same_good n state new same good
@@ -82,10 +82,11 @@ refused_call_good n state Function.Ahm new same good = same_good n state new sam
 refused_call_good n state Function.Current new same good = same_good n state new same good
 refused_call_good n state Function.MakeAhmNow new same good = same_good n state new same good
 refused_call_good n state (Function.SetAhm m) new same good = same_good n state new same good
-refused_call_good n state Function.Moveout new leaves good = moved_good n state new leaves good
-refused_call_good n state Function.Mergeout new same good = same_good n state new same good
-refused_call_good n state (Function.Purge table) new same good = same_good n state new same good
-refused_call_good n state (Function.Refresh table) new same good = same_good n state new same good
+refused_call_good n state Function.Moveout new leaves good = stopped_good n (MovesAll state true) state new (good_all n state true new) leaves good
+refused_call_good n state Function.Mergeout new leaves good = stopped_good n (RaisesAll (λ s. true) state true) state new (good_raises n (λ s. true) state true new) leaves good
+refused_call_good n state (Function.Purge table) new leaves good =
+    stopped_good n (RaisesAll (λ s. is_of_table table state.database.tables s.name) state true) state new (good_raises n (λ s. is_of_table table state.database.tables s.name) state true new) leaves good
+refused_call_good n state (Function.Refresh table) new leaves good = stopped_good n (RefreshesAll table state true) state new (good_refreshes n table state true new) leaves good
 refused_call_good n state Function.StartRefresh new same good = same_good n state new same good
 
 refused_good : (n : ℕ) (state : State) (s : Statement) (new : State) → RefusedLeaves state s new → IsGood n state.database → IsGood n new.database

@@ -21,6 +21,7 @@ use Rattle.sql_binding.specs.Firsts.{first_of}
 use Rattle.sql_binding.specs.Inserts.{first_such, is_out_of_range, is_too_long, is_refused_null, is_stored_day, is_stored_number, width_of, narrowed}
 use Rattle.db_model.specs.Events.{set_row, set_values}
 use Rattle.db_model.specs.Refusals.{all_pairs, pairs_refusal, set_pairs}
+use Rattle.sound_laws.proofs.Storable.{stored_value}
 use Rattle.row_setting.specs.Storing.{AreStorable}
 use Rattle.row_setting.proofs.Flawed.{worth_in}
 
@@ -112,26 +113,6 @@ set_to P sets rows columns all places k s lt d =
     of_mapped P (worth_in column set) rows (at_filtered P (λ x. x.0 == set.0) (λ x. map (worth_in column x) rows) sets own k s lt same)
 
 -- ---- rows of a table
-
-stored_number : (n : ℤ) → not (is_stored_number n) ≡ false → IsValue (narrowed (wide.Int n))
-stored_number (pos n) h = grind (arith, nat_tests, ints)
-stored_number (negsuc n) h = grind (arith, nat_tests, ints)
-
-stored_day : (d : ℕ) → not (is_stored_day d) ≡ false → IsDay d
-stored_day d h = grind (arith, nat_tests)
-
-stored_text : (k : ColType) (t : List ℕ) → nat_lt (width_of k) (length t) ≡ false → length t ≤ 65000
-stored_text ColType.Integer t h = let le : length t ≤ 0 = grind (arith, nat_tests) in omega (arith, le)
-stored_text ColType.Boolean t h = let le : length t ≤ 0 = grind (arith, nat_tests) in omega (arith, le)
-stored_text ColType.Date t h = let le : length t ≤ 0 = grind (arith, nat_tests) in omega (arith, le)
-stored_text (ColType.Varchar n) t h = let le : length t ≤ min n 65000 = grind (arith, nat_tests) in omega (arith, le)
-
-pub stored_value : (c : Column) (w : Wide) → is_out_of_range (c, w) ≡ false → is_too_long (c, w) ≡ false → IsValue (narrowed w)
-stored_value c wide.Null r l = tt
-stored_value c (wide.Bool b) r l = tt
-stored_value c (wide.Int n) r l = stored_number n r
-stored_value c (wide.Date d) r l = stored_day d r
-stored_value c (wide.Text t) r l = stored_text c.kind t l
 
 -- values that nothing refuses can be stored, in each row
 pub all_storable : (sets : List (ℕ × Expr)) (rows : List (List Value)) (columns : List Column) → pairs_refusal (all_pairs sets rows columns) ≡ None → All (λ s. s.0 < length columns) sets → All (AreStorable sets) rows

@@ -4,3 +4,5 @@ pub mod Changes
 pub mod Committed
 pub mod Moved
 pub mod Marked
+pub mod Widened
+pub mod Storable

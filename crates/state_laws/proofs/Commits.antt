@@ -13,17 +13,15 @@ use Rattle.row_history.specs.History.{Within, inserted_at, mark_all}
 use Rattle.db_model.specs.Database.{Database, Table, table_named}
 use Rattle.db_model.specs.State.{State, Changes, own_changes, with_changes, pending_rows, pending_deletes, has_changes, committed}
 use Rattle.db_model.specs.Events.{changes_committed}
-use Rattle.db_model.specs.Sound.{ChangesFit, IsSoundDatabase, IsSoundSession, GoTogether, IsSound}
+use Rattle.db_model.specs.Sound.{ChangesFit, IsSoundDatabase, IsSoundSession, GoTogether, IsSound, IsStale}
 use Rattle.sound_laws.specs.Commits.{commit_table}
 use Rattle.sound_laws.proofs.Created.{Differ}
 use Rattle.sound_laws.proofs.Changes as own
 use Rattle.sound_laws.proofs.Committed.{committed_sound}
 use Rattle.state_laws.proofs.Tables.{map_named, named_so}
+use Rattle.state_laws.proofs.Stale.{stale_mapped}
 use Rattle.state_laws.proofs.Held.{none_together}
 use Rattle.state_laws.proofs.Events.{own_sound, own_is_sound, own_with, dropped_changes, no_changes}
-
-abbrev no_names : List (List ℕ)
-no_names = []
 
 -- nothing is pending in a table in which there are no changes
 none_pending : (name : List ℕ) (changes : List Changes) → All (λ c. Differ c.table name) changes → (pending_rows name changes ≡ []) × (pending_deletes name changes ≡ [])
@@ -84,8 +82,8 @@ committed_fit d changes other c sound session go there fit = record {
   shared = fit.shared;
 }
 
-pub committed_state : (state : State) → state.asked ≡ no_names → IsSound state → IsSound (changes_committed state)
-committed_state state none sound = by (has_changes (own_changes state))
+pub committed_state : (state : State) → IsSound state → IsSound (changes_committed state)
+committed_state state sound = by (has_changes (own_changes state))
   where
     d : Database
     d = state.database
@@ -103,8 +101,15 @@ committed_state state none sound = by (has_changes (own_changes state))
           once = session.once;
         }
 
+    -- each table has the projections that it had
+    stale : All (IsStale (committed changes d)) state.asked
+    stale =
+        All-weaker (IsStale d) (IsStale (committed changes d))
+        (λ n is. stale_mapped d (committed changes d) (commit_table (d.last + 1) changes) n (own.changes_committed (d.last + 1) d changes sound.database (own_is_sound state sound))
+        (λ t has. record { shape = has.shape; of = has.of; named = has.named; stale = has.stale }) is) state.asked sound.asked
+
     by : (b : Bool) → IsSound (with_changes [] (cond b (record state { database = committed changes d }) state))
     by true =
-        own_sound state (committed changes d) [] none (committed_sound d changes sound.database (own_is_sound state sound)) (no_changes (committed changes d)) rest
+        own_sound state (committed changes d) [] stale (committed_sound d changes sound.database (own_is_sound state sound)) (no_changes (committed changes d)) rest
         (λ i x lt at. none_together (get_or state.sessions i x)) sound
-    by false = dropped_changes state none sound
+    by false = dropped_changes state sound

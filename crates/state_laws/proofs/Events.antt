@@ -26,6 +26,7 @@ use Rattle.sound_laws.proofs.Moved.{moved_sound}
 use Rattle.state_laws.proofs.Dropped.{without_named, dropped_sound}
 use Rattle.state_laws.proofs.Places.{AllBut, but_all, set_all_but, set_pairs}
 use Rattle.state_laws.proofs.Tables.{free_differs, put_still, without_still, moved_named}
+use Rattle.state_laws.proofs.Stale.{filtered, stale_left, stale_put}
 use Rattle.state_laws.proofs.Held.{none_excludes, none_held, none_exclusive, together_turned, none_together, GoesWith, each_goes, all_go, session_over}
 
 abbrev pub no_names : List (List ℕ)
@@ -49,16 +50,28 @@ drawn_sound old made new drawn sound = subst IsSound (sym drawn.same) (numbered 
 
 -- ---- another database
 
--- a database in the place of a state's, which the changes of all sessions fit
-pub database_sound : (state : State) (e : Database) → state.asked ≡ no_names → ((c : Changes) → ChangesFit state.database c → ChangesFit e c) → IsSoundDatabase e → IsSound state → IsSound (record state { database = e })
-database_sound state e none keeps other sound = record {
+-- a database in the place of a state's, which the changes of all sessions fit, and in which what is asked for isn't up to date
+pub database_sound : (state : State) (e : Database) → All (IsStale e) state.asked → ((c : Changes) → ChangesFit state.database c → ChangesFit e c) → IsSoundDatabase e → IsSound state → IsSound (record state { database = e })
+database_sound state e asked keeps other sound = record {
   database = other;
   eight = sound.eight;
   first = sound.first;
   current = sound.current;
   sessions = All-weaker (IsSoundSession state.database) (IsSoundSession e) (λ changes is. session_over state.database e changes keeps is) state.sessions sound.sessions;
   apart = sound.apart;
-  asked = subst (λ (names : List (List ℕ)). All (IsStale e) names) (sym none) (All-nil (IsStale e));
+  asked = asked;
+}
+
+-- fewer projections are asked for
+pub fewer_asked : (state : State) (p : List ℕ → Bool) → IsSound state → IsSound (record state { asked = filter p state.asked })
+fewer_asked state p sound = record {
+  database = sound.database;
+  eight = sound.eight;
+  first = sound.first;
+  current = sound.current;
+  sessions = sound.sessions;
+  apart = sound.apart;
+  asked = All-filter p (IsStale state.database) state.asked sound.asked;
 }
 
 -- ---- CREATE TABLE
@@ -97,20 +110,21 @@ created_fit d t free c fit = record {
   shared = fit.shared;
 }
 
-pub created_state : (state : State) (name : List ℕ) (columns : List Column) → state.asked ≡ no_names → table_created_refusal state name columns ≡ None → IsSound state → IsSound (table_created name columns state)
-created_state state name columns none free sound =
+pub created_state : (state : State) (name : List ℕ) (columns : List Column) → table_created_refusal state name columns ≡ None → IsSound state → IsSound (table_created name columns state)
+created_state state name columns free sound =
     let d = state.database in
     let names = names_free state name columns free in
-    database_sound state (record d { tables = put_table (empty_table name columns d.last) d.tables }) none (created_fit d (empty_table name columns d.last) names.0)
+    let t = empty_table name columns d.last in
+    database_sound state (record d { tables = put_table t d.tables }) (All-weaker (IsStale d) (IsStale (record d { tables = put_table t d.tables })) (stale_put d t) state.asked sound.asked) (created_fit d (empty_table name columns d.last) names.0)
     (created_sound d name columns names.0 names.1 sound.database) sound
 
 -- ---- a session's changes in the place of others
 
 -- where the other sessions are sound over a database, and the new changes go with each
-pub own_sound : (state : State) (e : Database) (changes : List Changes) → state.asked ≡ no_names → IsSoundDatabase e → IsSoundSession e changes
+pub own_sound : (state : State) (e : Database) (changes : List Changes) → All (IsStale e) state.asked → IsSoundDatabase e → IsSoundSession e changes
     → AllBut (IsSoundSession e) (state.current - 1) state.sessions → AllBut (GoTogether changes) (state.current - 1) state.sessions → IsSound state
     → IsSound (with_changes changes (record state { database = e }))
-own_sound state e changes none other own rest go sound = record {
+own_sound state e changes asked other own rest go sound = record {
   database = other;
   eight = length-set state.sessions (state.current - 1) changes ∙ sound.eight;
   first = sound.first;
@@ -120,7 +134,7 @@ own_sound state e changes none other own rest go sound = record {
       set_pairs GoTogether state.sessions (state.current - 1) changes sound.apart
       (λ i d lt at. together_turned changes (get_or state.sessions i d) (go i d lt (λ is. omega (arith, at, is))))
       (λ i d lt at. go i d lt (λ is. omega (arith, at, is)));
-  asked = subst (λ (names : List (List ℕ)). All (IsStale e) names) (sym none) (All-nil (IsStale e));
+  asked = asked;
 }
 
 -- changes in two tables
@@ -131,9 +145,9 @@ pub no_changes : (d : Database) → IsSoundSession d []
 no_changes d = record { each = All-nil (ChangesFit d); once = pairs_none OtherTable }
 
 -- ROLLBACK
-pub dropped_changes : (state : State) → state.asked ≡ no_names → IsSound state → IsSound (changes_dropped state)
-dropped_changes state none sound =
-    own_sound state state.database [] none sound.database (no_changes state.database) (but_all (IsSoundSession state.database) (state.current - 1) state.sessions sound.sessions)
+pub dropped_changes : (state : State) → IsSound state → IsSound (changes_dropped state)
+dropped_changes state sound =
+    own_sound state state.database [] sound.asked sound.database (no_changes state.database) (but_all (IsSoundSession state.database) (state.current - 1) state.sessions sound.sessions)
     (λ i d lt other. none_together (get_or state.sessions i d)) sound
 
 -- another session is the current one
@@ -225,10 +239,14 @@ kept_once p (c ∷ changes) once = by (p c) (kept_once p changes (pairs_tail (λ
 fewer_go : (p : Changes → Bool) (one other : List Changes) → GoTogether one other → GoTogether (filter p one) other
 fewer_go p one other go = all_go (filter p one) other (All-filter p (λ c. GoesWith other c.table c.exclusive) one (each_goes one other go))
 
+-- what is asked for, but for a table's projections
+abbrev asked_besides : List ℕ → State → State
+asked_besides name state = record state { asked = filter (λ n. not (is_of_table name state.database.tables n)) state.asked }
+
 -- the session's other changes over the other tables
-others_left : (state : State) (name : List ℕ) → state.asked ≡ no_names → table_dropped_refusal state name ≡ None → IsSound state
-    → IsSound (with_changes (filter (λ c. is_not_named name c.table) (own_changes state)) (record state { database = without_named name state.database }))
-others_left state name none free sound =
+others_left : (state : State) (name : List ℕ) → table_dropped_refusal state name ≡ None → IsSound state
+    → IsSound (with_changes (filter (λ c. is_not_named name c.table) (own_changes state)) (record (asked_besides name state) { database = without_named name state.database }))
+others_left state name free sound =
     let d = state.database in
     let rest = first_none (unknown_table_refusal state name) (first_of (locked state name true) (spent_refusal state)) free in
     let lock = first_none (locked state name true) (spent_refusal state) rest.1 in
@@ -236,13 +254,15 @@ others_left state name none free sound =
     let own = own_is_sound state sound in
     let gone : All (λ c. Differ c.table name) (filter p (own_changes state)) = All-weaker (λ c. p c ≡ true) (λ c. Differ c.table name) (λ c is. not_named name c.table is) (filter p (own_changes state)) (filter_passes p (own_changes state)) in
     let kept : IsSoundSession d (filter p (own_changes state)) = record { each = All-filter p (ChangesFit d) (own_changes state) own.each; once = kept_once p (own_changes state) own.once } in
-    own_sound state (without_named name d) (filter p (own_changes state)) none (dropped_sound d name sound.database) (dropped_session d name (filter p (own_changes state)) gone kept)
+    let stale : All (IsStale (without_named name d)) (asked_besides name state).asked =
+    filtered (IsStale d) (IsStale (without_named name d)) (λ n. not (is_of_table name d.tables n)) state.asked (λ n passes is. stale_left d name n sound.database passes is) sound.asked in
+    own_sound (asked_besides name state) (without_named name d) (filter p (own_changes state)) stale (dropped_sound d name sound.database) (dropped_session d name (filter p (own_changes state)) gone kept)
     (λ i x lt at. dropped_session d name (get_or state.sessions i x) (none_held name (get_or state.sessions i x) (none_excludes state name true sound.first lock.0 i x lt at)) (sound.sessions i x lt))
-    (λ i x lt at. fewer_go p (own_changes state) (get_or state.sessions i x) (own_with state sound i x lt at)) sound
+    (λ i x lt at. fewer_go p (own_changes state) (get_or state.sessions i x) (own_with state sound i x lt at)) (fewer_asked state (λ n. not (is_of_table name d.tables n)) sound)
 
-pub dropped_state : (state : State) (name : List ℕ) → state.asked ≡ no_names → table_dropped_refusal state name ≡ None → IsSound state → IsSound (table_dropped name state)
-dropped_state state name none free sound =
-    let left = others_left state name none free sound in
+pub dropped_state : (state : State) (name : List ℕ) → table_dropped_refusal state name ≡ None → IsSound state → IsSound (table_dropped name state)
+dropped_state state name free sound =
+    let left = others_left state name free sound in
     record {
       database = left.database;
       eight = left.eight;
@@ -250,7 +270,7 @@ dropped_state state name none free sound =
       current = left.current;
       sessions = left.sessions;
       apart = left.apart;
-      asked = subst (λ (names : List (List ℕ)). All (IsStale (without_named name state.database)) (filter (λ n. not (is_of_table name state.database.tables n)) names)) (sym none) (All-nil (IsStale (without_named name state.database)));
+      asked = left.asked;
     }
 
 -- ---- rows that become pending
@@ -300,12 +320,12 @@ joined_once name rows (c ∷ changes) once = by (bytes_eq c.table name) refl (jo
         AllPairs-cons (λ x e. bytes_eq x.table e.table ≡ false) c (with_rows name rows changes)
         (rows_join (λ n b. bytes_eq c.table n ≡ false) name rows is changes (pairs_head (λ x e. bytes_eq x.table e.table ≡ false) c changes once)) rest
 
-pub pending_state : (state : State) (name : List ℕ) (rows : List (List Value)) (t : Table) → state.asked ≡ no_names → table_named name state.database.tables ≡ Some t → All (RowFits t.columns) rows → locked state name false ≡ None → IsSound state
+pub pending_state : (state : State) (name : List ℕ) (rows : List (List Value)) (t : Table) → table_named name state.database.tables ≡ Some t → All (RowFits t.columns) rows → locked state name false ≡ None → IsSound state
     → IsSound (rows_pending name rows state)
-pending_state state name rows t none there fit free sound =
+pending_state state name rows t there fit free sound =
     let d = state.database in
     let own = own_is_sound state sound in
-    own_sound state d (with_rows name rows (own_changes state)) none sound.database
+    own_sound state d (with_rows name rows (own_changes state)) sound.asked sound.database
     (record { each = joined_each d name rows t there fit (own_changes state) own.each; once = joined_once name rows (own_changes state) own.once })
     (but_all (IsSoundSession d) (state.current - 1) state.sessions sound.sessions) goes sound
   where
@@ -331,4 +351,6 @@ moved_fit d i j c fit =
     }
 
 pub moved_state : (state : State) (i j : ℕ) → state.asked ≡ no_names → IsSound state → IsSound (record state { database = moved_at i j state.database })
-moved_state state i j none sound = database_sound state (moved_at i j state.database) none (moved_fit state.database i j) (moved_sound state.database i j sound.database) sound
+moved_state state i j none sound =
+    let after = moved_at i j state.database in
+    database_sound state after (subst (λ (names : List (List ℕ)). All (IsStale after) names) (sym none) (All-nil (IsStale after))) (moved_fit state.database i j) (moved_sound state.database i j sound.database) sound

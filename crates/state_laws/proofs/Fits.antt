@@ -21,10 +21,10 @@ use Rattle.sound_laws.proofs.Pairs.{all_front, all_back}
 use Rattle.state_laws.specs.Rows.{AreStored}
 
 -- what a refusal's absence tells of each pair of a column and a literal
-record Stored (p : Column × Wide) : Type 0 where
-  kind : is_of_column p ≡ true
-  width : is_too_long p ≡ false
-  null : is_refused_null p ≡ false
+pub record Stored (p : Column × Wide) : Type 0 where
+  pub kind : is_of_column p ≡ true
+  pub width : is_too_long p ≡ false
+  pub null : is_refused_null p ≡ false
 
 -- ---- one value
 
@@ -55,7 +55,7 @@ text_fits (ColType.Varchar n) t is short = within n (length t) short
 text_fits ColType.Boolean t is short = cc
 text_fits ColType.Date t is short = cc
 
-value_fits : (c : Column) (w : Wide) → Stored (c, w) → ValueFits c (narrowed w)
+pub value_fits : (c : Column) (w : Wide) → Stored (c, w) → ValueFits c (narrowed w)
 value_fits c wide.Null s = s.null
 value_fits c (wide.Bool b) s = truth_fits c.kind s.kind
 value_fits c (wide.Int n) s = number_fits c.kind s.kind
@@ -77,11 +77,11 @@ first_none : {X : Type 0} (a b : Option X) → first_of a b ≡ None → (a ≡ 
 first_none None b is = (refl, is)
 first_none (Some x) b is = absurd (cc)
 
-mapped_none : {X Y : Type 0} (f : X → Y) (o : Option X) → option_map f o ≡ None → o ≡ None
+pub mapped_none : {X Y : Type 0} (f : X → Y) (o : Option X) → option_map f o ≡ None → o ≡ None
 mapped_none f None is = refl
 mapped_none f (Some x) is = absurd (cc)
 
-none_such : {X : Type 0} (p : X → Bool) (xs : List X) → find p xs ≡ None → All (λ x. p x ≡ false) xs
+pub none_such : {X : Type 0} (p : X → Bool) (xs : List X) → find p xs ≡ None → All (λ x. p x ≡ false) xs
 none_such p [] none = All-nil (λ x. p x ≡ false)
 none_such p (x ∷ xs) none = by (p x) refl (λ rest. none_such p xs rest) none
   where
@@ -97,11 +97,11 @@ all_such p (x ∷ xs) is = by (p x) refl (λ rest. all_such p xs rest) is
     by true here more rest = All-cons (λ y. p y ≡ true) x xs here (more rest)
     by false here more rest = absurd (cc)
 
-not_wrong : (wrong : Bool) (r : Refusal) → refused_where wrong r ≡ None → wrong ≡ false
+pub not_wrong : (wrong : Bool) (r : Refusal) → refused_where wrong r ≡ None → wrong ≡ false
 not_wrong true r is = absurd (cc)
 not_wrong false r is = refl
 
-right : (b : Bool) → not b ≡ false → b ≡ true
+pub right : (b : Bool) → not b ≡ false → b ≡ true
 right true is = refl
 right false is = cc
 

@@ -1,6 +1,7 @@
 pub mod Places
 pub mod Tables
 pub mod Held
+pub mod Stale
 pub mod Dropped
 pub mod Events
 pub mod Shaped
@@ -9,3 +10,5 @@ pub mod Commits
 pub mod Marked
 pub mod Fits
 mod Loaded
+pub mod Reached
+pub mod Added

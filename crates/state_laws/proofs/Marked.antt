@@ -9,11 +9,11 @@ use Rattle.db_model.specs.Database.{Database, Shape, Table}
 use Rattle.db_model.specs.Epochs.{last_good}
 use Rattle.db_model.specs.Events.{mark_raised}
 use Rattle.db_model.specs.Refusals.{mark_refusal, raise_refusal}
-use Rattle.db_model.specs.Sound.{ChangesFit, IsSound, IsSoundDatabase}
+use Rattle.db_model.specs.Sound.{ChangesFit, IsSound, IsSoundDatabase, IsStale}
 use Rattle.db_model.specs.State.{State, Changes}
 use Rattle.db_laws.proofs.Goods.{Reaches, TableReaches, good_itself}
 use Rattle.sound_laws.proofs.Marked.{marked_sound}
-use Rattle.state_laws.proofs.Events.{no_names, database_sound, first_none}
+use Rattle.state_laws.proofs.Events.{database_sound, first_none}
 
 changes_still : (d : Database) (mark : ℕ) (c : Changes) → ChangesFit d c → ChangesFit (record d { ahm = mark }) c
 changes_still d mark c fit = record { table = fit.table; there = fit.there; rows = fit.rows; deletes = fit.deletes; shared = fit.shared }
@@ -46,6 +46,9 @@ raised_database d mark le sound =
     let closed = good.closed in
     marked_sound d mark (omega (arith, le, closed)) (All-weaker (TableReaches (last_good d)) (TableReaches mark) (table_reaches mark (last_good d) le) d.tables good.tables) sound
 
-pub raised_state : (state : State) (mark : ℕ) → state.asked ≡ no_names → mark ≤ last_good state.database → IsSound state → IsSound (mark_raised mark state)
-raised_state state mark none le sound =
-    database_sound state (record (state.database) { ahm = mark }) none (changes_still state.database mark) (raised_database state.database mark le sound.database) sound
+pub raised_state : (state : State) (mark : ℕ) → mark ≤ last_good state.database → IsSound state → IsSound (mark_raised mark state)
+raised_state state mark le sound =
+    let d = state.database in
+    let e = record d { ahm = mark } in
+    database_sound state e (All-weaker (IsStale d) (IsStale e) (λ n is. record { table = is.table; shape = is.shape; there = is.there; of = is.of; named = is.named; stale = is.stale }) state.asked sound.asked)
+    (changes_still d mark) (raised_database d mark le sound.database) sound

@@ -22,11 +22,12 @@ use Rattle.db_model.specs.Events.{is_empty_list, new_shape, put_shape, with_shap
 use Rattle.db_model.specs.Numbers.{spent_refusal}
 use Rattle.db_model.specs.Refusing.{if_taken}
 use Rattle.db_model.specs.Refusals.{projection_created_refusal, projection_refusal_over}
-use Rattle.db_model.specs.Sound.{RowFits, ReachesMark, IsSoundShape, IsSoundTable, IsSoundDatabase, IsSound, ChangesFit, names_of, all_names}
+use Rattle.db_model.specs.Sound.{RowFits, ReachesMark, IsSoundShape, IsSoundTable, IsSoundDatabase, IsSound, IsStale, ChangesFit, names_of, all_names}
 use Rattle.db_model.specs.Views.{columns_found, table_found}
 use Rattle.sound_laws.proofs.Pairs.{pairs_front, pairs_back, pairs_across, pairs_join, all_front, all_back}
 use Rattle.sound_laws.proofs.Created.{Differ, differ_turned, table_still}
-use Rattle.state_laws.proofs.Events.{no_names, first_none, none_taken, no_existing, database_sound}
+use Rattle.state_laws.proofs.Stale.{HasStale, in_put_shape, stale_changed}
+use Rattle.state_laws.proofs.Events.{first_none, none_taken, no_existing, database_sound}
 
 -- ---- a name among others
 
@@ -261,6 +262,13 @@ shaped_free state p free =
     let rest = first_none (option_map Refusal.Exists (if_taken tables p.name)) form whole.1 in
     none_taken tables p.name (no_existing (if_taken tables p.name) rest.0)
 
-pub shaped_state : (state : State) (p : NewProjection) → state.asked ≡ no_names → projection_created_refusal state p ≡ None → IsSound state → IsSound (projection_created p state)
-shaped_state state p none free sound =
-    database_sound state (shaped p state.database) none (shaped_fit state.database p) (shaped_sound state.database p (shaped_free state p free) sound.database) sound
+-- a table with a projection more has those that it had
+has_shaped : (mark last : ℕ) (p : NewProjection) (name : List ℕ) (t : Table) → HasStale name t → HasStale name (with_shape mark last p t)
+has_shaped mark last p name t has = record { shape = has.shape; of = in_put_shape (new_shape mark last p t) t.shapes has.shape has.of; named = has.named; stale = has.stale }
+
+pub shaped_state : (state : State) (p : NewProjection) → projection_created_refusal state p ≡ None → IsSound state → IsSound (projection_created p state)
+shaped_state state p free sound =
+    let d = state.database in
+    database_sound state (shaped p d)
+    (All-weaker (IsStale d) (IsStale (shaped p d)) (λ n is. stale_changed d p.table (with_shape d.ahm d.last p) n (has_shaped d.ahm d.last p n) is) state.asked sound.asked) (shaped_fit d p)
+    (shaped_sound d p (shaped_free state p free) sound.database) sound

@@ -16,7 +16,8 @@ use Rattle.db_model.specs.Sound.{IsSoundShape, IsSoundTable, IsSoundDatabase, Is
 use Rattle.sound_laws.proofs.Pairs.{pairs_front, pairs_back, pairs_across, pairs_join, all_front, all_back, pairs_head, pairs_tail}
 use Rattle.sound_laws.proofs.Created.{Differ, differ_turned, table_still}
 use Rattle.state_laws.proofs.Tables.{map_named}
-use Rattle.state_laws.proofs.Events.{no_names, first_none, database_sound}
+use Rattle.state_laws.proofs.Stale.{HasStale, filtered, in_filter, stale_mapped}
+use Rattle.state_laws.proofs.Events.{first_none, database_sound, fewer_asked}
 
 -- ---- names
 
@@ -218,15 +219,31 @@ has_owner name (Some t) is = (t, refl, by (is_last_super name t) is)
     by true some = absurd (cc)
     by false none = refl
 
-unshaped_database : (state : State) (name : List ℕ) → state.asked ≡ no_names → projection_dropped_refusal state name ≡ None → IsSound state → IsSound (record state { database = unshaped name state.database })
-unshaped_database state name none free sound =
+-- a table without a projection of one name has those of other names
+has_unshaped : (name other : List ℕ) (t : Table) → is_not_named name other ≡ true → HasStale other t → HasStale other (without_shape name t)
+has_unshaped name other t off has = record {
+  shape = has.shape;
+  of = in_filter (λ s. is_not_named name s.name) t.shapes has.shape (ap (is_not_named name) has.named ∙ off) has.of;
+  named = has.named;
+  stale = has.stale;
+}
+
+-- what is asked for, but for one name
+abbrev asked_besides : List ℕ → State → State
+asked_besides name state = record state { asked = filter (is_not_named name) state.asked }
+
+unshaped_database : (state : State) (name : List ℕ) → projection_dropped_refusal state name ≡ None → IsSound state → IsSound (record (asked_besides name state) { database = unshaped name state.database })
+unshaped_database state name free sound =
     let d = state.database in
     let found = has_owner name (owner name d.tables) (first_none (last_super_refusal name (owner name d.tables)) (spent_refusal state) free).0 in
-    database_sound state (unshaped name d) none (unshaped_fit d name) (unshaped_sound d name found.0 found.1 found.2 sound.database) sound
+    let stale : All (IsStale (unshaped name d)) (asked_besides name state).asked =
+    filtered (IsStale d) (IsStale (unshaped name d)) (is_not_named name) state.asked
+    (λ n passes is. stale_mapped d (unshaped name d) (without_shape name) n refl (λ t has. has_unshaped name n t passes has) is) sound.asked in
+    database_sound (asked_besides name state) (unshaped name d) stale (unshaped_fit d name) (unshaped_sound d name found.0 found.1 found.2 sound.database) (fewer_asked state (is_not_named name) sound)
 
-pub unshaped_state : (state : State) (name : List ℕ) → state.asked ≡ no_names → projection_dropped_refusal state name ≡ None → IsSound state → IsSound (projection_dropped name state)
-unshaped_state state name none free sound =
-    let left = unshaped_database state name none free sound in
+pub unshaped_state : (state : State) (name : List ℕ) → projection_dropped_refusal state name ≡ None → IsSound state → IsSound (projection_dropped name state)
+unshaped_state state name free sound =
+    let left = unshaped_database state name free sound in
     record {
       database = left.database;
       eight = left.eight;
@@ -234,5 +251,5 @@ unshaped_state state name none free sound =
       current = left.current;
       sessions = left.sessions;
       apart = left.apart;
-      asked = subst (λ (names : List (List ℕ)). All (IsStale (unshaped name state.database)) (filter (is_not_named name) names)) (sym none) (All-nil (IsStale (unshaped name state.database)));
+      asked = left.asked;
     }

@@ -1,20 +1,22 @@
 //! Laws of sound states.
 
-ghost use Rattle.std.specs.Prelude.{ℕ, ◌≡◌, ◌≤◌, [], false, filter, List, None, Some};
+ghost use Rattle.std.specs.Prelude.{ℕ, ◌≡◌, ◌≤◌, [], Bool, false, filter, List, None, Some};
 ghost use Rattle.std.specs.List.{All};
 ghost use Rattle.col_value.specs.declared.column.Column.{Column};
 ghost use Rattle.col_value.specs.declared.value.Value.{Value};
 ghost use Rattle.col_value.specs.Order.{IsRow};
+ghost use Rattle.sql_tree.specs.declared.statement.AddColumn.{AddColumn};
 ghost use Rattle.sql_tree.specs.declared.statement.Insert.{Insert};
 ghost use Rattle.sql_tree.specs.declared.statement.NewProjection.{NewProjection};
 ghost use Rattle.sql_binding.specs.Inserts.{inserted_rows};
-ghost use Rattle.db_model.specs.Database.{Table, table_named};
+ghost use Rattle.db_model.specs.Database.{Database, Shape, Table, table_named};
 ghost use Rattle.db_model.specs.State.{State};
 ghost use Rattle.db_model.specs.Loading.{Load, Loads};
 ghost use Rattle.db_model.specs.Epochs.{last_good};
-ghost use Rattle.db_model.specs.Events.{changes_committed, changes_dropped, is_not_named, mark_raised, projection_created, projection_dropped, rows_pending, table_created, table_dropped};
+ghost use Rattle.db_model.specs.Events.{changes_committed, changes_dropped, column_added, is_not_named, mark_raised, projection_created, projection_dropped, refresh_started, rows_pending, table_created, table_dropped};
+ghost use Rattle.db_model.specs.Mover.{refreshed, RaisesAll, RefreshesAll, Rises};
 ghost use Rattle.db_model.specs.Numbers.{IsDrawn};
-ghost use Rattle.db_model.specs.Refusals.{locked, projection_created_refusal, projection_dropped_refusal, table_created_refusal, table_dropped_refusal};
+ghost use Rattle.db_model.specs.Refusals.{column_added_refusal, locked, projection_created_refusal, projection_dropped_refusal, table_created_refusal, table_dropped_refusal};
 ghost use Rattle.db_model.specs.Sound.{IsSound, IsSoundDatabase, RowFits};
 ghost use Rattle.sound_laws.specs.Moves.{moved_at};
 ghost use Rattle.state_laws.specs.Rows.{AreStored};
@@ -84,4 +86,22 @@ pub fn sessions_may_change()
 /// A state stays sound where a projection was moved out.
 pub fn moved_states_are_sound()
     ensures { (state : State) (i j : ℕ) → state.asked ≡ [] → IsSound state → IsSound (record state { database = moved_at i j state.database }) }
+{}
+
+/// A state stays sound in an ALTER TABLE that isn't refused.
+pub fn a_new_column_is_sound()
+    ensures { (state : State) (a : AddColumn) → column_added_refusal state a ≡ None → IsSound state → IsSound (column_added a state) }
+{}
+
+/// A state stays sound where the epoch up to which an up-to-date projection is on disk rises, and in several such jobs.
+pub fn risen_states_are_sound()
+    ensures one { (state : State) (d : Database) → Rises state.database d → IsSound state → IsSound (record state { database = d }) }
+    ensures all { (meant : Shape → Bool) (stopped : Bool) (old new : State) → RaisesAll meant old stopped new → IsSound old → IsSound new }
+{}
+
+/// A state stays sound where a projection comes to be up to date, in several such jobs, and where the mover is asked for all that aren't.
+pub fn refreshed_states_are_sound()
+    ensures one { (state : State) (name : List ℕ) → IsSound state → IsSound (refreshed name state) }
+    ensures all { (table : List ℕ) (stopped : Bool) (old new : State) → RefreshesAll table old stopped new → IsSound old → IsSound new }
+    ensures started { (state : State) → IsSound state → IsSound (refresh_started state) }
 {}

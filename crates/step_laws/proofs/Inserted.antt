@@ -21,7 +21,8 @@ use Rattle.sound_laws.proofs.Pairs.{all_front, all_back}
 use Rattle.state_laws.specs.Rows.{AreStored}
 use Rattle.state_laws.proofs.Events.{first_none, no_names, pending_state}
 use Rattle.state_laws.proofs.Fits.{inserted_fit}
-use Rattle.row_setting.proofs.Accepted.{Stored, all_stored, mapped_none, stored_value}
+use Rattle.sound_laws.proofs.Storable.{stored_value}
+use Rattle.row_setting.proofs.Accepted.{Stored, all_stored, mapped_none}
 use Rattle.change_laws.proofs.Marked.{found_named}
 
 -- ---- the rows are rows of a table
