@@ -36,7 +36,7 @@ use Rattle.db_model.specs.Printing.{commit_text, IsListed}
 use Rattle.db_model.specs.Refusals.{query_refusal_in, table_created_refusal, table_dropped_refusal, projection_created_refusal, projection_dropped_refusal, column_added_refusal, SumRefuses, SelectRefuses}
 use Rattle.db_model.specs.Refusing.{commit_refusal, epoch_refusal}
 use Rattle.db_model.specs.Views.{bound_in, inputs}
-use Rattle.db_laws.proofs.Goods.{IsGood, good_itself, good_created, good_dropped, good_projected, good_bared, good_added, good_committed, good_drawn}
+use Rattle.db_laws.proofs.Goods.{IsGood, good_itself, good_created, good_dropped, good_projected, good_bared, good_widened, good_committed, good_drawn}
 use Rattle.folder_model.specs.Reopening.{Reopens}
 use Rattle.statement_plan.specs.Bare.{bare_table}
 use Rattle.statement_plan.specs.Places.{table_place}
@@ -100,7 +100,7 @@ pub added_event : (state : State) (files : Files) (a : AddColumn) → column_add
 added_event state files a accepted sound made draw = record {
   answer = λ new drawn. record { decided = sym accepted; effect = (refl, drawn) };
   sound = λ new drawn. (draw state (column_added a state) new drawn made).database;
-  good = λ new drawn. good_drawn (last_good state.database) state (column_added a state) new drawn (good_added (last_good state.database) a state (good_itself state.database sound.database));
+  good = λ new drawn. good_drawn (last_good state.database) state (column_added a state) new drawn (good_widened (last_good state.database) a state (good_itself state.database sound.database));
 }
 
 -- where the table of a name stands

@@ -18,7 +18,7 @@ use col_value::Value;
 use folder_model::every_image_reopens;
 use sql_tree::{AddColumn, NewProjection};
 use state_laws::{
-    a_new_projection_is_sound, an_event_may_draw, columns_may_be_added, projections_may_be_dropped,
+    a_new_column_is_sound, a_new_projection_is_sound, an_event_may_draw, projections_may_be_dropped,
 };
 use statement_text::{column_added_text, projection_created_text, projection_dropped_text};
 use std::alloc::{AllocError, Global};
@@ -69,7 +69,7 @@ pub fn add_column<D: Disk>(
 {
     every_image_reopens::<D>();
     frames_are_of_the_state::<D>();
-    columns_may_be_added();
+    a_new_column_is_sound();
     an_event_may_draw();
     let text = match column_added_text(alloc) {
         Ok(text) => text,

@@ -16,7 +16,7 @@ ghost use Rattle.store_core.specs.Events.{Does};
 use super::Store;
 use col_disk::{Disk, DiskFault};
 use col_value::{Column, Value};
-use state_laws::{an_event_may_draw, columns_may_be_added};
+use state_laws::{a_new_column_is_sound, an_event_may_draw};
 use std::alloc::Global;
 
 impl Store {
@@ -36,7 +36,7 @@ impl Store {
         ensures same { OnErr result (self.new ≡ self.old) }
         ensures cause { HasCause DiskFault.Failed (D.faults disk.old) (D.faults disk.new) result }
     {
-        columns_may_be_added();
+        a_new_column_is_sound();
         an_event_may_draw();
         self.tables.add_column(alloc, table, column, default, disk)
     }

@@ -32,5 +32,5 @@ returns-clause-answers g c = λ files state here.
     let says : Says (codes "ALTER TABLE\n") c.printed.result = search rules in
     subst (λ (r : Result Answer StoreFault). Answers g.D.Disk files s c.add_column.new.self c.args.disk.now c.add_column.new.disk r state) (sym c.on_disk.ensures)
     (event_answers g.D.Disk Memory store_fault c.args.store.now c.add_column.new.self c.add_column.result c.printed.result state files s (codes "ALTER TABLE\n") (IsDrawn state made) here says
-    (added_event state files a planned.accepted here.sound (c.columns_may_be_added.ensures state a here.asked planned.accepted here.sound) c.an_event_may_draw.ensures)
+    (added_event state files a planned.accepted here.sound (c.a_new_column_is_sound.ensures state a planned.accepted here.sound) c.an_event_may_draw.ensures)
     disk_short (disk_unblamed c.add_column.result) c.add_column.ensures.same (c.add_column.ensures.does state a here planned.accepted planned.of.0 refl (sym planned.of.1)))
