@@ -6,3 +6,4 @@ pub mod Moving
 pub mod Drawing
 pub mod Shaping
 pub mod Faults
+pub mod Widening

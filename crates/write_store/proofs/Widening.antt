@@ -1,5 +1,5 @@
 -- Rows in memory with one value more each.
-use Rattle.std.proofs.Common.{◌≡◌, ◌++◌, List, [], ◌∷◌, map, refl, ap}
+use Rattle.std.proofs.Common.{◌≡◌, List, [], ◌∷◌, map, refl, ap}
 use Rattle.std.proofs.lemmas.List.Elements.{All-nil, All-cons, All-head, All-tail, All-push}
 use Rattle.col_value.specs.Order.{IsValue, IsRow}
 use Rattle.col_value.specs.declared.row.Stamped.{Stamped}
