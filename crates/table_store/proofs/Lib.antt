@@ -15,3 +15,4 @@ pub mod Drawn
 pub mod Shaped
 pub mod Unshaped
 pub mod Unblamed
+pub mod Wider

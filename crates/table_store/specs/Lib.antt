@@ -7,3 +7,4 @@ pub mod Installing
 pub mod Drawing
 pub mod Shaping
 pub mod Faults
+pub mod Widening
