@@ -1,12 +1,12 @@
 -- Over alike changes the same statements are refused.
 use Rattle.std.proofs.Common.{◌≡◌, ℕ, ◌-◌, ◌+◌, Bool, true, false, cond, List, [], ◌∷◌, refl, ap, ap₂, ◌∙◌, subst}
-use Rattle.std.specs.Prelude.{Option, Some, option_map, find, bytes_eq, not, ◌==◌, ◌&&◌, ◌||◌, nat_le, slice_set, slice_index_or}
+use Rattle.std.specs.Prelude.{Option, Some, is_some, option_map, find, bytes_eq, not, ◌==◌, ◌&&◌, ◌||◌, nat_le, slice_set, slice_index_or}
 use Rattle.std.specs.List.{enumerate_from}
 use Rattle.std.specs.Option.{option_map_or}
 use Rattle.common_laws.proofs.BagLaws.{bag_length}
 use Rattle.col_value.specs.declared.value.Value.{Value}
 use Rattle.db_model.specs.Events.{rows_pending}
-use Rattle.db_model.specs.Locks.{changes_on, excludes}
+use Rattle.db_model.specs.Locks.{changes_on, excludes, holder}
 use Rattle.db_model.specs.Refusals.{joining_limit, locked}
 use Rattle.db_model.specs.Refusing.{commit_refusal, rows_limit}
 use Rattle.db_model.specs.State.{Changes, State, own_changes, pending_rows, with_changes, with_rows}
@@ -41,15 +41,16 @@ keeps_from current name want e = not (e.0 == current) && excludes name want e.1
 abbrev holder_of : Option Numbered → Option ℕ
 holder_of found = option_map (λ e. e.0) found
 
-holder_alike : (current : ℕ) (name : List ℕ) (want : Bool) (n : ℕ) (ss os : List (List Changes)) → AreAlikeSessions ss os → holder_of (find (keeps_from current name want) (enumerate_from n ss)) ≡ holder_of (find (keeps_from current name want) (enumerate_from n os))
-holder_alike current name want n [] [] alike = refl
-holder_alike current name want n [] (o ∷ os) alike = absurd alike
-holder_alike current name want n (s ∷ ss) [] alike = absurd alike
-holder_alike current name want n (s ∷ ss) (o ∷ os) (here, more) =
-    by (keeps_from current name want (n, s)) (keeps_from current name want (n, o)) (ap (λ (b : Bool). not (n == current) && b) (held_alike name want s o here)) (holder_alike current name want (n + 1) ss os more)
+-- what tells nothing of alike changes apart finds the same session
+found_alike : (p : Numbered → Bool) → ((n : ℕ) (s o : List Changes) → Alike s o → p (n, s) ≡ p (n, o)) → (n : ℕ) (ss os : List (List Changes)) → AreAlikeSessions ss os
+    → holder_of (find p (enumerate_from n ss)) ≡ holder_of (find p (enumerate_from n os))
+found_alike p same n [] [] alike = refl
+found_alike p same n [] (o ∷ os) alike = absurd alike
+found_alike p same n (s ∷ ss) [] alike = absurd alike
+found_alike p same n (s ∷ ss) (o ∷ os) (here, more) = by (p (n, s)) (p (n, o)) (same n s o here) (found_alike p same (n + 1) ss os more)
   where
     rest_of : List (List Changes) → Option Numbered
-    rest_of xs = find (keeps_from current name want) (enumerate_from (n + 1) xs)
+    rest_of xs = find p (enumerate_from (n + 1) xs)
 
     by : (b d : Bool) → b ≡ d → holder_of (rest_of ss) ≡ holder_of (rest_of os) → holder_of (cond b (Some (n, s)) (rest_of ss)) ≡ holder_of (cond d (Some (n, o)) (rest_of os))
     by true true is rest = refl
@@ -59,8 +60,24 @@ holder_alike current name want n (s ∷ ss) (o ∷ os) (here, more) =
 
 pub locked_alike : (a b : State) (name : List ℕ) (want : Bool) → AreAlikeSessions a.sessions b.sessions → a.current ≡ b.current → locked a name want ≡ locked b name want
 locked_alike a b name want alike current =
-    ap (option_map Refusal.Locked) (holder_alike a.current name want 1 a.sessions b.sessions alike)
+    ap (option_map Refusal.Locked)
+    (found_alike (keeps_from a.current name want) (λ n s o here. ap (λ (held : Bool). not (n == a.current) && held) (held_alike name want s o here)) 1 a.sessions b.sessions alike)
     ∙ ap (λ (n : ℕ). option_map Refusal.Locked (holder_of (find (keeps_from n name want) (enumerate_from 1 b.sessions)))) current
+
+holds_alike : (name : List ℕ) (cs es : List Changes) → Alike cs es → is_some (changes_on name cs) ≡ is_some (changes_on name es)
+holds_alike name [] [] alike = refl
+holds_alike name [] (e ∷ es) alike = absurd alike
+holds_alike name (c ∷ cs) [] alike = absurd alike
+holds_alike name (c ∷ cs) (e ∷ es) (here, more) = by (bytes_eq c.table name) (bytes_eq e.table name) (ap (λ (n : List ℕ). bytes_eq n name) here.table) (holds_alike name cs es more)
+  where
+    by : (b d : Bool) → b ≡ d → is_some (changes_on name cs) ≡ is_some (changes_on name es) → is_some (cond b (Some c) (changes_on name cs)) ≡ is_some (cond d (Some e) (changes_on name es))
+    by true true is rest = refl
+    by true false is rest = absurd (cc)
+    by false true is rest = absurd (cc)
+    by false false is rest = rest
+
+pub holder_alike : (a b : State) (name : List ℕ) → AreAlikeSessions a.sessions b.sessions → holder a name ≡ holder b name
+holder_alike a b name alike = found_alike (λ e. is_some (changes_on name e.1)) (λ n s o here. holds_alike name s o here) 1 a.sessions b.sessions alike
 
 -- ---- the limit on rows
 

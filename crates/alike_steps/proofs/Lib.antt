@@ -7,6 +7,7 @@ pub mod Committed
 pub mod Told
 pub mod Marked
 pub mod Moved
+pub mod Widened
 pub mod Stayed
 pub mod Stepped
 pub mod Ran

@@ -19,14 +19,13 @@ use Rattle.alike_laws.specs.Reordered.{AreAlikeSessions}
 use Rattle.one_text.specs.Scripts.{IsQuiet}
 use Rattle.one_text.proofs.Numbered.{left_before, step_grows}
 use Rattle.alike_steps.specs.Runs.{AlikeRunsGoThrough, AlikeRunsPrintAlike, AlikeTextsGoThrough, AlikeTextsRunAlike, AreAlikeStarts, HaveNumbersLeft}
-use Rattle.alike_steps.specs.Steps.{AlikeStatesStepAlike, IsStepless, UnrefusedStepsAlike}
+use Rattle.alike_steps.specs.Steps.{AlikeStatesStepAlike, IsDetermined, UnrefusedStepsAlike}
 use Rattle.alike_steps.proofs.Moved.{all_alike, left_goes}
 use Rattle.alike_steps.proofs.Shaped.{left_alike}
 
--- a step leaves a sound state sound, and lets no projection wait
-pub record StepsSettle : Type 0 where
-  pub sound : (serves : Statement → Bool) (old new : State) (files : Files) (text printed : List ℕ) (why : Option Refusal) → old.asked ≡ [] → IsSound old → Step serves old files text printed why new → IsSound new
-  pub asked : (serves : Statement → Bool) (old new : State) (files : Files) (text printed : List ℕ) (why : Option Refusal) → old.asked ≡ [] → IsSound old → Step serves old files text printed why new → new.asked ≡ []
+-- a step leaves a sound state sound
+abbrev pub StepsKeepSound : Type 0
+StepsKeepSound = (serves : Statement → Bool) (old new : State) (files : Files) (text printed : List ℕ) (why : Option Refusal) → Step serves old files text printed why new → IsSound old → IsSound new
 
 -- without steps of the mover a statement text passes into what its step leaves
 passed : (setting : Setting) (a : State) (text printed : List ℕ) (why : Option Refusal) (x : State) → setting.steps ≡ 0 → Passes setting a text printed why x → Step setting.serves a setting.files text printed why x
@@ -41,9 +40,9 @@ texts_grow setting (text ∷ more) a printed refused x none quiet (first, why, m
     let behind = texts_grow setting more mid rest later x none (All-tail IsQuiet text more quiet) ran in
     omega (arith, here, behind)
 
-pub texts_alike : AlikeStatesStepAlike → StepsSettle → AlikeTextsRunAlike
-texts_alike steps settle setting a b [] p q r s x y none quiet starts left (p_is, r_is, x_is) (q_is, s_is, y_is) = (p_is ∙ sym q_is, r_is ∙ sym s_is, left_alike a b x y x_is y_is starts.alike)
-texts_alike steps settle setting a b (text ∷ more) p q r s x y none quiet starts left (first, why, mid, rest, later, passes, ran, p_is, r_is) (first', why', mid', rest', later', passes', ran', q_is, s_is) =
+pub texts_alike : AlikeStatesStepAlike → StepsKeepSound → AlikeTextsRunAlike
+texts_alike steps keep setting a b [] p q r s x y none quiet starts left (p_is, r_is, x_is) (q_is, s_is, y_is) = (p_is ∙ sym q_is, r_is ∙ sym s_is, left_alike a b x y x_is y_is starts.alike)
+texts_alike steps keep setting a b (text ∷ more) p q r s x y none quiet starts left (first, why, mid, rest, later, passes, ran, p_is, r_is) (first', why', mid', rest', later', passes', ran', q_is, s_is) =
     let here = All-head IsQuiet text more quiet in
     let others : All IsQuiet more = All-tail IsQuiet text more quiet in
     let step = passed setting a text first why mid none passes in
@@ -55,10 +54,9 @@ texts_alike steps settle setting a b (text ∷ more) p q r s x y none quiet star
     let both = steps setting.serves a b setting.files text first first' why why' mid mid' starts.alike starts.sound here (left_a ∙ sym left_b) step step' in
     let next : AreAlikeStarts mid mid' = record {
       alike = both.2;
-      sound = settle.sound setting.serves a mid setting.files text first why starts.none starts.sound step;
-      none = settle.asked setting.serves a mid setting.files text first why starts.none starts.sound step;
+      sound = keep setting.serves a mid setting.files text first why step starts.sound;
     } in
-    let behind = texts_alike steps settle setting mid mid' more rest rest' later later' x y none others next left ran ran' in
+    let behind = texts_alike steps keep setting mid mid' more rest rest' later later' x y none others next left ran ran' in
     let texts : first ++ rest ≡ first' ++ rest' = ap (λ (t : List ℕ). t ++ rest) both.0 ∙ ap (λ (t : List ℕ). first' ++ t) behind.0 in
     let flags : (is_some why || later) ≡ (is_some why' || later') = ap (λ (t : Option Refusal). is_some t || later) both.1 ∙ ap (λ (t : Bool). is_some why' || t) behind.1 in
     (p_is ∙ texts ∙ sym q_is, r_is ∙ flags ∙ sym s_is, behind.2)
@@ -69,21 +67,20 @@ neither : (o : Option Refusal) (later : Bool) → false ≡ (is_some o || later)
 neither None later is = (refl, sym is)
 neither (Some refusal) later is = absurd (cc)
 
-pub texts_through : UnrefusedStepsAlike → StepsSettle → AlikeTextsGoThrough
-texts_through steps settle setting a b [] p q x y none stepless starts (p_is, r_is, x_is) (q_is, s_is, y_is) = (p_is ∙ sym q_is, left_alike a b x y x_is y_is starts.alike)
-texts_through steps settle setting a b (text ∷ more) p q x y none stepless starts (first, why, mid, rest, later, passes, ran, p_is, r_is) (first', why', mid', rest', later', passes', ran', q_is, s_is) =
+pub texts_through : UnrefusedStepsAlike → StepsKeepSound → AlikeTextsGoThrough
+texts_through steps keep setting a b [] p q x y none determined starts (p_is, r_is, x_is) (q_is, s_is, y_is) = (p_is ∙ sym q_is, left_alike a b x y x_is y_is starts.alike)
+texts_through steps keep setting a b (text ∷ more) p q x y none determined starts (first, why, mid, rest, later, passes, ran, p_is, r_is) (first', why', mid', rest', later', passes', ran', q_is, s_is) =
     let here = neither why later r_is in
     let there = neither why' later' s_is in
     let step = passed setting a text first None mid none (subst (λ (o : Option Refusal). Passes setting a text first o mid) here.0 passes) in
     let step' = passed setting b text first' None mid' none (subst (λ (o : Option Refusal). Passes setting b text first' o mid') there.0 passes') in
-    let both = steps setting.serves a b setting.files text first first' mid mid' starts.alike starts.sound (All-head IsStepless text more stepless) step step' in
+    let both = steps setting.serves a b setting.files text first first' mid mid' starts.alike starts.sound (All-head IsDetermined text more determined) step step' in
     let next : AreAlikeStarts mid mid' = record {
       alike = both.1;
-      sound = settle.sound setting.serves a mid setting.files text first None starts.none starts.sound step;
-      none = settle.asked setting.serves a mid setting.files text first None starts.none starts.sound step;
+      sound = keep setting.serves a mid setting.files text first None step starts.sound;
     } in
     let behind =
-    texts_through steps settle setting mid mid' more rest rest' x y none (All-tail IsStepless text more stepless) next (subst (λ (l : Bool). RunTexts setting mid more rest l x) here.1 ran)
+    texts_through steps keep setting mid mid' more rest rest' x y none (All-tail IsDetermined text more determined) next (subst (λ (l : Bool). RunTexts setting mid more rest l x) here.1 ran)
     (subst (λ (l : Bool). RunTexts setting mid' more rest' l y) there.1 ran') in
     (p_is ∙ ap (λ (t : List ℕ). t ++ rest) both.0 ∙ ap (λ (t : List ℕ). first' ++ t) behind.0 ∙ sym q_is, behind.1)
 
@@ -116,6 +113,6 @@ runs_alike law setting start begin script printed other refused also new left no
     (both.0, both.1, ends_alike setting.halts mid mid' new left both.2 numbers ends ends')
 
 pub runs_through : AlikeTextsGoThrough → AlikeRunsGoThrough
-runs_through law setting start begin script printed other new left none stepless starts (mid, ran, ends) (mid', ran', ends') =
-    let both = law setting start begin (statement_texts script) printed other mid mid' none stepless starts ran ran' in
+runs_through law setting start begin script printed other new left none determined starts (mid, ran, ends) (mid', ran', ends') =
+    let both = law setting start begin (statement_texts script) printed other mid mid' none determined starts ran ran' in
     (both.0, λ numbers. ends_alike setting.halts mid mid' new left both.1 numbers ends ends')

@@ -118,11 +118,13 @@ module _ (a b : State) (alike : AreAlikeStates a b) where
       ap₂ (λ (cs : Option (List Column)) (x : Bool). shaped_by p cs x (option_and_then (λ e. projection_refusal_over p e.1) (table_found p.table ts)) (are_spent a)) columns taken
       ∙ ap₂ (λ (o : Option Refusal) (x : Bool). shaped_by p (columns_found us p.table) (is_taken p.name us) o x) form spent
 
+  pub unknown_same : (name : List ℕ) → unknown_table_refusal a name ≡ unknown_table_refusal b name
+  unknown_same name =
+      both_or (AreAlikeFound a.database.ahm) (λ e. None) (λ e. None) (Some (Refusal.UnknownTable name)) (λ e f both. refl) (table_found name ts) (table_found name us) (found_both a.database.ahm name ts us alike.database.tables)
+
   pub drop_same : (name : List ℕ) → are_spent a ≡ are_spent b → table_dropped_refusal a name ≡ table_dropped_refusal b name
   drop_same name spent =
-      let unknown : unknown_table_refusal a name ≡ unknown_table_refusal b name =
-      both_or (AreAlikeFound a.database.ahm) (λ e. None) (λ e. None) (Some (Refusal.UnknownTable name)) (λ e f both. refl) (table_found name ts) (table_found name us) (found_both a.database.ahm name ts us alike.database.tables) in
-      ap₂ (λ (o p : Option Refusal). first_of o (first_of p (spent_refusal a))) unknown (locked_alike a b name true alike.sessions alike.current)
+      ap₂ (λ (o p : Option Refusal). first_of o (first_of p (spent_refusal a))) (unknown_same name) (locked_alike a b name true alike.sessions alike.current)
       ∙ ap (λ (x : Bool). first_of (unknown_table_refusal b name) (first_of (locked b name true) (refused_where x Refusal.NumbersSpent))) spent
 
   pub unshape_same : (name : List ℕ) → are_spent a ≡ are_spent b → projection_dropped_refusal a name ≡ projection_dropped_refusal b name

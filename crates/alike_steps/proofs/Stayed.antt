@@ -1,4 +1,4 @@
--- What is refused leaves a state as it was, but for a moveout of all.
+-- What is refused leaves a state as it was, but for functions of several jobs.
 use Rattle.std.proofs.Common.{◌≡◌, refl}
 use Rattle.std.specs.Prelude.{Option, Some, None}
 use Rattle.sql_tree.specs.declared.statement.Function.{Function}
@@ -14,10 +14,10 @@ call_stays a Function.Ahm x quiet is = is
 call_stays a Function.Current x quiet is = is
 call_stays a Function.MakeAhmNow x quiet is = is
 call_stays a (Function.SetAhm n) x quiet is = is
-call_stays a Function.Moveout x quiet is = absurd (quiet.no_moveout refl)
-call_stays a Function.Mergeout x quiet is = is
-call_stays a (Function.Purge table) x quiet is = is
-call_stays a (Function.Refresh table) x quiet is = is
+call_stays a Function.Moveout x quiet is = absurd (quiet.no_jobs Function.Moveout tt refl)
+call_stays a Function.Mergeout x quiet is = absurd (quiet.no_jobs Function.Mergeout tt refl)
+call_stays a (Function.Purge table) x quiet is = absurd (quiet.no_jobs (Function.Purge table) tt refl)
+call_stays a (Function.Refresh table) x quiet is = absurd (quiet.no_jobs (Function.Refresh table) tt refl)
 call_stays a Function.StartRefresh x quiet is = is
 
 statement_stays : (a : State) (s : Statement) (x : State) → IsOther s → RefusedLeaves a s x → x ≡ a

@@ -17,33 +17,35 @@ use Rattle.db_model.specs.Alike.{AreAlikeStates}
 use Rattle.db_model.specs.Answers.{epoch_line}
 use Rattle.db_model.specs.Database.{Table}
 use Rattle.db_model.specs.Epochs.{last_good, rises}
-use Rattle.db_model.specs.Events.{changes_committed, changes_dropped, mark_raised, on_table, projection_created, projection_dropped, rows_deleted, rows_loaded, rows_pending, rows_updated, table_created, table_dropped}
+use Rattle.db_model.specs.Events.{changes_committed, changes_dropped, column_added, is_of_table, mark_raised, on_table, projection_created, projection_dropped, refresh_started, rows_deleted, rows_loaded, rows_pending, rows_updated, table_created, table_dropped}
 use Rattle.db_model.specs.Leaving.{CallLeaves, CopyLeaves, Leaves, MarkLeaves}
 use Rattle.db_model.specs.Loading.{Files, Load, Loads}
+use Rattle.db_model.specs.Mover.{MovesAll, RaisesAll, RefreshesAll}
 use Rattle.db_model.specs.Numbers.{are_spent}
 use Rattle.db_model.specs.Printing.{CallPrints, CopyPrints, Prints, copy_text, counted_line}
-use Rattle.db_model.specs.Refusals.{CallRefuses, CopyRefuses, FileRefuses, LoadRefuses, Refuses, SumRefuses, UnlockedRefuses, is_large_file, load_refusal, locked, mark_refusal, query_refusal_in, raise_refusal}
+use Rattle.db_model.specs.Refusals.{CallRefuses, CopyRefuses, FileRefuses, LoadRefuses, Refuses, SumRefuses, TableJobsRefuse, UnlockedRefuses, is_large_file, load_refusal, locked, mark_refusal, query_refusal_in, raise_refusal, unknown_table_refusal}
 use Rattle.db_model.specs.Refusing.{epoch_refusal}
 use Rattle.db_model.specs.Sound.{IsSound}
 use Rattle.db_model.specs.State.{State}
 use Rattle.db_model.specs.Step.{Decides, Effect, Reads, RefusesForm}
 use Rattle.db_model.specs.Views.{bound_in, inputs, table_found}
 use Rattle.alike_laws.proofs.Refused.{commit_alike, joining_alike, load_alike, locked_alike, put_alike}
-use Rattle.one_text.specs.OneText.{QueriesHaveOneCause, QueriesHaveOneText}
+use Rattle.one_text.specs.OneText.{HasJobs, QueriesHaveOneCause, QueriesHaveOneText}
 use Rattle.one_text.specs.Scripts.{IsQuiet}
 use Rattle.one_text.proofs.Numbered.{IsOther, Others, others_read}
 use Rattle.one_text.proofs.OneLoad.{load_once, rows_loaded_once}
 use Rattle.one_text.proofs.OneQuery.{first_none, refusal_same}
-use Rattle.one_text.proofs.OneStep.{OneReading, decided_once, read_once}
-use Rattle.alike_steps.specs.Steps.{AlikeStatesStepAlike, IsStepless, MoveoutsStepAlike, UnrefusedStepsAlike}
+use Rattle.one_text.proofs.OneStep.{OneReading, decided_once, jobs_refused, read_once, table_jobs_refused}
+use Rattle.alike_steps.specs.Steps.{AlikeStatesStepAlike, IsDetermined, JobsStepAlike, TheStorageDecides, UnrefusedStepsAlike}
 use Rattle.alike_steps.proofs.Changed.{SettingsSeeABag, delete_counts, delete_same, deleted_alike, insert_same, pending_alike, update_counts, update_same, updated_alike}
 use Rattle.alike_steps.proofs.Committed.{can_commit, can_load, commit_texts, committed_zip, copy_texts}
 use Rattle.alike_steps.proofs.Marked.{raised_alike}
-use Rattle.alike_steps.proofs.Moved.{all_alike}
+use Rattle.alike_steps.proofs.Moved.{all_alike, refreshes_alike}
 use Rattle.alike_steps.proofs.Stayed.{text_stays}
-use Rattle.alike_steps.proofs.Shaped.{create_same, created_alike, drawn_alike, drop_same, dropped_alike, left_alike, shape_same, shaped_alike, unshape_same, unshaped_alike}
+use Rattle.alike_steps.proofs.Shaped.{create_same, created_alike, drawn_alike, drop_same, dropped_alike, left_alike, shape_same, shaped_alike, unknown_same, unshape_same, unshaped_alike}
 use Rattle.alike_steps.proofs.Tables.{AreAlikeFound, found_both}
 use Rattle.alike_steps.proofs.Told.{explain_same, good_same}
+use Rattle.alike_steps.proofs.Widened.{add_same, added_alike, started_alike}
 use Rattle.alike_steps.proofs.Zipped.{BothThere}
 
 abbrev Cause : Type 0
@@ -54,6 +56,13 @@ pub record HaveOneMeaning : Type 0 where
   pub cause : QueriesHaveOneCause
   pub text : QueriesHaveOneText
   pub settings : SettingsSeeABag
+
+-- of what isn't for the mover the storage doesn't decide
+quiet_decides : (s : Statement) → IsOther s → TheStorageDecides s → ⊥
+quiet_decides Statement.Step quiet decides = quiet.no_step refl
+quiet_decides (Statement.Call Function.Mergeout) quiet decides = quiet.no_jobs Function.Mergeout tt refl
+quiet_decides (Statement.Call (Function.Purge table)) quiet decides = quiet.no_jobs (Function.Purge table) tt refl
+quiet_decides s quiet decides = absurd decides
 
 module _ (a b : State) (alike : AreAlikeStates a b) (sound : IsSound a) where
   abbrev Found : ℕ × Table → ℕ × Table → Type 0
@@ -136,11 +145,11 @@ module _ (a b : State) (alike : AreAlikeStates a b) (sound : IsSound a) where
   call_refused Function.MakeAhmNow why also spent quiet first second =
       first ∙ ap (λ (mark : ℕ). raise_refusal mark a) (good_same a b alike) ∙ raise_same (last_good b.database) spent ∙ sym second
   call_refused (Function.SetAhm n) why also spent quiet first second = first ∙ ap₂ (λ (o p : Cause). first_of o p) (mark_same n) (raise_same n spent) ∙ sym second
-  call_refused Function.Moveout why also spent quiet first second = absurd (quiet.no_moveout refl)
-  call_refused Function.Mergeout why also spent quiet first second = absurd first
-  call_refused (Function.Purge table) why also spent quiet first second = absurd first
-  call_refused (Function.Refresh table) why also spent quiet first second = absurd first
-  call_refused Function.StartRefresh why also spent quiet first second = absurd first
+  call_refused Function.Moveout why also spent quiet first second = absurd (quiet.no_jobs Function.Moveout tt refl)
+  call_refused Function.Mergeout why also spent quiet first second = absurd (quiet.no_jobs Function.Mergeout tt refl)
+  call_refused (Function.Purge table) why also spent quiet first second = absurd (quiet.no_jobs (Function.Purge table) tt refl)
+  call_refused (Function.Refresh table) why also spent quiet first second = absurd (quiet.no_jobs (Function.Refresh table) tt refl)
+  call_refused Function.StartRefresh why also spent quiet first second = first ∙ sym second
 
   call_printed : (f : Function) (p q : List ℕ) → CallPrints a f p → CallPrints b f q → p ≡ q
   call_printed Function.Lge p q first second = first ∙ ap (λ (n : ℕ). counted_line (codes "LGE ") n) (good_same a b alike) ∙ sym second
@@ -149,27 +158,27 @@ module _ (a b : State) (alike : AreAlikeStates a b) (sound : IsSound a) where
   call_printed Function.MakeAhmNow p q first second = first ∙ ap (λ (n : ℕ). counted_line (codes "AHM ") n) (good_same a b alike) ∙ sym second
   call_printed (Function.SetAhm n) p q first second = first ∙ sym second
   call_printed Function.Moveout p q first second = first ∙ sym second
-  call_printed Function.Mergeout p q first second = absurd first
-  call_printed (Function.Purge table) p q first second = absurd first
-  call_printed (Function.Refresh table) p q first second = absurd first
-  call_printed Function.StartRefresh p q first second = absurd first
+  call_printed Function.Mergeout p q first second = first ∙ sym second
+  call_printed (Function.Purge table) p q first second = first ∙ sym second
+  call_printed (Function.Refresh table) p q first second = first ∙ sym second
+  call_printed Function.StartRefresh p q first second = first ∙ sym second
 
-  call_left : (f : Function) (x y : State) → CallLeaves a f x → CallLeaves b f y → AreAlikeStates x y
-  call_left Function.Lge x y first second = left_alike a b x y first second alike
-  call_left Function.Ahm x y first second = left_alike a b x y first second alike
-  call_left Function.Current x y first second = left_alike a b x y first second alike
-  call_left Function.MakeAhmNow x y first second =
+  call_left : (f : Function) (x y : State) → (TheStorageDecides (Statement.Call f) → ⊥) → CallLeaves a f x → CallLeaves b f y → AreAlikeStates x y
+  call_left Function.Lge x y other first second = left_alike a b x y first second alike
+  call_left Function.Ahm x y other first second = left_alike a b x y first second alike
+  call_left Function.Current x y other first second = left_alike a b x y first second alike
+  call_left Function.MakeAhmNow x y other first second =
       let good = last_good b.database in
       mark_left (rises (last_good a.database) a.database) (last_good a.database) x y refl first
       (subst (λ (mark : ℕ). MarkLeaves (nat_lt a.database.ahm mark) mark b y) (sym (good_same a b alike))
       (subst (λ (ahm : ℕ). MarkLeaves (nat_lt ahm good) good b y) (sym alike.database.ahm) second))
-  call_left (Function.SetAhm n) x y first second =
+  call_left (Function.SetAhm n) x y other first second =
       mark_left (rises n a.database) n x y refl first (subst (λ (ahm : ℕ). MarkLeaves (nat_lt ahm n) n b y) (sym alike.database.ahm) second)
-  call_left Function.Moveout x y first second = all_alike a b x y alike first second
-  call_left Function.Mergeout x y first second = absurd first
-  call_left (Function.Purge table) x y first second = absurd first
-  call_left (Function.Refresh table) x y first second = absurd first
-  call_left Function.StartRefresh x y first second = absurd first
+  call_left Function.Moveout x y other first second = all_alike a b x y alike first second
+  call_left Function.Mergeout x y other first second = absurd (other tt)
+  call_left (Function.Purge table) x y other first second = absurd (other tt)
+  call_left (Function.Refresh table) x y other first second = refreshes_alike table a b x y alike first second
+  call_left Function.StartRefresh x y other first second = left_alike (refresh_started a) (refresh_started b) x y first second (started_alike a b alike)
 
   -- ---- all statements
 
@@ -181,7 +190,7 @@ module _ (a b : State) (alike : AreAlikeStates a b) (sound : IsSound a) where
   refused one files (Statement.Insert i) why also spent quiet first second = first ∙ insert_same a b alike sound.database.mark i ∙ sym second
   refused one files (Statement.Delete d) why also spent quiet first second = first ∙ delete_same a b alike sound.database.mark d ∙ sym second
   refused one files (Statement.Update u) why also spent quiet first second = first ∙ update_same a b alike sound.database.mark one.settings u ∙ sym second
-  refused one files (Statement.AddColumn c) why also spent quiet first second = absurd first
+  refused one files (Statement.AddColumn c) why also spent quiet first second = first ∙ add_same a b alike c spent ∙ sym second
   refused one files (Statement.Copy table file) why also spent quiet first second =
       copy_refused table (table_found table a.database.tables) (table_found table b.database.tables) (files file) why also (named table) first second
   refused one files Statement.Commit why also spent quiet first second = first ∙ commit_alike a b alike.sessions alike.current alike.database.last ∙ sym second
@@ -210,7 +219,7 @@ module _ (a b : State) (alike : AreAlikeStates a b) (sound : IsSound a) where
   printed one files (Statement.Insert i) p q free first second = first ∙ sym second
   printed one files (Statement.Delete d) p q free first second = first ∙ ap (λ (n : ℕ). counted_line (codes "DELETE ") n) (delete_counts a b alike sound.database.mark d) ∙ sym second
   printed one files (Statement.Update u) p q free first second = first ∙ ap (λ (n : ℕ). counted_line (codes "UPDATE ") n) (update_counts a b alike sound.database.mark u) ∙ sym second
-  printed one files (Statement.AddColumn c) p q free first second = absurd first
+  printed one files (Statement.AddColumn c) p q free first second = first ∙ sym second
   printed one files (Statement.Copy table file) p q free first second =
       copy_printed (table_found table a.database.tables) (table_found table b.database.tables) (files file) p q (named table) first second
   printed one files Statement.Commit p q free first second = first ∙ commit_texts a b alike ∙ sym second
@@ -221,7 +230,7 @@ module _ (a b : State) (alike : AreAlikeStates a b) (sound : IsSound a) where
   printed one files (Statement.Session n) p q free first second = first ∙ sym second
   printed one files Statement.Step p q free first second = first ∙ sym second
 
-  left : (files : Files) (s : Statement) (x y : State) → (s ≡ Statement.Step → ⊥) → Leaves a files s x → Leaves b files s y → AreAlikeStates x y
+  left : (files : Files) (s : Statement) (x y : State) → (TheStorageDecides s → ⊥) → Leaves a files s x → Leaves b files s y → AreAlikeStates x y
   left files (Statement.CreateTable name columns) x y other first second =
       drawn_alike a b (table_created name columns a) (table_created name columns b) x y first second (created_alike a b alike name columns)
   left files (Statement.CreateProjection p) x y other first second = drawn_alike a b (projection_created p a) (projection_created p b) x y first second (shaped_alike a b alike p)
@@ -233,7 +242,7 @@ module _ (a b : State) (alike : AreAlikeStates a b) (sound : IsSound a) where
       left_alike (on_table d.table (rows_deleted d a) a) (on_table d.table (rows_deleted d b) b) x y first second (deleted_alike a b alike sound.database.mark d)
   left files (Statement.Update u) x y other first second =
       left_alike (on_table u.table (rows_updated u a) a) (on_table u.table (rows_updated u b) b) x y first second (updated_alike a b alike sound.database.mark u)
-  left files (Statement.AddColumn c) x y other first second = absurd first
+  left files (Statement.AddColumn c) x y other first second = drawn_alike a b (column_added c a) (column_added c b) x y first second (added_alike a b alike c)
   left files (Statement.Copy table file) x y other first second =
       copy_left (table_found table a.database.tables) (table_found table b.database.tables) (files file) x y (named table) first second
   left files Statement.Commit x y other first second = left_alike (changes_committed a) (changes_committed b) x y first second (committed_zip a b alike (can_commit a sound))
@@ -242,16 +251,16 @@ module _ (a b : State) (alike : AreAlikeStates a b) (sound : IsSound a) where
       (record { database = alike.database; sessions = put_alike a b [] [] alike.sessions alike.current tt; current = alike.current; asked = alike.asked })
   left files (Statement.Select at q) x y other first second = left_alike a b x y first second alike
   left files (Statement.Explain q) x y other first second = left_alike a b x y first second alike
-  left files (Statement.Call f) x y other first second = call_left f x y first second
+  left files (Statement.Call f) x y other first second = call_left f x y other first second
   left files (Statement.Session n) x y other first second =
       left_alike (record a { current = n }) (record b { current = n }) x y first second (record { database = alike.database; sessions = alike.sessions; current = refl; asked = alike.asked })
-  left files Statement.Step x y other first second = absurd (other refl)
+  left files Statement.Step x y other first second = absurd (other tt)
 
   -- ---- texts
 
   decided : HaveOneMeaning → (serves : Statement → Bool) (files : Files) (text : List ℕ) (read : Option Statement) (why also : Cause) → are_spent a ≡ are_spent b → IsQuiet text → Reads text read
       → Decides serves a files text read why → Decides serves b files text read also → why ≡ also
-  decided one serves files text None why also spent quiet reads first second = decided_once serves a files text None why also reads first second (λ moveout. absurd (quiet.no_moveout moveout))
+  decided one serves files text None why also spent quiet reads first second = decided_once serves a files text None why also reads first second (λ jobs. absurd (quiet.no_jobs jobs))
   decided one serves files text (Some s) why also spent quiet reads first second = by (serves s) first second
     where
       by : (served : Bool) → RefusesForm a files s served why → RefusesForm b files s served also → why ≡ also
@@ -268,16 +277,16 @@ module _ (a b : State) (alike : AreAlikeStates a b) (sound : IsSound a) where
   effected one serves files text read (Some refusal) p q x y quiet is (first, leaves) (second, leaves_too) =
       (first ∙ sym second, left_alike a b x y (text_stays a read x quiet leaves) (text_stays b read y quiet leaves_too) alike)
   effected one serves files text (Some s) None p q x y quiet is (first, leaves) (second, leaves_too) =
-      (printed one files s p q (free_of files s (serves s) is) first second, left files s x y quiet.no_step leaves leaves_too)
+      (printed one files s p q (free_of files s (serves s) is) first second, left files s x y (quiet_decides s quiet) leaves leaves_too)
   effected one serves files text None None p q x y quiet is first second = absurd first
 
-  -- what isn't refused, a moveout of all too
-  went : HaveOneMeaning → (serves : Statement → Bool) (files : Files) (text : List ℕ) (read : Option Statement) (p q : List ℕ) (x y : State) → IsStepless text → Reads text read
+  -- what isn't refused, functions of several jobs too
+  went : HaveOneMeaning → (serves : Statement → Bool) (files : Files) (text : List ℕ) (read : Option Statement) (p q : List ℕ) (x y : State) → IsDetermined text → Reads text read
       → Decides serves a files text read None → Effect a files read None p x → Effect b files read None q y → (p ≡ q) × AreAlikeStates x y
-  went one serves files text None p q x y stepless reads is first second = absurd first
-  went one serves files text (Some s) p q x y stepless reads is (first, leaves) (second, leaves_too) = (
+  went one serves files text None p q x y determined reads is first second = absurd first
+  went one serves files text (Some s) p q x y determined reads is (first, leaves) (second, leaves_too) = (
     printed one files s p q (free_of files s (serves s) is) first second,
-    left files s x y (λ step. stepless (subst (λ (t : Statement). Spells (symbols_of text) t) step reads)) leaves leaves_too,
+    left files s x y (λ decides. determined s decides reads) leaves leaves_too,
   )
 
 pub steps_alike : OneReading → HaveOneMeaning → AlikeStatesStepAlike
@@ -293,37 +302,58 @@ steps_alike reading one serves a b files text p q why also m n alike sound quiet
     (both.0, cause, both.1)
 
 pub unrefused_alike : OneReading → HaveOneMeaning → UnrefusedStepsAlike
-unrefused_alike reading one serves a b files text p q m n alike sound stepless first second =
+unrefused_alike reading one serves a b files text p q m n alike sound determined first second =
     let same : first.read ≡ second.read = read_once reading text first.read second.read first.reads second.reads in
-    went a b alike sound one serves files text second.read p q m n stepless second.reads (subst (λ (r : Option Statement). Decides serves a files text r None) same first.decided)
+    went a b alike sound one serves files text second.read p q m n determined second.reads (subst (λ (r : Option Statement). Decides serves a files text r None) same first.decided)
     (subst (λ (r : Option Statement). Effect a files r None p m) same first.effect) second.effect
 
--- ---- a moveout of all
+-- ---- a function of several jobs
 
-abbrev moveout : Statement
-moveout = Statement.Call Function.Moveout
+module _ (a b : State) (alike : AreAlikeStates a b) where
+  jobs_cause : (f : Function) (why also : Cause) → HasJobs f → is_some why ≡ is_some also → CallRefuses a f why → CallRefuses b f also → why ≡ also
+  jobs_cause Function.Moveout why also jobs fate first second = jobs_refused (MovesAll a) (MovesAll b) why also first second fate
+  jobs_cause Function.Mergeout why also jobs fate first second = jobs_refused (RaisesAll (λ s. true) a) (RaisesAll (λ s. true) b) why also first second fate
+  jobs_cause (Function.Purge table) why also jobs fate first second =
+      let Run : Bool → State → Type 0 = RaisesAll (λ s. is_of_table table a.database.tables s.name) a in
+      table_jobs_refused (unknown_table_refusal b table) Run (RaisesAll (λ s. is_of_table table b.database.tables s.name) b) why also
+      (subst (λ (o : Cause). TableJobsRefuse o Run why) (unknown_same a b alike table) first) second fate
+  jobs_cause (Function.Refresh table) why also jobs fate first second =
+      table_jobs_refused (unknown_table_refusal b table) (RefreshesAll table a) (RefreshesAll table b) why also
+      (subst (λ (o : Cause). TableJobsRefuse o (RefreshesAll table a) why) (unknown_same a b alike table) first) second fate
+  jobs_cause f why also jobs fate first second = absurd jobs
 
-one_fate : (x y : Bool) (why also : Cause) → why ≡ refused_where x Refusal.NumbersSpent → also ≡ refused_where y Refusal.NumbersSpent → is_some why ≡ is_some also → why ≡ also
-one_fate true true why also why_is also_is fate = why_is ∙ sym also_is
-one_fate true false why also why_is also_is fate = absurd (cc)
-one_fate false true why also why_is also_is fate = absurd (cc)
-one_fate false false why also why_is also_is fate = why_is ∙ sym also_is
+  jobs_printed : (f : Function) (p q : List ℕ) → HasJobs f → CallPrints a f p → CallPrints b f q → p ≡ q
+  jobs_printed Function.Moveout p q jobs first second = first ∙ sym second
+  jobs_printed Function.Mergeout p q jobs first second = first ∙ sym second
+  jobs_printed (Function.Purge table) p q jobs first second = first ∙ sym second
+  jobs_printed (Function.Refresh table) p q jobs first second = first ∙ sym second
+  jobs_printed f p q jobs first second = absurd jobs
 
-moveout_refused : (a b : State) (files : Files) (served : Bool) (why also : Cause) → is_some why ≡ is_some also → RefusesForm a files moveout served why → RefusesForm b files moveout served also → why ≡ also
-moveout_refused a b files true why also fate (x, new, moved, why_is) (y, other, also_moved, also_is) = one_fate x y why also why_is also_is fate
-moveout_refused a b files false why also fate first second = first ∙ sym second
+  jobs_left : (f : Function) (x y : State) → HasJobs f → (TheStorageDecides (Statement.Call f) → ⊥) → CallLeaves a f x → CallLeaves b f y → AreAlikeStates x y
+  jobs_left Function.Moveout x y jobs other first second = all_alike a b x y alike first second
+  jobs_left Function.Mergeout x y jobs other first second = absurd (other tt)
+  jobs_left (Function.Purge table) x y jobs other first second = absurd (other tt)
+  jobs_left (Function.Refresh table) x y jobs other first second = refreshes_alike table a b x y alike first second
+  jobs_left f x y jobs other first second = absurd jobs
 
-moveout_effected : (a b : State) (files : Files) (why : Cause) (p q : List ℕ) (x y : State) → AreAlikeStates a b → Effect a files (Some moveout) why p x → Effect b files (Some moveout) why q y → (p ≡ q) × (why ≡ None → AreAlikeStates x y)
-moveout_effected a b files (Some refusal) p q x y alike (first, leaves) (second, leaves_too) = (first ∙ sym second, λ none. absurd (cc))
-moveout_effected a b files None p q x y alike (first, leaves) (second, leaves_too) = (first ∙ sym second, λ none. all_alike a b x y alike leaves leaves_too)
+  jobs_decided : (f : Function) (files : Files) (served : Bool) (why also : Cause) → HasJobs f → is_some why ≡ is_some also
+      → RefusesForm a files (Statement.Call f) served why → RefusesForm b files (Statement.Call f) served also → why ≡ also
+  jobs_decided f files true why also jobs fate first second = jobs_cause f why also jobs fate first second
+  jobs_decided f files false why also jobs fate first second = first ∙ sym second
 
-pub moveouts_alike : OneReading → MoveoutsStepAlike
-moveouts_alike reading serves a b files text p q why also m n alike spelled fate first second =
-    let here : first.read ≡ Some moveout = read_once reading text first.read (Some moveout) first.reads spelled in
-    let there : second.read ≡ Some moveout = read_once reading text second.read (Some moveout) second.reads spelled in
+  jobs_effected : (f : Function) (files : Files) (why : Cause) (p q : List ℕ) (x y : State) → HasJobs f → Effect a files (Some (Statement.Call f)) why p x → Effect b files (Some (Statement.Call f)) why q y
+      → (p ≡ q) × (why ≡ None → (TheStorageDecides (Statement.Call f) → ⊥) → AreAlikeStates x y)
+  jobs_effected f files (Some refusal) p q x y jobs (first, leaves) (second, leaves_too) = (first ∙ sym second, λ none other. absurd (cc))
+  jobs_effected f files None p q x y jobs (first, leaves) (second, leaves_too) = (jobs_printed f p q jobs first second, λ none other. jobs_left f x y jobs other leaves leaves_too)
+
+pub jobs_alike : OneReading → JobsStepAlike
+jobs_alike reading serves a b files text p q why also m n alike (f, jobs, spelled) fate first second =
+    let call : Statement = Statement.Call f in
+    let here : first.read ≡ Some call = read_once reading text first.read (Some call) first.reads spelled in
+    let there : second.read ≡ Some call = read_once reading text second.read (Some call) second.reads spelled in
     let cause : why ≡ also =
-    moveout_refused a b files (serves moveout) why also fate (subst (λ (r : Option Statement). Decides serves a files text r why) here first.decided)
+    jobs_decided a b alike f files (serves call) why also jobs fate (subst (λ (r : Option Statement). Decides serves a files text r why) here first.decided)
     (subst (λ (r : Option Statement). Decides serves b files text r also) there second.decided) in
-    let effect : Effect a files (Some moveout) also p m = subst (λ (r : Cause). Effect a files (Some moveout) r p m) cause (subst (λ (r : Option Statement). Effect a files r why p m) here first.effect) in
-    let both = moveout_effected a b files also p q m n alike effect (subst (λ (r : Option Statement). Effect b files r also q n) there second.effect) in
-    (both.0, cause, λ none. both.1 (sym cause ∙ none))
+    let effect : Effect a files (Some call) also p m = subst (λ (r : Cause). Effect a files (Some call) r p m) cause (subst (λ (r : Option Statement). Effect a files r why p m) here first.effect) in
+    let both = jobs_effected a b alike f files also p q m n jobs effect (subst (λ (r : Option Statement). Effect b files r also q n) there second.effect) in
+    (both.0, cause, λ none determined. both.1 (sym cause ∙ none) (λ decides. determined call decides spelled))

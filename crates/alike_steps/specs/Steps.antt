@@ -2,6 +2,7 @@
 use Rattle.std.specs.Prelude.{ℕ, ◌≡◌, List, Bool, Option, None, is_some}
 use Rattle.sql_words.specs.Symbols.{symbols_of}
 use Rattle.sql_tree.specs.declared.refusal.Refusal.{Refusal}
+use Rattle.sql_tree.specs.declared.statement.Function.{Function}
 use Rattle.sql_tree.specs.declared.statement.Statement.{Statement}
 use Rattle.sql_tree.specs.Spells.{Spells}
 use Rattle.db_model.specs.State.{State}
@@ -10,7 +11,7 @@ use Rattle.db_model.specs.Alike.{AreAlikeStates}
 use Rattle.db_model.specs.Numbers.{are_spent}
 use Rattle.db_model.specs.Sound.{IsSound}
 use Rattle.db_model.specs.Step.{Step}
-use Rattle.one_text.specs.OneText.{IsMoveout}
+use Rattle.one_text.specs.OneText.{AsksForJobs}
 use Rattle.one_text.specs.Scripts.{IsQuiet}
 
 -- Two steps of a text that asks the mover for nothing, over alike states of which one is sound, and whose numbers are spent in both or in
@@ -21,19 +22,27 @@ AlikeStatesStepAlike =
     → AreAlikeStates a b → IsSound a → IsQuiet text → are_spent a ≡ are_spent b → Step serves a files text p why m → Step serves b files text q also n
     → (p ≡ q) × (why ≡ also) × AreAlikeStates m n
 
--- Two moveouts of all over alike states, both refused or both not, print the same; where neither is, they leave alike states.
-abbrev pub MoveoutsStepAlike : Type 0
-MoveoutsStepAlike =
+-- a statement of which the storage decides what it leaves: one step of the mover, and jobs of which there are as many as containers ask for
+abbrev pub TheStorageDecides : Statement → Type 0
+TheStorageDecides Statement.Step = Unit {0}
+TheStorageDecides (Statement.Call Function.Mergeout) = Unit {0}
+TheStorageDecides (Statement.Call (Function.Purge table)) = Unit {0}
+TheStorageDecides s = ⊥
+
+-- a text that says no such statement
+abbrev pub IsDetermined : List ℕ → Type 0
+IsDetermined text = (s : Statement) → TheStorageDecides s → Spells (symbols_of text) s → ⊥
+
+-- Two calls of a function of several jobs over alike states, both refused or both not, print the same; where neither is, and the storage
+-- doesn't decide, they leave alike states.
+abbrev pub JobsStepAlike : Type 0
+JobsStepAlike =
     (serves : Statement → Bool) (a b : State) (files : Files) (text p q : List ℕ) (why also : Option Refusal) (m n : State)
-    → AreAlikeStates a b → IsMoveout text → is_some why ≡ is_some also → Step serves a files text p why m → Step serves b files text q also n
-    → (p ≡ q) × (why ≡ also) × (why ≡ None → AreAlikeStates m n)
+    → AreAlikeStates a b → AsksForJobs text → is_some why ≡ is_some also → Step serves a files text p why m → Step serves b files text q also n
+    → (p ≡ q) × (why ≡ also) × (why ≡ None → IsDetermined text → AreAlikeStates m n)
 
--- a text that doesn't ask the mover for one step
-abbrev pub IsStepless : List ℕ → Type 0
-IsStepless text = Spells (symbols_of text) Statement.Step → ⊥
-
--- Two steps of any such text, refused in neither, print the same and leave alike states, however many numbers are left.
+-- Two steps of any determined text, refused in neither, print the same and leave alike states, however many numbers are left.
 abbrev pub UnrefusedStepsAlike : Type 0
 UnrefusedStepsAlike =
     (serves : Statement → Bool) (a b : State) (files : Files) (text p q : List ℕ) (m n : State)
-    → AreAlikeStates a b → IsSound a → IsStepless text → Step serves a files text p None m → Step serves b files text q None n → (p ≡ q) × AreAlikeStates m n
+    → AreAlikeStates a b → IsSound a → IsDetermined text → Step serves a files text p None m → Step serves b files text q None n → (p ≡ q) × AreAlikeStates m n

@@ -1,6 +1,6 @@
 //! Laws of alike states.
 
-ghost use Rattle.alike_steps.specs.Steps.{AlikeStatesStepAlike, MoveoutsStepAlike, UnrefusedStepsAlike};
+ghost use Rattle.alike_steps.specs.Steps.{AlikeStatesStepAlike, JobsStepAlike, UnrefusedStepsAlike};
 ghost use Rattle.alike_steps.specs.Runs.{AlikeTextsRunAlike, AlikeRunsPrintAlike, AlikeTextsGoThrough, AlikeRunsGoThrough};
 
 use one_text::a_query_has_one_text;
@@ -10,12 +10,12 @@ use step_laws::steps_keep_states_sound;
 
 /// Two steps of one statement text, over states that no statement tells apart, are refused for the same cause or neither is, print the
 /// same bytes, and leave states that no statement tells apart. It is asked that one of the states is sound, that the numbers that files are
-/// called by are spent in both or in neither, and that the text asks the mover for nothing, which does what the storage decides. A
-/// moveout of all is alike, too, where it is refused in both or in neither; and any text but one step of the mover, where it is refused in
-/// neither, whether numbers are left or not.
+/// called by are spent in both or in neither, and that the text asks the mover for nothing. A function of several jobs is alike, too, where it
+/// is refused in both or in neither; and any text, where it is refused in neither, whether numbers are left or not. But what one step of the
+/// mover leaves, and MERGEOUT and PURGE_TABLE, the storage decides (`TheStorageDecides`).
 pub fn alike_states_step_alike()
     ensures steps { AlikeStatesStepAlike }
-    ensures moveouts { MoveoutsStepAlike }
+    ensures jobs { JobsStepAlike }
     ensures unrefused { UnrefusedStepsAlike }
 {
     one_reading();
@@ -25,7 +25,7 @@ pub fn alike_states_step_alike()
 
 /// Two runs of one script, over states that no statement tells apart, print the same bytes, some statement is refused in both or in none,
 /// and no statement tells apart the states at their ends, behind the moveout of all that ends a script, too. It is asked that one start is
-/// sound and lets no projection wait for the mover, that the script asks the mover for nothing and is run without its steps, and that the
+/// sound, that the script asks the mover for nothing and is run without its steps, and that the
 /// numbers that files are called by aren't spent at either end.
 pub fn alike_runs_print_alike()
     ensures texts { AlikeTextsRunAlike }
@@ -36,8 +36,8 @@ pub fn alike_runs_print_alike()
 }
 
 /// Two runs of one script, over states that no statement tells apart, in which no statement is refused, print the same bytes, and no
-/// statement tells apart the states at their ends, if numbers are left there. It is asked that one start is sound and lets no projection wait
-/// for the mover, and that the script has no `\step` and is run without steps of the mover; moveouts of all may stand in it.
+/// statement tells apart the states at their ends, if numbers are left there. It is asked that one start is sound, and that the script has
+/// no statement of which the storage decides what it leaves, and is run without steps of the mover; moveouts and refreshes may stand in it.
 pub fn alike_runs_go_through()
     ensures texts { AlikeTextsGoThrough }
     ensures runs { AlikeRunsGoThrough }

@@ -11,11 +11,11 @@ use Rattle.db_model.specs.Refusals.{locked, rows_deleted_refusal}
 use Rattle.db_model.specs.Sound.{IsSound, RowFits}
 use Rattle.db_model.specs.Views.{columns_found, table_found}
 use Rattle.state_laws.proofs.Tables.{named_so}
-use Rattle.state_laws.proofs.Events.{no_names, first_none}
+use Rattle.state_laws.proofs.Events.{first_none}
 use Rattle.change_laws.proofs.Marked.{found_named, marked_state}
 
-pub deleted_state : (state : State) (d : Delete) → state.asked ≡ no_names → rows_deleted_refusal state d ≡ None → IsSound state → IsSound (on_table d.table (rows_deleted d state) state)
-deleted_state state d none free sound = by (table_found d.table state.database.tables) refl
+pub deleted_state : (state : State) (d : Delete) → rows_deleted_refusal state d ≡ None → IsSound state → IsSound (on_table d.table (rows_deleted d state) state)
+deleted_state state d free sound = by (table_found d.table state.database.tables) refl
   where
     lock : locked state d.table true ≡ None
     lock = (first_none (delete_refusal (columns_found state.database.tables d.table) d) (locked state d.table true) free).1
@@ -25,5 +25,5 @@ deleted_state state d none free sound = by (table_found d.table state.database.t
     by (Some e) is =
         let named = found_named d.table state.database.tables e is in
         let name : e.1.name ≡ d.table = named_so d.table state.database.tables e.1 named in
-        marked_state state e.1 (delete_keep d e) [] none (ap (λ (n : List ℕ). table_named n state.database.tables) name ∙ named) (All-nil (RowFits e.1.columns))
+        marked_state state e.1 (delete_keep d e) [] (ap (λ (n : List ℕ). table_named n state.database.tables) name ∙ named) (All-nil (RowFits e.1.columns))
         (subst (λ (n : List ℕ). locked state n true ≡ None) (sym name) lock) sound

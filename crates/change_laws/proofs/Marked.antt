@@ -22,7 +22,7 @@ use Rattle.sound_laws.proofs.Created.{Differ}
 use Rattle.sound_laws.proofs.Changes.{all_within}
 use Rattle.state_laws.proofs.Places.{AllBut, but_all}
 use Rattle.state_laws.proofs.Held.{none_excludes, none_held, GoesWith, each_goes, all_go}
-use Rattle.state_laws.proofs.Events.{no_names, own_sound, own_with, own_is_sound}
+use Rattle.state_laws.proofs.Events.{own_sound, own_with, own_is_sound}
 use Rattle.change_laws.proofs.Undeleted.{marks_within}
 
 -- ---- a table that is found
@@ -121,10 +121,10 @@ marked_once name keep seen rows (c ∷ changes) once = by (bytes_eq c.table name
 
 -- ---- the state
 
-pub marked_state : (state : State) (t : Table) (keep : List Expr) (rows : List (List Value)) → state.asked ≡ no_names → table_named t.name state.database.tables ≡ Some t → All (RowFits t.columns) rows → locked state t.name true ≡ None → IsSound state
+pub marked_state : (state : State) (t : Table) (keep : List Expr) (rows : List (List Value)) → table_named t.name state.database.tables ≡ Some t → All (RowFits t.columns) rows → locked state t.name true ≡ None → IsSound state
     → IsSound (rows_marked keep rows t state)
-marked_state state t keep rows none there fit free sound =
-    own_sound state d (change_of t.name (marked_changes keep seen rows) own) none sound.database
+marked_state state t keep rows there fit free sound =
+    own_sound state d (change_of t.name (marked_changes keep seen rows) own) sound.asked sound.database
     (record { each = marked_each d t keep seen rows there fit own within session.each; once = marked_once t.name keep seen rows own session.once })
     (but_all (IsSoundSession d) (state.current - 1) state.sessions sound.sessions) goes sound
   where

@@ -31,7 +31,7 @@ use Rattle.db_model.specs.Sound.{IsSound, IsSoundTable, RowFits, TextFits, Value
 use Rattle.db_model.specs.Views.{asked_of, committed_view, less, less_one, is_same_asked, table_found}
 use Rattle.sound_laws.proofs.Changes.{HasFitting, all_fit}
 use Rattle.state_laws.proofs.Tables.{named_so}
-use Rattle.state_laws.proofs.Events.{first_none, no_names, own_is_sound}
+use Rattle.state_laws.proofs.Events.{first_none, own_is_sound}
 use Rattle.sound_laws.proofs.Storable.{stored_value}
 use Rattle.row_setting.proofs.Accepted.{IsSetTo, Stored, all_stored, set_to}
 use Rattle.row_setting.proofs.Flawed.{worth_in}
@@ -168,8 +168,8 @@ matched_fit state t keep there sound =
 
 -- ---- the state
 
-pub updated_state : (state : State) (u : Update) → state.asked ≡ no_names → rows_updated_refusal state u ≡ None → IsSound state → IsSound (on_table u.table (rows_updated u state) state)
-updated_state state u none free sound = by (table_found u.table state.database.tables) refl free
+pub updated_state : (state : State) (u : Update) → rows_updated_refusal state u ≡ None → IsSound state → IsSound (on_table u.table (rows_updated u state) state)
+updated_state state u free sound = by (table_found u.table state.database.tables) refl free
   where
     by : (o : Option (ℕ × Table)) → table_found u.table state.database.tables ≡ o → first_of (update_refusal (option_map (λ e. e.1.columns) o) u) (option_and_then (update_refusal_over state u) o) ≡ None
         → IsSound (option_map_or (rows_updated u state) o state)
@@ -186,4 +186,4 @@ updated_state state u none free sound = by (table_found u.table state.database.t
         let name : t.name ≡ u.table = named_so u.table state.database.tables t named in
         let there : table_named t.name state.database.tables ≡ Some t = ap (λ (n : List ℕ). table_named n state.database.tables) name ∙ named in
         let fit : All (RowFits t.columns) (updated_new u state e) = rows_fit t.columns sets old (places_there t.columns u halves.0) (settings_typed t.columns u halves.0) last.1 (matched_fit state t (update_keep u e) there sound) in
-        marked_state state t (update_keep u e) (updated_new u state e) none there fit (subst (λ (n : List ℕ). locked state n true ≡ None) (sym name) last.0) sound
+        marked_state state t (update_keep u e) (updated_new u state e) there fit (subst (λ (n : List ℕ). locked state n true ≡ None) (sym name) last.0) sound

@@ -1,7 +1,7 @@
 //! That a state stays sound in a DELETE and in an UPDATE.
 //!
-//! The laws are the contracts here, one for each of the two statements (`IsSound` of `db_model`), and there is no code. They are of states in
-//! which no projection waits for the mover. `set_columns_are_there` says that what an UPDATE sets are columns of its table.
+//! The laws are the contracts here, one for each of the two statements (`IsSound` of `db_model`), and there is no code.
+//! `set_columns_are_there` says that what an UPDATE sets are columns of its table.
 #![tactic(auto)]
 
 mod laws;

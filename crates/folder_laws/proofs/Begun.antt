@@ -19,7 +19,6 @@ opened_alike : OpensSound → (next parts after more : ℕ) (d e : Database) →
 opened_alike sounds next parts after more d e sound alike = record {
   alike = record { database = alike; sessions = (tt, (tt, (tt, (tt, (tt, (tt, (tt, (tt, tt)))))))); current = refl; asked = refl };
   sound = sounds next parts d sound;
-  none = refl;
 }
 
 pub begun_alike : ReopenAlike → OpensSound → (m : Contents) (start begin : State) → IsOpening m start → IsOpening m begin → AreAlikeStarts start begin

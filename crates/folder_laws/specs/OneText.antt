@@ -9,7 +9,7 @@ use Rattle.db_model.specs.Run.{Run, Setting}
 use Rattle.db_model.specs.State.{State, opened_with}
 use Rattle.one_text.specs.Scripts.{IsQuiet}
 use Rattle.alike_steps.specs.Runs.{HaveNumbersLeft}
-use Rattle.alike_steps.specs.Steps.{IsStepless}
+use Rattle.alike_steps.specs.Steps.{IsDetermined}
 use Rattle.folder_model.specs.Reopening.{Reopens}
 
 -- a state with which a run over a folder begins: over a database that it reopens to, with some numbers of the storage
@@ -29,10 +29,11 @@ FoldersRunAlike =
     → Run setting start script printed refused new → Run setting begin script other also left
     → (printed ≡ other) × (refused ≡ also) × AreAlikeStates new left
 
--- So do scripts in which moveouts of all stand, where no statement is refused in either run.
+-- So do scripts in which functions of several jobs stand, if the storage doesn't decide what they leave, where no statement is refused in
+-- either run.
 abbrev pub FoldersGoThrough : Type 0
 FoldersGoThrough =
     (m : Contents) (setting : Setting) (start begin : State) (script printed other : List ℕ) (new left : State)
-    → IsOpening m start → IsOpening m begin → setting.steps ≡ 0 → All IsStepless (statement_texts script)
+    → IsOpening m start → IsOpening m begin → setting.steps ≡ 0 → All IsDetermined (statement_texts script)
     → Run setting start script printed false new → Run setting begin script other false left
     → (printed ≡ other) × (HaveNumbersLeft new left → AreAlikeStates new left)

@@ -28,7 +28,7 @@ pub fn alike_databases_reopen()
 /// Two runs of one script over one folder print the same bytes, some statement is refused in both or in none, and no statement tells apart
 /// the states at their ends, whichever of the databases that the folder reopens to each begins with, and whatever numbers its files and
 /// containers give. It is asked that the script asks the mover for nothing and is run without its steps, and that the numbers that files are
-/// called by aren't spent at either end. A script in which moveouts of all stand prints the same, too, where no statement is refused in either
+/// called by aren't spent at either end. A script in which moveouts of all and refreshes stand prints the same, too, where no statement is refused in either
 /// run, and leaves such states where numbers are left.
 pub fn one_folder_has_one_text()
     ensures runs { FoldersRunAlike }

@@ -1,6 +1,6 @@
 -- One statement over two states that are the same but for the numbers of the storage.
-use Rattle.std.proofs.Common.{◌≡◌, ℕ, ◌≤◌, Bool, true, false, cond, List, [], refl, sym, ap, ◌∙◌, arith, subst}
-use Rattle.std.specs.Prelude.{◌&&◌, Option, Some, None, nat_le, option_and_then}
+use Rattle.std.proofs.Common.{◌≡◌, ℕ, ◌≤◌, Bool, true, false, cond, List, [], length, refl, sym, ap, ◌∙◌, arith, subst}
+use Rattle.std.specs.Prelude.{◌&&◌, Option, Some, None, nat_le, option_map, option_and_then}
 use Rattle.std.specs.Option.{option_map_or}
 use Rattle.std.proofs.lemmas.Bool.Decides.{nat_tests}
 use Rattle.col_value.specs.declared.value.Value.{Value}
@@ -15,20 +15,23 @@ use Rattle.sql_tree.specs.declared.refusal.Refusal.{Refusal}
 use Rattle.sql_tree.specs.Spells.{Spells}
 use Rattle.sql_bound.specs.Outputs.{output}
 use Rattle.sql_bound.specs.Printed.{IsPrinted}
+use Rattle.sql_binding.specs.Additions.{addition_refusal, default_refusal}
 use Rattle.sql_binding.specs.Firsts.{first_of, refused_where}
 use Rattle.sql_binding.specs.Projections.{projection_name_refusal}
 use Rattle.db_model.specs.Database.{Database, Table}
 use Rattle.db_model.specs.Epochs.{last_good, rises}
-use Rattle.db_model.specs.Events.{changes_committed, mark_raised, projection_created, projection_dropped, rows_deleted, rows_loaded, rows_pending, rows_updated, table_created, table_dropped}
+use Rattle.db_model.specs.Events.{changes_committed, column_added, mark_raised, projection_created, projection_dropped, rows_deleted, rows_loaded, rows_pending, rows_updated, table_created, table_dropped}
 use Rattle.db_model.specs.Leaving.{CallLeaves, CopyLeaves, Leaves, MarkLeaves, RefusedCallLeaves, RefusedLeaves}
 use Rattle.db_model.specs.Loading.{Files, Load}
+use Rattle.db_model.specs.Locks.{holder}
 use Rattle.db_model.specs.Numbers.{IsDrawn, are_spent}
 use Rattle.db_model.specs.Printing.{CallPrints, CopyPrints, Prints}
 use Rattle.db_model.specs.Refusals.{CallRefuses, CopyRefuses, LoadRefuses, Refuses, SumRefuses, UnlockedRefuses, is_large_file, last_super_refusal, load_refusal, locked, mark_refusal, owner, projection_refusal_over, query_refusal_in, unknown_table_refusal}
-use Rattle.db_model.specs.Refusing.{create_refusal, epoch_refusal, if_taken}
+use Rattle.db_model.specs.Refusing.{column_limit, create_refusal, epoch_refusal, if_taken}
 use Rattle.db_model.specs.State.{Changes, State, committed, has_changes, own_changes, with_changes}
 use Rattle.db_model.specs.Step.{Decides, Effect, Reads, RefusedTextLeaves, RefusesForm, Step}
 use Rattle.db_model.specs.Views.{bound_in, columns_found, inputs, table_found}
+use Rattle.one_text.specs.OneText.{HasJobs}
 use Rattle.one_text.specs.Scripts.{IsQuiet, IsSameButNumbers}
 use Rattle.one_text.proofs.OneLoad.{rows_loaded_once}
 use Rattle.one_text.proofs.OneStep.{OneList, OneReading, decided_once, printed_once, read_once}
@@ -54,7 +57,7 @@ same_states a b m n first second same =
 
 -- the statement isn't for the mover
 pub record IsOther (s : Statement) : Type 0 where
-  pub no_moveout : s ≡ Statement.Call Function.Moveout → ⊥
+  pub no_jobs : (f : Function) → HasJobs f → s ≡ Statement.Call f → ⊥
   pub no_step : s ≡ Statement.Step → ⊥
 
 abbrev pub Others : Option Statement → Type 0
@@ -64,7 +67,7 @@ Others (Some s) = IsOther s
 pub others_read : (text : List ℕ) (read : Option Statement) → IsQuiet text → Reads text read → Others read
 others_read text None quiet reads = tt
 others_read text (Some s) quiet reads = record {
-  no_moveout = λ is. quiet.no_moveout (subst (λ (t : Statement). Spells (symbols_of text) t) is reads);
+  no_jobs = λ f jobs is. quiet.no_jobs (f, jobs, subst (λ (t : Statement). Spells (symbols_of text) t) is reads);
   no_step = λ is. quiet.no_step (subst (λ (t : Statement). Spells (symbols_of text) t) is reads);
 }
 
@@ -99,10 +102,10 @@ module _ (a : State) (n k p : ℕ) where
   call_other Function.Current why spent quiet is = is
   call_other Function.MakeAhmNow why spent quiet is = is ∙ ap (λ (b : Bool). refused_where (rises (last_good a.database) a.database && b) Refusal.NumbersSpent) spent
   call_other (Function.SetAhm m) why spent quiet is = is ∙ ap (λ (b : Bool). first_of (mark_refusal m a.database) (refused_where (rises m a.database && b) Refusal.NumbersSpent)) spent
-  call_other Function.Moveout why spent quiet is = absurd (quiet.no_moveout refl)
-  call_other Function.Mergeout why spent quiet is = is
-  call_other (Function.Purge table) why spent quiet is = is
-  call_other (Function.Refresh table) why spent quiet is = is
+  call_other Function.Moveout why spent quiet is = absurd (quiet.no_jobs Function.Moveout tt refl)
+  call_other Function.Mergeout why spent quiet is = absurd (quiet.no_jobs Function.Mergeout tt refl)
+  call_other (Function.Purge table) why spent quiet is = absurd (quiet.no_jobs (Function.Purge table) tt refl)
+  call_other (Function.Refresh table) why spent quiet is = absurd (quiet.no_jobs (Function.Refresh table) tt refl)
   call_other Function.StartRefresh why spent quiet is = is
 
   refused_other : (files : Files) (s : Statement) (why : Option Refusal) → are_spent (renumbered a n k p) ≡ are_spent a → IsOther s → Refuses (renumbered a n k p) files s why → Refuses a files s why
@@ -121,7 +124,12 @@ module _ (a : State) (n k p : ℕ) where
   refused_other files (Statement.Insert i) why spent quiet is = is
   refused_other files (Statement.Delete d) why spent quiet is = is
   refused_other files (Statement.Update u) why spent quiet is = is
-  refused_other files (Statement.AddColumn c) why spent quiet is = is
+  refused_other files (Statement.AddColumn c) why spent quiet is =
+      is
+      ∙ ap
+      (λ (b : Bool). first_of (addition_refusal (columns_found a.database.tables c.table) c)
+      (first_of (option_and_then (λ cs. column_limit (length cs, c.column)) (columns_found a.database.tables c.table))
+      (first_of (option_map Refusal.Locked (holder a c.table)) (first_of (default_refusal c) (refused_where b Refusal.NumbersSpent))))) spent
   refused_other files (Statement.Copy table file) why spent quiet is = copy_other table (table_found table a.database.tables) (files file) why is
   refused_other files Statement.Commit why spent quiet is = is
   refused_other files Statement.Rollback why spent quiet is = is
@@ -229,11 +237,11 @@ call_left a n k p Function.Ahm x y quiet first second = same_states a (renumbere
 call_left a n k p Function.Current x y quiet first second = same_states a (renumbered a n k p) x y first second (itself a n k p)
 call_left a n k p Function.MakeAhmNow x y quiet first second = mark_left a n k p (rises (last_good a.database) a.database) (last_good a.database) x y first second
 call_left a n k p (Function.SetAhm m) x y quiet first second = mark_left a n k p (rises m a.database) m x y first second
-call_left a n k p Function.Moveout x y quiet first second = absurd (quiet.no_moveout refl)
-call_left a n k p Function.Mergeout x y quiet first second = absurd first
-call_left a n k p (Function.Purge table) x y quiet first second = absurd first
-call_left a n k p (Function.Refresh table) x y quiet first second = absurd first
-call_left a n k p Function.StartRefresh x y quiet first second = absurd first
+call_left a n k p Function.Moveout x y quiet first second = absurd (quiet.no_jobs Function.Moveout tt refl)
+call_left a n k p Function.Mergeout x y quiet first second = absurd (quiet.no_jobs Function.Mergeout tt refl)
+call_left a n k p (Function.Purge table) x y quiet first second = absurd (quiet.no_jobs (Function.Purge table) tt refl)
+call_left a n k p (Function.Refresh table) x y quiet first second = absurd (quiet.no_jobs (Function.Refresh table) tt refl)
+call_left a n k p Function.StartRefresh x y quiet first second = same_states _ _ x y first second (record { database = refl; sessions = refl; current = refl; asked = refl })
 
 left_same : (a : State) (n k p : ℕ) (files : Files) (s : Statement) (x y : State) → IsOther s → Leaves a files s x → Leaves (renumbered a n k p) files s y → IsSameButNumbers x y
 left_same a n k p files (Statement.CreateTable name columns) x y quiet first second =
@@ -247,7 +255,8 @@ left_same a n k p files (Statement.DropProjection name) x y quiet first second =
 left_same a n k p files (Statement.Insert i) x y quiet first second = same_states _ _ x y first second (record { database = refl; sessions = refl; current = refl; asked = refl })
 left_same a n k p files (Statement.Delete d) x y quiet first second = same_states _ _ x y first second (deleted_same a n k p d (table_found d.table a.database.tables))
 left_same a n k p files (Statement.Update u) x y quiet first second = same_states _ _ x y first second (updated_same a n k p u (table_found u.table a.database.tables))
-left_same a n k p files (Statement.AddColumn c) x y quiet first second = absurd first
+left_same a n k p files (Statement.AddColumn c) x y quiet first second =
+    drawn_same a (renumbered a n k p) (column_added c a) (column_added c (renumbered a n k p)) x y first second (record { database = refl; sessions = refl; current = refl; asked = refl })
 left_same a n k p files (Statement.Copy table file) x y quiet first second = copy_left a n k p (table_found table a.database.tables) (files file) x y first second
 left_same a n k p files Statement.Commit x y quiet first second = same_states (changes_committed a) (changes_committed (renumbered a n k p)) x y first second (committed_same a n k p)
 left_same a n k p files Statement.Rollback x y quiet first second = same_states _ _ x y first second (record { database = refl; sessions = refl; current = refl; asked = refl })
@@ -264,10 +273,10 @@ refused_call_stays a Function.Ahm x quiet is = is
 refused_call_stays a Function.Current x quiet is = is
 refused_call_stays a Function.MakeAhmNow x quiet is = is
 refused_call_stays a (Function.SetAhm m) x quiet is = is
-refused_call_stays a Function.Moveout x quiet is = absurd (quiet.no_moveout refl)
-refused_call_stays a Function.Mergeout x quiet is = is
-refused_call_stays a (Function.Purge table) x quiet is = is
-refused_call_stays a (Function.Refresh table) x quiet is = is
+refused_call_stays a Function.Moveout x quiet is = absurd (quiet.no_jobs Function.Moveout tt refl)
+refused_call_stays a Function.Mergeout x quiet is = absurd (quiet.no_jobs Function.Mergeout tt refl)
+refused_call_stays a (Function.Purge table) x quiet is = absurd (quiet.no_jobs (Function.Purge table) tt refl)
+refused_call_stays a (Function.Refresh table) x quiet is = absurd (quiet.no_jobs (Function.Refresh table) tt refl)
 refused_call_stays a Function.StartRefresh x quiet is = is
 
 refused_stays : (a : State) (s : Statement) (x : State) → IsOther s → RefusedLeaves a s x → x ≡ a
@@ -327,11 +336,11 @@ call_grows a Function.Ahm x quiet is = stays a x a is refl
 call_grows a Function.Current x quiet is = stays a x a is refl
 call_grows a Function.MakeAhmNow x quiet is = mark_grows (rises (last_good a.database) a.database) (last_good a.database) a x is
 call_grows a (Function.SetAhm m) x quiet is = mark_grows (rises m a.database) m a x is
-call_grows a Function.Moveout x quiet is = absurd (quiet.no_moveout refl)
-call_grows a Function.Mergeout x quiet is = absurd is
-call_grows a (Function.Purge table) x quiet is = absurd is
-call_grows a (Function.Refresh table) x quiet is = absurd is
-call_grows a Function.StartRefresh x quiet is = absurd is
+call_grows a Function.Moveout x quiet is = absurd (quiet.no_jobs Function.Moveout tt refl)
+call_grows a Function.Mergeout x quiet is = absurd (quiet.no_jobs Function.Mergeout tt refl)
+call_grows a (Function.Purge table) x quiet is = absurd (quiet.no_jobs (Function.Purge table) tt refl)
+call_grows a (Function.Refresh table) x quiet is = absurd (quiet.no_jobs (Function.Refresh table) tt refl)
+call_grows a Function.StartRefresh x quiet is = stays a x _ is refl
 
 left_grows : (a : State) (files : Files) (s : Statement) (x : State) → IsOther s → Leaves a files s x → a.next ≤ x.next
 left_grows a files (Statement.CreateTable name columns) x quiet is = is.drawn.from
@@ -341,7 +350,7 @@ left_grows a files (Statement.DropProjection name) x quiet is = is.drawn.from
 left_grows a files (Statement.Insert i) x quiet is = stays a x _ is refl
 left_grows a files (Statement.Delete d) x quiet is = stays a x _ is (deleted_next d a (table_found d.table a.database.tables))
 left_grows a files (Statement.Update u) x quiet is = stays a x _ is (updated_next u a (table_found u.table a.database.tables))
-left_grows a files (Statement.AddColumn c) x quiet is = absurd is
+left_grows a files (Statement.AddColumn c) x quiet is = is.drawn.from
 left_grows a files (Statement.Copy table file) x quiet is = copy_grows a (table_found table a.database.tables) (files file) x is
 left_grows a files Statement.Commit x quiet is = stays a x (changes_committed a) is (committed_next a)
 left_grows a files Statement.Rollback x quiet is = stays a x _ is refl
@@ -386,7 +395,7 @@ renumbered_step reading list serves a n k p files text printed other why also x 
     let others : Others second.read = others_read text second.read quiet second.reads in
     let refused : why ≡ also =
     decided_once serves a files text second.read why also second.reads (subst (λ (r : Option Statement). Decides serves a files text r why) same first.decided)
-    (decided_other a n k p serves files text second.read also spent others second.decided) (λ moveout. absurd (quiet.no_moveout moveout)) in
+    (decided_other a n k p serves files text second.read also spent others second.decided) (λ jobs. absurd (quiet.no_jobs jobs)) in
     let here : Effect a files second.read also printed x =
     subst (λ (r : Option Refusal). Effect a files second.read r printed x) refused (subst (λ (r : Option Statement). Effect a files r why printed x) same first.effect) in
     let both = effect_same list a n k p files second.read also printed other x y others here second.effect in

@@ -18,14 +18,15 @@ use Rattle.db_model.specs.Answers.{listing_text}
 use Rattle.db_model.specs.Database.{Table}
 use Rattle.db_model.specs.Loading.{Files, Load}
 use Rattle.db_model.specs.Printing.{CallPrints, CopyPrints, Prints, copy_text}
-use Rattle.db_model.specs.Refusals.{CallRefuses, CopyRefuses, FileRefuses, LoadRefuses, Refuses, SumRefuses, UnlockedRefuses, is_large_file, load_refusal, locked, query_refusal_in}
+use Rattle.db_model.specs.Refusals.{CallRefuses, CopyRefuses, FileRefuses, JobsRefuse, LoadRefuses, Refuses, SumRefuses, TableJobsRefuse, UnlockedRefuses, is_large_file, load_refusal, locked, query_refusal_in, unknown_table_refusal}
 use Rattle.db_model.specs.Refusing.{epoch_refusal}
 use Rattle.db_model.specs.State.{State}
-use Rattle.db_model.specs.Events.{rows_pending}
+use Rattle.db_model.specs.Events.{is_of_table, rows_pending}
+use Rattle.db_model.specs.Mover.{MovesAll, RaisesAll, RefreshesAll}
 use Rattle.db_model.specs.Step.{Decides, Effect, Reads, RefusesForm, Step}
 use Rattle.db_model.specs.Views.{bound_in, inputs, table_found}
 use Rattle.sql_binding.specs.Firsts.{first_of}
-use Rattle.one_text.specs.OneText.{StatementsHaveOneText, MoveoutsOfOneFate}
+use Rattle.one_text.specs.OneText.{AsksForJobs, HasJobs, StatementsHaveOneText, StepsOfOneFate}
 use Rattle.one_text.proofs.OneLoad.{load_once, rows_loaded_once}
 
 -- no symbols spell two statements
@@ -54,10 +55,10 @@ call_printed state Function.Current p q first second = first ∙ sym second
 call_printed state Function.MakeAhmNow p q first second = first ∙ sym second
 call_printed state (Function.SetAhm n) p q first second = first ∙ sym second
 call_printed state Function.Moveout p q first second = first ∙ sym second
-call_printed state Function.Mergeout p q first second = absurd first
-call_printed state (Function.Purge table) p q first second = absurd first
-call_printed state (Function.Refresh table) p q first second = absurd first
-call_printed state Function.StartRefresh p q first second = absurd first
+call_printed state Function.Mergeout p q first second = first ∙ sym second
+call_printed state (Function.Purge table) p q first second = first ∙ sym second
+call_printed state (Function.Refresh table) p q first second = first ∙ sym second
+call_printed state Function.StartRefresh p q first second = first ∙ sym second
 
 pub printed_once : OneList → (state : State) (files : Files) (s : Statement) (p q : List ℕ) → Prints state files s p → Prints state files s q → p ≡ q
 printed_once one state files (Statement.CreateTable name columns) p q first second = first ∙ sym second
@@ -67,7 +68,7 @@ printed_once one state files (Statement.DropProjection name) p q first second = 
 printed_once one state files (Statement.Insert i) p q first second = first ∙ sym second
 printed_once one state files (Statement.Delete d) p q first second = first ∙ sym second
 printed_once one state files (Statement.Update u) p q first second = first ∙ sym second
-printed_once one state files (Statement.AddColumn a) p q first second = absurd first
+printed_once one state files (Statement.AddColumn a) p q first second = first ∙ sym second
 printed_once one state files (Statement.Copy table file) p q first second = copy_printed state (table_found table state.database.tables) (files file) p q first second
 printed_once one state files Statement.Commit p q first second = first ∙ sym second
 printed_once one state files Statement.Rollback p q first second = first ∙ sym second
@@ -105,16 +106,23 @@ sum_refused None q rows why also (inl (great, why_is)) (inr (small, also_is)) = 
 sum_refused None q rows why also (inr (small, why_is)) (inl (great, also_is)) = absurd (small great)
 sum_refused None q rows why also (inr (small, why_is)) (inr (same, also_is)) = why_is ∙ sym also_is
 
--- of a moveout it may be open whether it is refused, and nothing else
-moveout_refused : (a b : Bool) (why also : Cause) → why ≡ refused_where a Refusal.NumbersSpent → also ≡ refused_where b Refusal.NumbersSpent → is_some why ≡ is_some also → why ≡ also
-moveout_refused true true why also why_is also_is fate = why_is ∙ sym also_is
-moveout_refused true false why also why_is also_is fate = absurd (cc)
-moveout_refused false true why also why_is also_is fate = absurd (cc)
-moveout_refused false false why also why_is also_is fate = why_is ∙ sym also_is
+-- of several jobs it may be open whether they stop, and nothing else
+stopped_alike : (a b : Bool) (why also : Cause) → why ≡ refused_where a Refusal.NumbersSpent → also ≡ refused_where b Refusal.NumbersSpent → is_some why ≡ is_some also → why ≡ also
+stopped_alike true true why also why_is also_is fate = why_is ∙ sym also_is
+stopped_alike true false why also why_is also_is fate = absurd (cc)
+stopped_alike false true why also why_is also_is fate = absurd (cc)
+stopped_alike false false why also why_is also_is fate = why_is ∙ sym also_is
 
--- where the statement is a moveout of all, it is refused in both or in neither
+pub jobs_refused : (Run Other : Bool → State → Type 0) (why also : Cause) → JobsRefuse Run why → JobsRefuse Other also → is_some why ≡ is_some also → why ≡ also
+jobs_refused Run Other why also (a, new, ran, why_is) (b, other, ran_too, also_is) fate = stopped_alike a b why also why_is also_is fate
+
+pub table_jobs_refused : (before : Cause) (Run Other : Bool → State → Type 0) (why also : Cause) → TableJobsRefuse before Run why → TableJobsRefuse before Other also → is_some why ≡ is_some also → why ≡ also
+table_jobs_refused (Some refusal) Run Other why also first second fate = first ∙ sym second
+table_jobs_refused None Run Other why also first second fate = jobs_refused Run Other why also first second fate
+
+-- where the statement is a function of several jobs, it is refused in both or in neither
 abbrev OfOneFate : Statement → Cause → Cause → Type 0
-OfOneFate s why also = s ≡ Statement.Call Function.Moveout → is_some why ≡ is_some also
+OfOneFate s why also = (f : Function) → HasJobs f → s ≡ Statement.Call f → is_some why ≡ is_some also
 
 call_refused : (state : State) (f : Function) (why also : Cause) → CallRefuses state f why → CallRefuses state f also → OfOneFate (Statement.Call f) why also → why ≡ also
 call_refused state Function.Lge why also first second fate = first ∙ sym second
@@ -122,11 +130,15 @@ call_refused state Function.Ahm why also first second fate = first ∙ sym secon
 call_refused state Function.Current why also first second fate = first ∙ sym second
 call_refused state Function.MakeAhmNow why also first second fate = first ∙ sym second
 call_refused state (Function.SetAhm n) why also first second fate = first ∙ sym second
-call_refused state Function.Moveout why also (a, new, moved, why_is) (b, other, also_moved, also_is) fate = moveout_refused a b why also why_is also_is (fate refl)
-call_refused state Function.Mergeout why also first second fate = absurd first
-call_refused state (Function.Purge table) why also first second fate = absurd first
-call_refused state (Function.Refresh table) why also first second fate = absurd first
-call_refused state Function.StartRefresh why also first second fate = absurd first
+call_refused state Function.Moveout why also first second fate = jobs_refused (MovesAll state) (MovesAll state) why also first second (fate Function.Moveout tt refl)
+call_refused state Function.Mergeout why also first second fate =
+    jobs_refused (RaisesAll (λ s. true) state) (RaisesAll (λ s. true) state) why also first second (fate Function.Mergeout tt refl)
+call_refused state (Function.Purge table) why also first second fate =
+    let Run : Bool → State → Type 0 = RaisesAll (λ s. is_of_table table state.database.tables s.name) state in
+    table_jobs_refused (unknown_table_refusal state table) Run Run why also first second (fate (Function.Purge table) tt refl)
+call_refused state (Function.Refresh table) why also first second fate =
+    table_jobs_refused (unknown_table_refusal state table) (RefreshesAll table state) (RefreshesAll table state) why also first second (fate (Function.Refresh table) tt refl)
+call_refused state Function.StartRefresh why also first second fate = first ∙ sym second
 
 refused_once : (state : State) (files : Files) (s : Statement) (why also : Cause) → Refuses state files s why → Refuses state files s also → OfOneFate s why also → why ≡ also
 refused_once state files (Statement.CreateTable name columns) why also first second fate = first ∙ sym second
@@ -136,7 +148,7 @@ refused_once state files (Statement.DropProjection name) why also first second f
 refused_once state files (Statement.Insert i) why also first second fate = first ∙ sym second
 refused_once state files (Statement.Delete d) why also first second fate = first ∙ sym second
 refused_once state files (Statement.Update u) why also first second fate = first ∙ sym second
-refused_once state files (Statement.AddColumn a) why also first second fate = absurd first
+refused_once state files (Statement.AddColumn a) why also first second fate = first ∙ sym second
 refused_once state files (Statement.Copy table file) why also first second fate = copy_refused state table (table_found table state.database.tables) (files file) why also first second
 refused_once state files Statement.Commit why also first second fate = first ∙ sym second
 refused_once state files Statement.Rollback why also first second fate = first ∙ sym second
@@ -166,15 +178,15 @@ place_once symbols p q first second =
     let before = first.longest (q - 1) (omega (arith, second.within)) second.opens in
     omega (arith, after, before, first.starts, second.starts)
 
-abbrev pub MoveoutOfOneFate : List ℕ → Cause → Cause → Type 0
-MoveoutOfOneFate text why also = Spells (symbols_of text) (Statement.Call Function.Moveout) → is_some why ≡ is_some also
+abbrev pub JobsOfOneFate : List ℕ → Cause → Cause → Type 0
+JobsOfOneFate text why also = AsksForJobs text → is_some why ≡ is_some also
 
 pub decided_once : (serves : Statement → Bool) (old : State) (files : Files) (text : List ℕ) (read : Option Statement) (why also : Cause) → Reads text read
-    → Decides serves old files text read why → Decides serves old files text read also → MoveoutOfOneFate text why also → why ≡ also
+    → Decides serves old files text read why → Decides serves old files text read also → JobsOfOneFate text why also → why ≡ also
 decided_once serves old files text None why also reads (p, first, why_is) (q, second, also_is) fate =
     why_is ∙ ap (λ (place : ℕ). Some (Refusal.Syntax place)) (place_once (symbols_of text) p q first second) ∙ sym also_is
 decided_once serves old files text (Some s) why also reads first second fate =
-    form_refused old files s (serves s) why also first second (λ is. fate (subst (λ (t : Statement). Spells (symbols_of text) t) is reads))
+    form_refused old files s (serves s) why also first second (λ f jobs is. fate (f, jobs, subst (λ (t : Statement). Spells (symbols_of text) t) is reads))
 
 effect_once : OneList → (old : State) (files : Files) (read : Option Statement) (why : Cause) (p q : List ℕ) (m n : State) → Effect old files read why p m → Effect old files read why q n → p ≡ q
 effect_once one old files read (Some refusal) p q m n (p_is, m_is) (q_is, n_is) = p_is ∙ sym q_is
@@ -182,7 +194,7 @@ effect_once one old files (Some s) None p q m n (p_is, m_is) (q_is, n_is) = prin
 effect_once one old files None None p q m n first second = absurd first
 
 pub step_once : OneReading → OneList → (serves : Statement → Bool) (old : State) (files : Files) (text p q : List ℕ) (why also : Cause) (m n : State)
-    → Step serves old files text p why m → Step serves old files text q also n → MoveoutOfOneFate text why also → (p ≡ q) × (why ≡ also)
+    → Step serves old files text p why m → Step serves old files text q also n → JobsOfOneFate text why also → (p ≡ q) × (why ≡ also)
 step_once reading list serves old files text p q why also m n first second fate =
     let same : first.read ≡ second.read = read_once reading text first.read second.read first.reads second.reads in
     let refused : why ≡ also =
@@ -192,7 +204,7 @@ step_once reading list serves old files text p q why also m n first second fate 
     (effect_once list old files second.read also p q m n here second.effect, refused)
 
 pub statements_once : OneReading → OneList → StatementsHaveOneText
-statements_once reading list serves old files text p q why also m n first second other = step_once reading list serves old files text p q why also m n first second (λ moveout. absurd (other moveout))
+statements_once reading list serves old files text p q why also m n first second other = step_once reading list serves old files text p q why also m n first second (λ jobs. absurd (other jobs))
 
-pub moveouts_once : OneReading → OneList → MoveoutsOfOneFate
-moveouts_once reading list serves old files text p q why also m n first second fate = step_once reading list serves old files text p q why also m n first second (λ moveout. fate)
+pub of_one_fate : OneReading → OneList → StepsOfOneFate
+of_one_fate reading list serves old files text p q why also m n first second fate = step_once reading list serves old files text p q why also m n first second (λ jobs. fate)

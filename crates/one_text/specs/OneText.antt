@@ -15,20 +15,28 @@ use Rattle.db_model.specs.Refusing.{epoch_refusal}
 use Rattle.db_model.specs.Printing.{Prints}
 use Rattle.db_model.specs.Step.{Step}
 
--- a text that calls for a moveout of all
-abbrev pub IsMoveout : List ℕ → Type 0
-IsMoveout text = Spells (symbols_of text) (Statement.Call Function.Moveout)
+-- functions that do several jobs, one after the other, each of which may find the numbers spent
+abbrev pub HasJobs : Function → Type 0
+HasJobs Function.Moveout = Unit {0}
+HasJobs Function.Mergeout = Unit {0}
+HasJobs (Function.Purge table) = Unit {0}
+HasJobs (Function.Refresh table) = Unit {0}
+HasJobs f = ⊥
 
--- Two steps of one statement text over one state print the same bytes and are refused for the same cause, if at all; a moveout of all
--- may be refused in one and not in the other, since the numbers that its jobs draw may be spent in the one alone.
+-- a text that calls for such
+abbrev pub AsksForJobs : List ℕ → Type 0
+AsksForJobs text = (f : Function) × HasJobs f × Spells (symbols_of text) (Statement.Call f)
+
+-- Two steps of one statement text over one state print the same bytes and are refused for the same cause, if at all; a function of several
+-- jobs may be refused in one and not in the other, since the numbers that its jobs draw may be spent in the one alone.
 abbrev pub StatementsHaveOneText : Type 0
 StatementsHaveOneText =
     (serves : Statement → Bool) (old : State) (files : Files) (text p q : List ℕ) (why also : Option Refusal) (m n : State)
-    → Step serves old files text p why m → Step serves old files text q also n → (IsMoveout text → ⊥) → (p ≡ q) × (why ≡ also)
+    → Step serves old files text p why m → Step serves old files text q also n → (AsksForJobs text → ⊥) → (p ≡ q) × (why ≡ also)
 
--- A moveout of all, too, prints the same in two steps that are both refused or both not.
-abbrev pub MoveoutsOfOneFate : Type 0
-MoveoutsOfOneFate =
+-- These, too, print the same in two steps that are both refused or both not.
+abbrev pub StepsOfOneFate : Type 0
+StepsOfOneFate =
     (serves : Statement → Bool) (old : State) (files : Files) (text p q : List ℕ) (why also : Option Refusal) (m n : State)
     → Step serves old files text p why m → Step serves old files text q also n → is_some why ≡ is_some also → (p ≡ q) × (why ≡ also)
 

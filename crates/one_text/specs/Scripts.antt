@@ -8,7 +8,7 @@ use Rattle.sql_tree.specs.Spells.{Spells}
 use Rattle.db_model.specs.State.{State}
 use Rattle.db_model.specs.Numbers.{are_spent}
 use Rattle.db_model.specs.Run.{Run, Setting}
-use Rattle.one_text.specs.OneText.{IsMoveout}
+use Rattle.one_text.specs.OneText.{AsksForJobs}
 
 -- the same database, sessions and waiting projections; the three numbers of the storage may be others
 pub record IsSameButNumbers (a b : State) : Type 0 where
@@ -17,9 +17,9 @@ pub record IsSameButNumbers (a b : State) : Type 0 where
   pub current : a.current ≡ b.current
   pub asked : a.asked ≡ b.asked
 
--- a text that doesn't ask the mover for anything: neither a moveout of all, nor one step
+-- a text that doesn't ask the mover to do anything: neither jobs, nor one step
 pub record IsQuiet (text : List ℕ) : Type 0 where
-  pub no_moveout : IsMoveout text → ⊥
+  pub no_jobs : AsksForJobs text → ⊥
   pub no_step : Spells (symbols_of text) Statement.Step → ⊥
 
 -- Two runs of a script over such states, without steps of the mover and with numbers left at their ends, print the same, some

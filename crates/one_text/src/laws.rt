@@ -1,4 +1,4 @@
-ghost use Rattle.one_text.specs.OneText.{StatementsHaveOneText, MoveoutsOfOneFate, QueriesHaveOneCause, QueriesHaveOneText, SelectsHaveOneText};
+ghost use Rattle.one_text.specs.OneText.{StatementsHaveOneText, StepsOfOneFate, QueriesHaveOneCause, QueriesHaveOneText, SelectsHaveOneText};
 ghost use Rattle.one_text.specs.Scripts.{ScriptsHaveOneText};
 
 use query_laws::order_of_rows_is_free;
@@ -6,12 +6,12 @@ use query_order::one_printed_list;
 use sql_reader::one_reading;
 
 /// A statement has one text: over one state, with the same load files and the same served forms, two steps of a statement text
-/// print the same bytes, and both are refused for the same cause or neither is. One statement is left out, a moveout of all:
-/// whether it is refused depends on the numbers that its jobs draw, which the storage decides. Where it is refused in both
-/// steps or in neither, they too print the same bytes.
+/// print the same bytes, and both are refused for the same cause or neither is. Left out are the functions of several jobs
+/// (`HasJobs`): whether they are refused depends on the numbers that their jobs draw, which the storage decides. Where such a
+/// one is refused in both steps or in neither, they too print the same bytes.
 pub fn a_statement_has_one_text()
     ensures statements { StatementsHaveOneText }
-    ensures moveouts { MoveoutsOfOneFate }
+    ensures one_fate { StepsOfOneFate }
 {
     one_reading();
     one_printed_list();
@@ -31,7 +31,7 @@ pub fn a_query_has_one_text()
 
 /// A script has one text, where it leaves the mover alone: two runs of it, over states that are the same but for the numbers of the
 /// storage, print the same bytes, some statement is refused in both or in none, and both leave the same database. That holds for
-/// scripts without a moveout of all and without `\step`, run without steps of the mover behind the statements, as long as the numbers
+/// scripts without functions of several jobs and without `\step`, run without steps of the mover behind the statements, as long as the numbers
 /// that files are called by aren't spent.
 pub fn a_script_has_one_text()
     ensures { ScriptsHaveOneText }

@@ -19,7 +19,7 @@ use Rattle.db_model.specs.State.{State}
 use Rattle.db_model.specs.Views.{columns_found, table_found}
 use Rattle.sound_laws.proofs.Pairs.{all_front, all_back}
 use Rattle.state_laws.specs.Rows.{AreStored}
-use Rattle.state_laws.proofs.Events.{first_none, no_names, pending_state}
+use Rattle.state_laws.proofs.Events.{first_none, pending_state}
 use Rattle.state_laws.proofs.Fits.{inserted_fit}
 use Rattle.sound_laws.proofs.Storable.{stored_value}
 use Rattle.row_setting.proofs.Accepted.{Stored, all_stored, mapped_none}
@@ -88,13 +88,13 @@ accepted_over state i columns none =
     let three = first_none (locked state i.table false) stored two.1 in
     record { literals = one.0; free = three.0; stored = three.1 }
 
-inserted_over : (state : State) (i : Insert) (o : Option (ℕ × Table)) → table_found i.table state.database.tables ≡ o → Accepted state i (option_map (λ e. e.1.columns) o) → state.asked ≡ no_names → IsSound state
+inserted_over : (state : State) (i : Insert) (o : Option (ℕ × Table)) → table_found i.table state.database.tables ≡ o → Accepted state i (option_map (λ e. e.1.columns) o) → IsSound state
     → IsSound (rows_pending i.table (inserted_rows i) state)
-inserted_over state i None found accepted none sound = let never : Some (Refusal.UnknownTable i.table) ≡ None = accepted.literals in absurd (cc)
-inserted_over state i (Some e) found accepted none sound =
+inserted_over state i None found accepted sound = let never : Some (Refusal.UnknownTable i.table) ≡ None = accepted.literals in absurd (cc)
+inserted_over state i (Some e) found accepted sound =
     let stored : AreStored e.1.columns i = (accepted.literals, accepted.stored) in
-    pending_state state i.table (inserted_rows i) e.1 none (found_named i.table state.database.tables e found) (inserted_fit e.1.columns i stored (inserted_are_rows e.1.columns i stored)) accepted.free sound
+    pending_state state i.table (inserted_rows i) e.1 (found_named i.table state.database.tables e found) (inserted_fit e.1.columns i stored (inserted_are_rows e.1.columns i stored)) accepted.free sound
 
-pub inserted_state : (state : State) (i : Insert) → state.asked ≡ no_names → rows_inserted_refusal state i ≡ None → IsSound state → IsSound (rows_pending i.table (inserted_rows i) state)
-inserted_state state i none accepted sound =
-    inserted_over state i (table_found i.table state.database.tables) refl (accepted_over state i (columns_found state.database.tables i.table) accepted) none sound
+pub inserted_state : (state : State) (i : Insert) → rows_inserted_refusal state i ≡ None → IsSound state → IsSound (rows_pending i.table (inserted_rows i) state)
+inserted_state state i accepted sound =
+    inserted_over state i (table_found i.table state.database.tables) refl (accepted_over state i (columns_found state.database.tables i.table) accepted) sound

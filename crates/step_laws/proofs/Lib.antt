@@ -1,4 +1,3 @@
-pub mod Reached
 pub mod Moves
 pub mod Named
 pub mod Inserted

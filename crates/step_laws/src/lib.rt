@@ -1,7 +1,7 @@
 //! That a state stays sound in every step, and in a whole run.
 //!
-//! The laws are the contracts here, over `Step`, the mover and `Run` of `db_model`, and there is no code. They are of states in which no
-//! projection waits for the mover, and none waits then, either. `state_laws` and `change_laws` say it of each event.
+//! The laws are the contracts here, over `Step`, the mover and `Run` of `db_model`, and there is no code. `state_laws` and `change_laws` say it
+//! of each event.
 #![tactic(auto)]
 
 mod laws;

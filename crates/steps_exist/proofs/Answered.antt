@@ -1,5 +1,5 @@
 -- Each statement is refused or it isn't, and what it prints and leaves is there.
-use Rattle.std.proofs.Common.{◌≡◌, ℕ, ◌+◌, inl, inr, Bool, true, false, List, [], length, refl}
+use Rattle.std.proofs.Common.{◌≡◌, ℕ, ◌+◌, inl, inr, Bool, true, false, List, [], length, refl, sym, subst, arith}
 use Rattle.std.specs.Prelude.{Option, Some, None, codes}
 use Rattle.col_value.specs.declared.value.Value.{Value}
 use Rattle.sql_tree.specs.declared.query.At.{At}
@@ -13,22 +13,22 @@ use Rattle.sql_bound.specs.Outputs.{output, IsSumTooGreat}
 use Rattle.sql_binding.specs.Firsts.{first_of}
 use Rattle.sql_binding.specs.Inserts.{inserted_rows}
 use Rattle.db_model.specs.Answers.{epoch_line, insert_line, listing_text}
-use Rattle.db_model.specs.Database.{Table}
+use Rattle.db_model.specs.Database.{Shape, Table}
 use Rattle.db_model.specs.Epochs.{last_good, rises}
-use Rattle.db_model.specs.Events.{changes_committed, changes_dropped, deleted_count, mark_raised, on_table, projection_created, projection_dropped, rows_deleted, rows_loaded, rows_pending, rows_updated, table_created, table_dropped, updated_old}
+use Rattle.db_model.specs.Events.{changes_committed, changes_dropped, column_added, deleted_count, is_of_table, mark_raised, on_table, projection_created, projection_dropped, refresh_started, rows_deleted, rows_loaded, rows_pending, rows_updated, table_created, table_dropped, updated_old}
 use Rattle.db_model.specs.Leaving.{CopyLeaves, Leaves, MarkLeaves, RefusedLeaves}
 use Rattle.db_model.specs.Loading.{Files, Load, Loads}
-use Rattle.db_model.specs.Mover.{MovesAll}
+use Rattle.db_model.specs.Mover.{given_up, MovesAll, RaisesAll, RefreshesAll}
 use Rattle.db_model.specs.Printing.{commit_text, copy_text, counted_line, explain_text, on_found, CopyPrints, Prints}
-use Rattle.db_model.specs.Refusals.{is_large_file, load_refusal, locked, mark_refusal, raise_refusal, projection_created_refusal, projection_dropped_refusal, query_refusal_in, rows_deleted_refusal, rows_inserted_refusal, rows_updated_refusal, table_created_refusal, table_dropped_refusal, CopyRefuses, LoadRefuses, Refuses, SumRefuses, UnlockedRefuses}
+use Rattle.db_model.specs.Refusals.{column_added_refusal, is_large_file, load_refusal, locked, mark_refusal, raise_refusal, projection_created_refusal, projection_dropped_refusal, query_refusal_in, rows_deleted_refusal, rows_inserted_refusal, rows_updated_refusal, table_created_refusal, table_dropped_refusal, unknown_table_refusal, CopyRefuses, JobsRefuse, LoadRefuses, Refuses, SumRefuses, TableJobsRefuse, UnlockedRefuses}
 use Rattle.db_model.specs.Refusing.{commit_refusal, epoch_refusal}
 use Rattle.db_model.specs.State.{State}
 use Rattle.db_model.specs.Step.{Effect}
 use Rattle.db_model.specs.Views.{bound_in, inputs, table_found}
-use Rattle.steps_exist.specs.Lines.{has_line, has_line_of_call}
 use Rattle.steps_exist.proofs.Listed.{list_there}
 use Rattle.steps_exist.proofs.Loaded.{load_there}
 use Rattle.steps_exist.proofs.Moves.{undrawn, nothing_drawn, HasNames, all_moved, mover_steps}
+use Rattle.steps_exist.proofs.Refreshes.{all_refreshed}
 use Rattle.steps_exist.proofs.Sums.{Decided, sum_decided}
 
 -- why it is refused, if it is, and what it then prints and leaves
@@ -147,54 +147,111 @@ moved old files true new moves = record {
 }
 moved old files false new moves = record { refusal = None; printed = codes "MOVEOUT\n"; new = new; refuses = (false, new, moves, refl); effect = (refl, moves) }
 
+-- where there is nothing to merge or to purge, there is no job
+no_jobs : (meant : Shape → Bool) (old : State) → RaisesAll meant old false (given_up old)
+no_jobs meant old = record { count = 0; jobs = (refl, refl); drawn = record { from = omega arith; to = omega arith; parts = omega arith } }
+
+merged : (old : State) (files : Files) → Answer old files (Statement.Call Function.Mergeout)
+merged old files =
+    let raises = no_jobs (λ s. true) old in
+    record { refusal = None; printed = codes "MERGEOUT\n"; new = given_up old; refuses = (false, given_up old, raises, refl); effect = (refl, raises) }
+
+-- a function on a table that isn't there
+no_table : (old : State) (r : Refusal) (Run : Bool → State → Type 0) (o : Option Refusal) → o ≡ Some r → TableJobsRefuse o Run (Some r)
+no_table old r Run o is = subst (λ (x : Option Refusal). TableJobsRefuse x Run (Some r)) (sym is) refl
+
+on_table_there : (Run : Bool → State → Type 0) (o why : Option Refusal) → o ≡ None → JobsRefuse Run why → TableJobsRefuse o Run why
+on_table_there Run o why is jobs = subst (λ (x : Option Refusal). TableJobsRefuse x Run why) (sym is) jobs
+
+purged : (old : State) (files : Files) (table : List ℕ) (o : Option Refusal) → unknown_table_refusal old table ≡ o → Answer old files (Statement.Call (Function.Purge table))
+purged old files table (Some r) is = record {
+  refusal = Some r;
+  printed = refusal_text r;
+  new = old;
+  refuses = no_table old r (RaisesAll (λ s. is_of_table table old.database.tables s.name) old) (unknown_table_refusal old table) is;
+  effect = (refl, inl refl);
+}
+purged old files table None is =
+    let meant : Shape → Bool = λ s. is_of_table table old.database.tables s.name in
+    let raises = no_jobs meant old in
+    record {
+      refusal = None;
+      printed = codes "PURGE\n";
+      new = given_up old;
+      refuses = on_table_there (RaisesAll meant old) (unknown_table_refusal old table) None is (false, given_up old, raises, refl);
+      effect = (refl, raises);
+    }
+
+refreshed_to : (old : State) (files : Files) (table : List ℕ) (stopped : Bool) (new : State) → unknown_table_refusal old table ≡ None → RefreshesAll table old stopped new → Answer old files (Statement.Call (Function.Refresh table))
+refreshed_to old files table true new is refreshes = record {
+  refusal = Some Refusal.NumbersSpent;
+  printed = refusal_text Refusal.NumbersSpent;
+  new = new;
+  refuses = on_table_there (RefreshesAll table old) (unknown_table_refusal old table) (Some Refusal.NumbersSpent) is (true, new, refreshes, refl);
+  effect = (refl, inr refreshes);
+}
+refreshed_to old files table false new is refreshes = record {
+  refusal = None;
+  printed = codes "REFRESH\n";
+  new = new;
+  refuses = on_table_there (RefreshesAll table old) (unknown_table_refusal old table) None is (false, new, refreshes, refl);
+  effect = (refl, refreshes);
+}
+
+refreshed : (old : State) (files : Files) (table : List ℕ) (o : Option Refusal) → unknown_table_refusal old table ≡ o → HasNames old.database → Answer old files (Statement.Call (Function.Refresh table))
+refreshed old files table (Some r) is names =
+    record { refusal = Some r; printed = refusal_text r; new = old; refuses = no_table old r (RefreshesAll table old) (unknown_table_refusal old table) is; effect = (refl, inl refl) }
+refreshed old files table None is names = let (stopped, new, refreshes) = all_refreshed table old names in refreshed_to old files table stopped new is refreshes
+
 mark_left : (b : Bool) (mark : ℕ) (old : State) → (new : State) × MarkLeaves b mark old new
 mark_left true mark old = (undrawn old (mark_raised mark old), nothing_drawn old (mark_raised mark old))
 mark_left false mark old = (old, refl)
 
-called : (old : State) (files : Files) (f : Function) → has_line_of_call f ≡ true → HasNames old.database → Answer old files (Statement.Call f)
-called old files Function.Lge line names = told old files (Statement.Call Function.Lge) None refl refl (counted_line (codes "LGE ") (last_good old.database)) refl old refl
-called old files Function.Ahm line names = told old files (Statement.Call Function.Ahm) None refl refl (counted_line (codes "AHM ") old.database.ahm) refl old refl
-called old files Function.Current line names = told old files (Statement.Call Function.Current) None refl refl (epoch_line (old.database.last + 1)) refl old refl
-called old files Function.MakeAhmNow line names =
+called : (old : State) (files : Files) (f : Function) → HasNames old.database → Answer old files (Statement.Call f)
+called old files Function.Lge names = told old files (Statement.Call Function.Lge) None refl refl (counted_line (codes "LGE ") (last_good old.database)) refl old refl
+called old files Function.Ahm names = told old files (Statement.Call Function.Ahm) None refl refl (counted_line (codes "AHM ") old.database.ahm) refl old refl
+called old files Function.Current names = told old files (Statement.Call Function.Current) None refl refl (epoch_line (old.database.last + 1)) refl old refl
+called old files Function.MakeAhmNow names =
     let mark = last_good old.database in
     let (new, leaves) = mark_left (rises mark old.database) mark old in
     told old files (Statement.Call Function.MakeAhmNow) (raise_refusal mark old) refl refl (counted_line (codes "AHM ") mark) refl new leaves
-called old files (Function.SetAhm n) line names =
+called old files (Function.SetAhm n) names =
     let (new, leaves) = mark_left (rises n old.database) n old in
     told old files (Statement.Call (Function.SetAhm n)) (first_of (mark_refusal n old.database) (raise_refusal n old)) refl refl (counted_line (codes "AHM ") n) refl new leaves
-called old files Function.Moveout line names = let (stopped, new, moves) = all_moved old names in moved old files stopped new moves
-called old files Function.Mergeout line names = absurd (cc)
-called old files (Function.Purge table) line names = absurd (cc)
-called old files (Function.Refresh table) line names = absurd (cc)
-called old files Function.StartRefresh line names = absurd (cc)
+called old files Function.Moveout names = let (stopped, new, moves) = all_moved old names in moved old files stopped new moves
+called old files Function.Mergeout names = merged old files
+called old files (Function.Purge table) names = purged old files table (unknown_table_refusal old table) refl
+called old files (Function.Refresh table) names = refreshed old files table (unknown_table_refusal old table) refl names
+called old files Function.StartRefresh names = told old files (Statement.Call Function.StartRefresh) None refl refl (codes "START REFRESH\n") refl (refresh_started old) refl
 
 -- ---- all statements
 
-pub answered : (old : State) (files : Files) (s : Statement) → has_line s ≡ true → HasNames old.database → Answer old files s
-answered old files (Statement.CreateTable name columns) line names =
+pub answered : (old : State) (files : Files) (s : Statement) → HasNames old.database → Answer old files s
+answered old files (Statement.CreateTable name columns) names =
     told old files (Statement.CreateTable name columns) (table_created_refusal old name columns) refl refl (codes "CREATE TABLE\n") refl (undrawn old (table_created name columns old)) (nothing_drawn old (table_created name columns old))
-answered old files (Statement.CreateProjection p) line names =
+answered old files (Statement.CreateProjection p) names =
     told old files (Statement.CreateProjection p) (projection_created_refusal old p) refl refl (codes "CREATE PROJECTION\n") refl (undrawn old (projection_created p old)) (nothing_drawn old (projection_created p old))
-answered old files (Statement.DropTable name) line names =
+answered old files (Statement.DropTable name) names =
     told old files (Statement.DropTable name) (table_dropped_refusal old name) refl refl (codes "DROP TABLE\n") refl (undrawn old (table_dropped name old)) (nothing_drawn old (table_dropped name old))
-answered old files (Statement.DropProjection name) line names =
+answered old files (Statement.DropProjection name) names =
     told old files (Statement.DropProjection name) (projection_dropped_refusal old name) refl refl (codes "DROP PROJECTION\n") refl (undrawn old (projection_dropped name old)) (nothing_drawn old (projection_dropped name old))
-answered old files (Statement.Insert i) line names =
+answered old files (Statement.Insert i) names =
     told old files (Statement.Insert i) (rows_inserted_refusal old i) refl refl (insert_line (length i.rows)) refl (rows_pending i.table (inserted_rows i) old) refl
-answered old files (Statement.Delete d) line names =
+answered old files (Statement.Delete d) names =
     told old files (Statement.Delete d) (rows_deleted_refusal old d) refl refl (counted_line (codes "DELETE ") (on_found (table_found d.table old.database.tables) (deleted_count d old))) refl (on_table d.table (rows_deleted d old) old) refl
-answered old files (Statement.Update u) line names =
+answered old files (Statement.Update u) names =
     told old files (Statement.Update u) (rows_updated_refusal old u) refl refl (counted_line (codes "UPDATE ") (on_found (table_found u.table old.database.tables) (λ e. length (updated_old u old e)))) refl
     (on_table u.table (rows_updated u old) old) refl
-answered old files (Statement.AddColumn a) line names = absurd (cc)
-answered old files (Statement.Copy table file) line names = copied old files table file
-answered old files Statement.Commit line names = told old files Statement.Commit (commit_refusal old) refl refl (commit_text old) refl (changes_committed old) refl
-answered old files Statement.Rollback line names = told old files Statement.Rollback None refl refl (codes "ROLLBACK\n") refl (changes_dropped old) refl
-answered old files (Statement.Select at q) line names = selected old files at q
-answered old files (Statement.Explain q) line names = told old files (Statement.Explain q) (query_refusal_in old q) refl refl (explain_text old q) refl old refl
-answered old files (Statement.Call f) line names = called old files f line names
-answered old files (Statement.Session n) line names = told old files (Statement.Session n) None refl refl [] refl (record old { current = n }) refl
-answered old files Statement.Step line names = let (new, steps) = mover_steps old in told old files Statement.Step None refl refl [] refl new steps
+answered old files (Statement.AddColumn a) names =
+    told old files (Statement.AddColumn a) (column_added_refusal old a) refl refl (codes "ALTER TABLE\n") refl (undrawn old (column_added a old)) (nothing_drawn old (column_added a old))
+answered old files (Statement.Copy table file) names = copied old files table file
+answered old files Statement.Commit names = told old files Statement.Commit (commit_refusal old) refl refl (commit_text old) refl (changes_committed old) refl
+answered old files Statement.Rollback names = told old files Statement.Rollback None refl refl (codes "ROLLBACK\n") refl (changes_dropped old) refl
+answered old files (Statement.Select at q) names = selected old files at q
+answered old files (Statement.Explain q) names = told old files (Statement.Explain q) (query_refusal_in old q) refl refl (explain_text old q) refl old refl
+answered old files (Statement.Call f) names = called old files f names
+answered old files (Statement.Session n) names = told old files (Statement.Session n) None refl refl [] refl (record old { current = n }) refl
+answered old files Statement.Step names = let (new, steps) = mover_steps old in told old files Statement.Step None refl refl [] refl new steps
 
 -- ---- where a form isn't served
 
@@ -205,9 +262,9 @@ call_stays old Function.Current = refl
 call_stays old Function.MakeAhmNow = refl
 call_stays old (Function.SetAhm n) = refl
 call_stays old Function.Moveout = inl refl
-call_stays old Function.Mergeout = refl
-call_stays old (Function.Purge table) = refl
-call_stays old (Function.Refresh table) = refl
+call_stays old Function.Mergeout = inl refl
+call_stays old (Function.Purge table) = inl refl
+call_stays old (Function.Refresh table) = inl refl
 call_stays old Function.StartRefresh = refl
 
 pub all_stays : (old : State) (s : Statement) → RefusedLeaves old s old

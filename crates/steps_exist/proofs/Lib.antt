@@ -3,7 +3,7 @@ pub mod Sums
 pub mod Listed
 pub mod Moves
 pub mod Loaded
+pub mod Refreshes
 pub mod Answered
 pub mod Stepped
 pub mod Ran
-pub mod Unlined

@@ -31,7 +31,7 @@ nothing_drawn old made = record { same = refl; drawn = record { from = omega ari
 
 -- ---- one moveout leaves the others behind
 
-abbrev shape_names : List Shape → List (List ℕ)
+abbrev pub shape_names : List Shape → List (List ℕ)
 shape_names ss = map (λ s. s.name) ss
 
 others_still : (name : List ℕ) (f : Shape → Shape) (ss : List Shape) → All (Differ name) (shape_names ss) → map (change_shape name f) ss ≡ ss
@@ -40,8 +40,8 @@ others_still name f (s ∷ ss) apart =
     ap₂ (λ (b : Bool) (xs : List Shape). cond b (f s) s ∷ xs) (differ_turned name s.name (All-head (Differ name) s.name (shape_names ss) apart))
     (others_still name f ss (All-tail (Differ name) s.name (shape_names ss) apart))
 
-abbrev behind_of : ℕ → List Shape → List Shape
-behind_of last ss = filter (is_behind last) ss
+abbrev pub passing : (Shape → Bool) → List Shape → List Shape
+passing p ss = filter p ss
 
 at_most_one : (b : Bool) (s : Shape) (ss : List Shape) → length (cond b (s ∷ ss) ss) ≤ suc (length ss)
 at_most_one true s ss = omega arith
@@ -55,9 +55,9 @@ same_first : (b : Bool) (s : Shape) (ss ts : List Shape) → length ss ≤ suc (
 same_first true s ss ts le = omega (arith, le)
 same_first false s ss ts le = le
 
-one_less : (last : ℕ) (name : List ℕ) (f : Shape → Shape) (ss : List Shape) → AllPairs Differ (shape_names ss) → length (behind_of last ss) ≤ suc (length (behind_of last (map (change_shape name f) ss)))
-one_less last name f [] apart = omega arith
-one_less last name f (s ∷ ss) apart = by (bytes_eq s.name name) refl (one_less last name f ss (pairs_tail Differ s.name (shape_names ss) apart))
+pub one_less : (p : Shape → Bool) (name : List ℕ) (f : Shape → Shape) (ss : List Shape) → AllPairs Differ (shape_names ss) → length (passing p ss) ≤ suc (length (passing p (map (change_shape name f) ss)))
+one_less p name f [] apart = omega arith
+one_less p name f (s ∷ ss) apart = by (bytes_eq s.name name) refl (one_less p name f ss (pairs_tail Differ s.name (shape_names ss) apart))
   where
     turned : bytes_eq s.name name ≡ true → All (Differ name) (shape_names ss)
     turned is = All-weaker (Differ s.name) (Differ name) (λ n other. as_named n other) (shape_names ss) (pairs_head Differ s.name (shape_names ss) apart)
@@ -65,17 +65,17 @@ one_less last name f (s ∷ ss) apart = by (bytes_eq s.name name) refl (one_less
         as_named : (n : List ℕ) → Differ s.name n → Differ name n
         as_named n other = subst (λ (m : List ℕ). Differ m n) ((bytes_eq-Decides s.name name).0 is) other
 
-    by : (b : Bool) → bytes_eq s.name name ≡ b → length (behind_of last ss) ≤ suc (length (behind_of last (map (change_shape name f) ss)))
-        → length (behind_of last (s ∷ ss)) ≤ suc (length (behind_of last (map (change_shape name f) (s ∷ ss))))
+    by : (b : Bool) → bytes_eq s.name name ≡ b → length (passing p ss) ≤ suc (length (passing p (map (change_shape name f) ss)))
+        → length (passing p (s ∷ ss)) ≤ suc (length (passing p (map (change_shape name f) (s ∷ ss))))
     by true is rest =
         let still : map (change_shape name f) ss ≡ ss = others_still name f ss (turned is) in
-        let less : length (behind_of last (s ∷ ss)) ≤ suc (length (behind_of last ss)) = at_most_one (is_behind last s) s (behind_of last ss) in
-        let more : length (behind_of last ss) ≤ length (behind_of last (cond (bytes_eq s.name name) (f s) s ∷ ss)) =
-        no_fewer (is_behind last (cond (bytes_eq s.name name) (f s) s)) (cond (bytes_eq s.name name) (f s) s) (behind_of last ss) in
-        subst (λ (xs : List Shape). length (behind_of last (s ∷ ss)) ≤ suc (length (behind_of last (cond (bytes_eq s.name name) (f s) s ∷ xs)))) (sym still) (omega (arith, less, more))
+        let less : length (passing p (s ∷ ss)) ≤ suc (length (passing p ss)) = at_most_one (p s) s (passing p ss) in
+        let more : length (passing p ss) ≤ length (passing p (cond (bytes_eq s.name name) (f s) s ∷ ss)) =
+        no_fewer (p (cond (bytes_eq s.name name) (f s) s)) (cond (bytes_eq s.name name) (f s) s) (passing p ss) in
+        subst (λ (xs : List Shape). length (passing p (s ∷ ss)) ≤ suc (length (passing p (cond (bytes_eq s.name name) (f s) s ∷ xs)))) (sym still) (omega (arith, less, more))
     by false is rest =
-        subst (λ (b : Bool). length (behind_of last (s ∷ ss)) ≤ suc (length (behind_of last (cond b (f s) s ∷ map (change_shape name f) ss)))) (sym is)
-        (same_first (is_behind last s) s (behind_of last ss) (behind_of last (map (change_shape name f) ss)) rest)
+        subst (λ (b : Bool). length (passing p (s ∷ ss)) ≤ suc (length (passing p (cond b (f s) s ∷ map (change_shape name f) ss)))) (sym is)
+        (same_first (p s) s (passing p ss) (passing p (map (change_shape name f) ss)) rest)
 
 -- ---- in all tables
 
@@ -112,10 +112,10 @@ shapes_apart (t ∷ ts) pairs =
 abbrev pub HasNames : Database → Type 0
 HasNames d = AllPairs Differ (all_names d.tables)
 
-one_less_behind : (s : Shape) (d : Database) → HasNames d → length (behind d) ≤ suc (length (behind_of d.last (all_shapes (map (change_shape_of s.name (reached_to d.last)) d.tables))))
+one_less_behind : (s : Shape) (d : Database) → HasNames d → length (behind d) ≤ suc (length (passing (is_behind d.last) (all_shapes (map (change_shape_of s.name (reached_to d.last)) d.tables))))
 one_less_behind s d apart =
-    subst (λ (ss : List Shape). length (behind d) ≤ suc (length (behind_of d.last ss))) (sym (shapes_changed s.name (reached_to d.last) d.tables))
-    (one_less d.last s.name (reached_to d.last) (all_shapes d.tables) (shapes_apart d.tables apart))
+    subst (λ (ss : List Shape). length (behind d) ≤ suc (length (passing (is_behind d.last) ss))) (sym (shapes_changed s.name (reached_to d.last) d.tables))
+    (one_less (is_behind d.last) s.name (reached_to d.last) (all_shapes d.tables) (shapes_apart d.tables apart))
 
 -- ---- the names stay
 
@@ -127,7 +127,7 @@ name_stays name last (s ∷ ss) = ap₂ (λ (n : List ℕ) (ns : List (List ℕ)
     by true = refl
     by false = refl
 
-names_stay : (name : List ℕ) (last : ℕ) (ts : List Table) → all_names (map (change_shape_of name (reached_to last)) ts) ≡ all_names ts
+pub names_stay : (name : List ℕ) (last : ℕ) (ts : List Table) → all_names (map (change_shape_of name (reached_to last)) ts) ≡ all_names ts
 names_stay name last [] = refl
 names_stay name last (t ∷ ts) =
     flat_map-cons names_of (change_shape_of name (reached_to last) t) (map (change_shape_of name (reached_to last)) ts)

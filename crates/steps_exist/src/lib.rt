@@ -2,8 +2,7 @@
 //!
 //! The laws are the contracts here, over `Step`, the mover and `Run` of `db_model`, and there is no code: a relation tells something only
 //! where there is what it relates. Whatever a text says, a sound state has a step of it: it spells a statement or there is the place of
-//! its first wrong token, the statement is refused or it isn't, and what it prints and leaves is there (`specs/Exist.antt`). It is asked that
-//! no form is served of which the model tells nothing yet (`specs/Lines.antt`).
+//! its first wrong token, the statement is refused or it isn't, and what it prints and leaves is there (`specs/Exist.antt`).
 #![tactic(auto)]
 
 mod laws;

@@ -1,4 +1,4 @@
-use Rattle.alike_laws.proofs.Refused.{commit_alike, joining_alike, load_alike, locked_alike}
+use Rattle.alike_laws.proofs.Refused.{commit_alike, holder_alike, joining_alike, load_alike, locked_alike}
 use Rattle.alike_laws.proofs.laws.alike_sessions_lock_alike.Goals as goal
 
 pub returns-clause-lock : goal.returns-clause-lock
@@ -12,3 +12,6 @@ returns-clause-commit c = commit_alike
 
 pub returns-clause-load : goal.returns-clause-load
 returns-clause-load c = load_alike
+
+pub returns-clause-holder : goal.returns-clause-holder
+returns-clause-holder c = holder_alike

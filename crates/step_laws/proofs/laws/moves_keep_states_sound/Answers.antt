@@ -1,5 +1,6 @@
-use Rattle.step_laws.proofs.Moves.{all_moved, mover_stepped}
+use Rattle.state_laws.proofs.Reached.{all_moved}
+use Rattle.step_laws.proofs.Moves.{mover_stepped}
 use Rattle.step_laws.proofs.laws.moves_keep_states_sound.Goals as goal
 
 pub returns : goal.returns
-returns c = record { mover = λ old new none sound steps. mover_stepped old new steps (sound, none); all = λ stopped old new none sound moves. all_moved stopped old new moves (sound, none) }
+returns c = record { mover = mover_stepped; all = all_moved }
