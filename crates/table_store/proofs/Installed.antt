@@ -11,7 +11,7 @@ use Rattle.col_disk.specs.Moved.{Looks, Moved, NoName}
 use Rattle.col_disk.specs.declared.disk.Disk.{Ghosts}
 use Rattle.col_disk.specs.declared.disk.DiskFault.{DiskFault}
 use Rattle.col_disk.specs.declared.disk.DiskFault.TheVariants as disk_fault
-use Rattle.col_disk.proofs.Moving.{moved_read}
+use Rattle.col_disk.proofs.Moving.{moved_none, moved_read}
 use Rattle.col_value.specs.declared.row.Stamped.{Stamped}
 use Rattle.catalog_types.specs.declared.catalogue.Catalogue.{Catalogue}
 use Rattle.catalog_types.specs.declared.catalogue.Projection.{Projection}
@@ -145,6 +145,10 @@ install_made read {D} disk {old} {mid} {new} root c last stores now i j version 
     move_makes disk now (seen c (change_at i (change_at j (λ x. one)) stores)) result d (reached_at entry.lge i j d) stands {W = NoName} (no_file stands.root) moved
     (made now (change_at i (change_at j (λ x. one)) stores) d (reached_at entry.lge i j d) then next are
     (reached_sound d entry.lge i j (omega (arith, mark, here.ahm)) (omega (arith, closed, here.last)) stands.sound))
+
+-- nothing was done
+pub nothing_done : {D F : Type 0} (disk : Ghosts D) (short : F) (now : D) (was : Seen) (f : F) (d e : Database) → Stands disk was now d → Makes disk short was was now now (Err f) d e
+nothing_done disk short now was f d e stands = wrote_only disk short {W = NoName} was was f d e stands (no_file stands.root) (moved_none disk now)
 
 -- nothing but reading was done
 pub read_only : {D F : Type 0} (disk : Ghosts D) (short : F) {old new : D} (was is : Seen) (f : F) (d e : Database) → Stands disk was old d → Looks disk old new → Makes disk short was is old new (Err f) d e
