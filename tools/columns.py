@@ -168,7 +168,7 @@ def main():
             t.say("ROLLBACK", "ROLLBACK")
             t.say("\\session 1")
     t.say("EXPLAIN SELECT s, k FROM parts", "SCAN parts parts_by_s")
-    t.say("EXPLAIN SELECT k, mark FROM parts", "SCAN parts parts_super")
+    t.say("EXPLAIN SELECT k, mark FROM parts", "SCAN parts parts_by_s")
     for epoch in range(1, t.epoch + 1):
         for _ in range(3):
             t.ask(epoch)
