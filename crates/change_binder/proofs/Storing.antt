@@ -14,11 +14,13 @@ use Rattle.col_value.specs.declared.kinds.ColType.{ColType}
 use Rattle.col_value.specs.declared.wide.Wide.{Wide}
 use Rattle.col_value.specs.declared.wide.Wide.TheVariants as wide
 use Rattle.sql_tree.specs.declared.refusal.Refusal.{Refusal}
+use Rattle.sql_tree.specs.declared.statement.AddColumn.{AddColumn}
 use Rattle.sql_tree.specs.declared.statement.Insert.{Insert}
 use Rattle.col_value.specs.declared.column.Column.{Column}
 use Rattle.sql_bound.specs.declared.expr.Kind.{Kind}
 use Rattle.sql_bound.specs.Kinds.{serves, kind_of_column}
 use Rattle.sql_binding.specs.Firsts.{first_of, first_given, refused_where}
+use Rattle.sql_binding.specs.Additions.{added_pair, default_refusal, default_value}
 use Rattle.sql_binding.specs.Inserts.{pairs, wrong_count, is_of_column, is_out_of_range, is_too_long, is_stored_number, is_stored_day, width_of, narrowed, whole_refusal, first_such, is_refused_null}
 use Rattle.change_binder.specs.Flaws.{AreStored}
 
@@ -35,18 +37,18 @@ stored_number (negsuc n) h = grind (arith, nat_tests, ints)
 stored_day : (d : ℕ) → not (is_stored_day d) ≡ false → IsDay d
 stored_day d h = grind (arith, nat_tests)
 
-stored_text : (k : ColType) (t : List ℕ) → serves Kind.Text (kind_of_column k) ≡ true → nat_lt (width_of k) (length t) ≡ false → length t ≤ 65000
-stored_text ColType.Integer t e h = cc
-stored_text ColType.Boolean t e h = cc
-stored_text ColType.Date t e h = cc
-stored_text (ColType.Varchar n) t e h = omega (arith, ltb-false (min n 65000) (length t) h)
+stored_text : (k : ColType) (t : List ℕ) → nat_lt (width_of k) (length t) ≡ false → length t ≤ 65000
+stored_text ColType.Integer t l = omega (arith, ltb-false 0 (length t) l)
+stored_text ColType.Boolean t l = omega (arith, ltb-false 0 (length t) l)
+stored_text ColType.Date t l = omega (arith, ltb-false 0 (length t) l)
+stored_text (ColType.Varchar n) t l = omega (arith, ltb-false (min n 65000) (length t) l)
 
-stored_literal : (c : Column) (w : Wide) → is_of_column (c, w) ≡ true → is_out_of_range (c, w) ≡ false → is_too_long (c, w) ≡ false → IsValue (narrowed w)
-stored_literal c wide.Null k r l = tt
-stored_literal c (wide.Bool b) k r l = tt
-stored_literal c (wide.Int n) k r l = stored_number n r
-stored_literal c (wide.Date d) k r l = stored_day d r
-stored_literal c (wide.Text t) k r l = stored_text c.kind t k l
+stored_literal : (c : Column) (w : Wide) → is_out_of_range (c, w) ≡ false → is_too_long (c, w) ≡ false → IsValue (narrowed w)
+stored_literal c wide.Null r l = tt
+stored_literal c (wide.Bool b) r l = tt
+stored_literal c (wide.Int n) r l = stored_number n r
+stored_literal c (wide.Date d) r l = stored_day d r
+stored_literal c (wide.Text t) r l = stored_text c.kind t l
 
 -- what is found nowhere is neither at the front nor behind it
 found_nowhere : {X : Type 0} (b : Bool) (x : X) (o : Option X) → cond b (Some x) o ≡ None → (b ≡ false) × (o ≡ None)
@@ -62,7 +64,7 @@ fits_first c w ps f =
     let k = both_true (is_of_column (c, w)) (list_all is_of_column ps) f.kinds in
     let r = found_nowhere (is_out_of_range (c, w)) (c, w) (find is_out_of_range ps) f.ranges in
     let l = found_nowhere (is_too_long (c, w)) (c, w) (find is_too_long ps) f.lengths in
-    (stored_literal c w k.0 r.0 l.0, record { kinds = k.1; ranges = r.1; lengths = l.1 })
+    (stored_literal c w r.0 l.0, record { kinds = k.1; ranges = r.1; lengths = l.1 })
 
 -- a row of as many literals as there are columns
 fits_row : (columns : List Column) (row : List Wide) → length row ≡ length columns → Fits (zip columns row) → AreStored row
@@ -130,3 +132,22 @@ stored_rows columns i e =
 -- literals that are stored make rows of a table
 pub narrowed_rows : (rows : List (List Wide)) → All AreStored rows → All IsRow (map (map narrowed) rows)
 narrowed_rows rows h = All-map IsRow (map narrowed) rows (λ k d l. All-map IsValue narrowed (get_or rows k d) (h k d l))
+
+-- a default that nothing refuses is a value of a table
+none_such : (p : Column × Wide → Bool) (x : Column × Wide) (named : List ℕ → Refusal) → option_map named (first_such p (x ∷ [])) ≡ None → p x ≡ false
+none_such p x named e = by (p x) e
+  where
+    by : (b : Bool) → option_map named (option_map (λ (y : Column × Wide). y.0.name) (cond b (Some x) None)) ≡ None → b ≡ false
+    by true e = cc
+    by false e = refl
+
+pub stored_default : (a : AddColumn) → default_refusal a ≡ None → IsValue (default_value a)
+stored_default a e =
+    let ps = added_pair a ∷ [] in
+    let range = option_map Refusal.IntegerOutOfRange (first_such is_out_of_range ps) in
+    let width = option_map Refusal.TextTooLong (first_such is_too_long ps) in
+    let null = option_map Refusal.NullRefused (first_such is_refused_null ps) in
+    let front = neither range (first_of width null) e in
+    let back = neither width null front.1 in
+    stored_literal a.column a.default (none_such is_out_of_range (added_pair a) Refusal.IntegerOutOfRange front.0)
+    (none_such is_too_long (added_pair a) Refusal.TextTooLong back.0)

@@ -3,7 +3,8 @@ use Rattle.std.specs.Prelude.{◌≡◌, ℕ, List, [], map, Option, Some, None,
 use Rattle.std.specs.List.{All}
 use Rattle.col_value.specs.declared.value.Value.{Value}
 use Rattle.col_value.specs.declared.column.Column.{Column}
-use Rattle.col_value.specs.Order.{IsRow}
+use Rattle.col_value.specs.Order.{IsRow, IsValue}
+use Rattle.sql_tree.specs.declared.statement.AddColumn.{AddColumn}
 use Rattle.sql_tree.specs.declared.statement.Delete.{Delete}
 use Rattle.sql_tree.specs.declared.statement.Insert.{Insert}
 use Rattle.sql_tree.specs.declared.statement.Update.{Update}
@@ -17,6 +18,7 @@ use Rattle.sql_tree.specs.declared.query.Query.{Query}
 use Rattle.sql_binding.specs.Queries.{ambiguous_name, bound_in, unknown_column}
 use Rattle.sql_binding.specs.Sight.{Seen}
 use Rattle.sql_binding.specs.Inserts.{whole_refusal, inserted_rows}
+use Rattle.sql_binding.specs.Additions.{default_refusal, default_value}
 use Rattle.sql_binding.specs.Projections.{projection_refusal, bound_projection}
 use Rattle.change_binder.specs.declared.updates.BoundUpdate.{BoundUpdate}
 use Rattle.change_binder.specs.declared.projections.ProjectionShape.{ProjectionShape}
@@ -63,3 +65,9 @@ pub record IsBoundInsert (found : Option (List Column)) (i : Insert) (rows : Lis
 pub record IsBoundProjection (found : Option (List Column)) (p : NewProjection) (s : ProjectionShape) : Type 0 where
   pub accepted : projection_refusal found p ≡ None
   pub shape : option_map (λ columns. bound_projection columns p) found ≡ Some (s.columns, s.sort)
+
+-- the default of an added column can be stored there, and this is what each row has: a value of a table
+pub record IsBoundDefault (a : AddColumn) (v : Value) : Type 0 where
+  pub accepted : default_refusal a ≡ None
+  pub value : v ≡ default_value a
+  pub fits : IsValue v

@@ -30,7 +30,8 @@ fn narrow_row(alloc: Global, row: &[Wide]) -> Result<Row, AllocError>
     Ok(List::new(out))
 }
 
-fn narrow(alloc: Global, literal: &Wide) -> Result<Value, AllocError>
+/// What a column holds of a literal.
+pub(crate) fn narrow(alloc: Global, literal: &Wide) -> Result<Value, AllocError>
     requires { IsValue (narrowed literal.now) }
     ensures { IfOk result (λ v. v ≡ narrowed literal.now) }
 {

@@ -14,6 +14,7 @@ abbrev pub refusal_named : Naming → List ℕ → Refusal
 refusal_named Naming.UnknownTable = Refusal.UnknownTable
 refusal_named Naming.UnknownColumn = Refusal.UnknownColumn
 refusal_named Naming.Ambiguous = Refusal.Ambiguous
+refusal_named Naming.Exists = Refusal.Exists
 refusal_named Naming.IntegerOutOfRange = Refusal.IntegerOutOfRange
 refusal_named Naming.TextTooLong = Refusal.TextTooLong
 refusal_named Naming.NullRefused = Refusal.NullRefused

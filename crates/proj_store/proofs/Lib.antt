@@ -15,3 +15,4 @@ pub mod BlockRows
 pub mod Narrowing
 pub mod Candidacy
 pub mod Standing
+pub mod Wider

@@ -4,3 +4,4 @@ pub mod Reading
 pub mod Marking
 pub mod Blocks
 pub mod Candidates
+pub mod Widening

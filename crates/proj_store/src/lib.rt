@@ -8,6 +8,9 @@
 //! marks at these places delete exactly what was wanted. A container of whose epochs no row is wanted isn't read for it, nor a block of
 //! which an index says so. Of the other blocks those rows are looked up that may be wanted by each of their values (`AreCandidates` of
 //! `specs/Candidates.antt`), until nothing is wanted any more; one that is the next in the order of what is wanted isn't even made.
+//!
+//! A column that joins the others writes no row (`with_column` of `specs/Widening.antt`): `prepare_column` makes the entry's columns and
+//! the rows in memory with its default beside those that are there, and `apply_column` puts them in their place.
 #![tactic(auto)]
 
 mod alive;
@@ -24,10 +27,12 @@ mod picks;
 mod rows;
 mod saved;
 mod store;
+mod widening;
 
 pub use deletes::deletes_of;
 pub use laws::{
     later_marks_stay_above, rows_may_come_before_marks, valid_entries_load,
     vectors_are_those_of_the_disk, wanted_rows_are_deleted,
 };
-pub use store::{Marks, ProjStore, ReadyRows};
+pub use store::{Marks, ProjStore, ReadyColumn, ReadyRows};
+pub use widening::{a_default_joins_each_row, columns_with};

@@ -13,6 +13,7 @@ ghost use Rattle.write_store.specs.Memory.{stamp, AreHeldRows};
 ghost use Rattle.proj_store.specs.Sound.{IsLoadable, IsSound};
 ghost use Rattle.proj_store.specs.Reading.{BlamesLoad, BlamesRows, HasVectors};
 
+mod columns;
 mod deletes;
 
 use crate::copies::{add_copies, visible_rows};
@@ -22,6 +23,7 @@ use crate::saved::saved_rows;
 use catalog_types::Projection;
 use col_disk::{Disk, StoreFault};
 use col_value::{Row, Stamped};
+pub use columns::ReadyColumn;
 use del_vector::Mark;
 pub use deletes::Marks;
 use std::alloc::{AllocError, Global};

@@ -1,8 +1,9 @@
 -- What is looked at before the rows is the same in a state and in the one without its rows.
-use Rattle.std.proofs.Common.{◌≡◌, ℕ, ◌+◌, List, [], ◌∷◌, ◌++◌, Bool, true, false, cond, length, map, filter, refl, sym, ◌-◌, ◌∙◌, ap, ap₂}
-use Rattle.std.specs.Prelude.{Option, Some, None, option_map, option_and_then, find, bytes_eq, nat_le, nat_lt, ◌&&◌, ◌||◌, ◌==◌, not}
+use Rattle.std.proofs.Common.{◌≡◌, ◌<◌, ℕ, ◌+◌, List, [], ◌∷◌, ◌++◌, Bool, true, false, cond, length, map, filter, refl, sym, ◌-◌, ◌∙◌, ap, ap₂, arith}
+use Rattle.std.specs.Prelude.{Option, Some, None, option_map, option_and_then, find, is_some, bytes_eq, nat_le, nat_lt, ◌&&◌, ◌||◌, ◌==◌, not}
 use Rattle.std.specs.List.{AllZip, enumerate_from, flat_map, list_all, list_any, slice_index_or}
 use Rattle.std.specs.Option.{option_map_or}
+use Rattle.std.proofs.lemmas.Bool.Decides.{nat_tests}
 use Rattle.std.proofs.lemmas.List.Concat.{flat_map-cons}
 use Rattle.std.proofs.lemmas.List.Elements.{length_all_zip}
 use Rattle.col_value.specs.declared.column.Column.{Column}
@@ -11,6 +12,7 @@ use Rattle.sql_tree.specs.declared.query.Query.{Query}
 use Rattle.sql_tree.specs.declared.query.Source.{Source}
 use Rattle.sql_tree.specs.declared.refusal.Refusal.{Refusal}
 use Rattle.sql_tree.specs.declared.refusal.Which.{Which}
+use Rattle.sql_tree.specs.declared.statement.AddColumn.{AddColumn}
 use Rattle.sql_tree.specs.declared.statement.Delete.{Delete}
 use Rattle.sql_tree.specs.declared.statement.Function.{Function}
 use Rattle.sql_tree.specs.declared.statement.Insert.{Insert}
@@ -21,16 +23,17 @@ use Rattle.sql_binding.specs.Firsts.{first_of, refused_where}
 use Rattle.sql_binding.specs.Changes.{delete_refusal, update_refusal}
 use Rattle.sql_binding.specs.Projections.{projection_form_refusal, projection_name_refusal}
 use Rattle.sql_binding.specs.Projections as binding
+use Rattle.sql_binding.specs.Additions.{addition_refusal, default_refusal}
 use Rattle.sql_binding.specs.Inserts.{insert_refusal, stored_refusal}
 use Rattle.sql_binding.specs.Queries.{bound_query, query_refusal}
 use Rattle.db_model.specs.Database.{Table, Shape, has_columns, is_taken, super_name}
 use Rattle.db_model.specs.State.{State, Changes, has_changes, own_changes, pending_rows}
 use Rattle.db_model.specs.Epochs.{all_shapes, last_good, least_or}
 use Rattle.db_model.specs.Loading.{Load}
-use Rattle.db_model.specs.Locks.{excludes}
+use Rattle.db_model.specs.Locks.{changes_on, excludes, holder}
 use Rattle.db_model.specs.Numbers.{spent_refusal}
-use Rattle.db_model.specs.Refusing.{columns_limit, commit_refusal, create_limit, create_refusal, epoch_refusal, if_taken, name_limit, repeated_behind, rows_limit, taken_name}
-use Rattle.db_model.specs.Refusals.{joining_limit, last_super_refusal, load_refusal, locked, mark_refusal, owner, projection_created_refusal, projection_dropped_refusal, projection_refusal_over, query_refusal_in, raise_refusal, rows_deleted_refusal, rows_inserted_refusal, table_created_refusal, table_dropped_refusal, unknown_table_refusal}
+use Rattle.db_model.specs.Refusing.{column_limit, columns_limit, commit_refusal, create_limit, create_refusal, epoch_refusal, if_taken, name_limit, repeated_behind, rows_limit, taken_name}
+use Rattle.db_model.specs.Refusals.{column_added_refusal, joining_limit, last_super_refusal, load_refusal, locked, mark_refusal, owner, projection_created_refusal, projection_dropped_refusal, projection_refusal_over, query_refusal_in, raise_refusal, rows_deleted_refusal, rows_inserted_refusal, table_created_refusal, table_dropped_refusal, unknown_table_refusal}
 use Rattle.db_model.specs.Views.{bound_in, columns_found, table_found}
 use Rattle.alike_laws.proofs.Refused.{commit_alike, joining_alike, load_alike, locked_alike}
 use Rattle.statement_plan.specs.Bare.{IsBare, IsBareTable}
@@ -264,6 +267,47 @@ updated_same : (bare state : State) (u : Update) → IsBare bare state
 updated_same bare state u is =
     ap (λ (o : Option (List Column)). update_refusal o u) (columns_same u.table bare.database.tables state.database.tables is.tables)
 
+-- who holds a table is who would keep a session that isn't there from it
+some_held : (o : Option Changes) → is_some o ≡ option_map_or (λ (c : Changes). c.exclusive || true) o false
+some_held None = refl
+some_held (Some c) = by c.exclusive
+  where
+    by : (b : Bool) → true ≡ (b || true)
+    by true = refl
+    by false = refl
+
+not_zero : (n : ℕ) → 0 < n → (n == 0) ≡ false
+not_zero n above = grind (arith, nat_tests, above)
+
+one_holds : (b c : Bool) (e : ℕ × List Changes) (o p : Option (ℕ × List Changes)) → b ≡ c → o ≡ p → cond b (Some e) o ≡ cond c (Some e) p
+one_holds b c e o p is rest = ap₂ (λ (d : Bool) (q : Option (ℕ × List Changes)). cond d (Some e) q) is rest
+
+held_from : (name : List ℕ) (n : ℕ) (ss : List (List Changes)) → 0 < n
+    → find (λ (e : ℕ × List Changes). is_some (changes_on name e.1)) (enumerate_from n ss)
+    ≡ find (λ (e : ℕ × List Changes). not (e.0 == 0) && excludes name true e.1) (enumerate_from n ss)
+held_from name n [] above = refl
+held_from name n (s ∷ ss) above =
+    one_holds (is_some (changes_on name s)) (not (n == 0) && excludes name true s) (n, s) (find (λ (e : ℕ × List Changes). is_some (changes_on name e.1)) (enumerate_from (n + 1) ss))
+    (find (λ (e : ℕ × List Changes). not (e.0 == 0) && excludes name true e.1) (enumerate_from (n + 1) ss))
+    (some_held (changes_on name s) ∙ ap (λ (b : Bool). not b && excludes name true s) (sym (not_zero n above)))
+    (held_from name (n + 1) ss (omega (arith, above)))
+
+as_nobody : State → State
+as_nobody state = record state { current = 0 }
+
+held_by : (state : State) (name : List ℕ) → option_map Refusal.Locked (holder state name) ≡ locked (as_nobody state) name true
+held_by state name = ap (λ (o : Option (ℕ × List Changes)). option_map Refusal.Locked (option_map (λ (e : ℕ × List Changes). e.0) o)) (held_from name 1 state.sessions (omega arith))
+
+held_same : (bare state : State) (name : List ℕ) → IsBare bare state → option_map Refusal.Locked (holder bare name) ≡ option_map Refusal.Locked (holder state name)
+held_same bare state name is = held_by bare name ∙ locked_alike (as_nobody bare) (as_nobody state) name true is.sessions refl ∙ sym (held_by state name)
+
+added_same : (bare state : State) (a : AddColumn) → IsBare bare state → column_added_refusal bare a ≡ column_added_refusal state a
+added_same bare state a is =
+    ap₂ (λ (o : Option (List Column)) (rest : Option Refusal).
+    first_of (addition_refusal o a) (first_of (option_and_then (λ (cs : List Column). column_limit (length cs, a.column)) o) rest))
+    (columns_same a.table bare.database.tables state.database.tables is.tables)
+    (ap₂ (λ (l s : Option Refusal). first_of l (first_of (default_refusal a) s)) (held_same bare state a.table is) (spent_same bare state is))
+
 -- why a statement is refused
 shapes_same : (bs ts : List Table) → AllZip IsBareTable bs ts → all_shapes bs ≡ all_shapes ts
 shapes_same [] [] z = refl
@@ -302,7 +346,7 @@ early_same bare state (Statement.DropProjection name) is = undone_same bare stat
 early_same bare state (Statement.Insert i) is = inserted_same bare state i is
 early_same bare state (Statement.Delete d) is = deleted_same bare state d is
 early_same bare state (Statement.Update u) is = updated_same bare state u is
-early_same bare state (Statement.AddColumn a) is = refl
+early_same bare state (Statement.AddColumn a) is = added_same bare state a is
 early_same bare state (Statement.Copy table file) is =
     ap₂ (λ (o p : Option Refusal). first_of o p) (unknown_same table bare state is) (locked_same bare state table false is)
 early_same bare state Statement.Commit is = committed_same bare state is

@@ -79,6 +79,8 @@ plan_same bare state (Statement.Update u) (Plan.Update place b) is of = record {
   settings = of.settings;
 }
 plan_same bare state (Statement.Copy table file) (Plan.Copy place) is of = sym (place_same table bare.database.tables state.database.tables is.tables) ∙ of
+plan_same bare state (Statement.AddColumn a) (Plan.AddColumn place default) is (at, value, fits) =
+    (sym (place_same a.table bare.database.tables state.database.tables is.tables) ∙ at, value, fits)
 plan_same bare state Statement.Commit Plan.Commit is of = of
 plan_same bare state Statement.Rollback Plan.Rollback is of = of
 plan_same bare state (Statement.Select at q) (Plan.Select b) is of = record { tree = of.tree ∙ tree_same bare state q is; bounded = of.bounded }

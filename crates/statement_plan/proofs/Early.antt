@@ -49,7 +49,7 @@ refused_early state files (Statement.Insert i) r is = sym is
 refused_early state files (Statement.Delete d) r is = sym is
 refused_early state files (Statement.Update u) r is =
     sym (ap (λ (o : Option Refusal). first_of o (option_and_then (update_refusal_over state u) (table_found u.table state.database.tables))) is)
-refused_early state files (Statement.AddColumn a) r is = absurd (cc)
+refused_early state files (Statement.AddColumn a) r is = sym is
 refused_early state files (Statement.Copy table file) r is = copy_refused state table (table_found table state.database.tables) (files file) r is
 refused_early state files Statement.Commit r is = sym is
 refused_early state files Statement.Rollback r is = absurd (cc)
@@ -79,7 +79,7 @@ settled_early state files (Statement.DropProjection name) is = refl
 settled_early state files (Statement.Insert i) is = refl
 settled_early state files (Statement.Delete d) is = refl
 settled_early state files (Statement.Update u) is = absurd (cc)
-settled_early state files (Statement.AddColumn a) is = absurd (cc)
+settled_early state files (Statement.AddColumn a) is = refl
 settled_early state files (Statement.Copy table file) is = absurd (cc)
 settled_early state files Statement.Commit is = refl
 settled_early state files Statement.Rollback is = refl

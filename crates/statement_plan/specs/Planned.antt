@@ -1,7 +1,7 @@
 -- What a statement was planned to do, and why it is refused before a row is looked at.
 use Rattle.std.specs.Prelude.{◌≡◌, Bool, true, false, Option, Some, None}
 use Rattle.std.specs.List.{All}
-use Rattle.col_value.specs.Order.{IsRow}
+use Rattle.col_value.specs.Order.{IsRow, IsValue}
 use Rattle.sql_tree.specs.declared.query.At.{At}
 use Rattle.sql_tree.specs.declared.query.Query.{Query}
 use Rattle.sql_tree.specs.declared.refusal.Refusal.{Refusal}
@@ -11,11 +11,12 @@ use Rattle.sql_bound.specs.declared.query.BoundQuery.{BoundQuery}
 use Rattle.sql_binding.specs.Firsts.{first_of}
 use Rattle.sql_binding.specs.Changes.{update_refusal}
 use Rattle.sql_binding.specs.Inserts.{inserted_rows}
+use Rattle.sql_binding.specs.Additions.{default_value}
 use Rattle.db_model.specs.State.{State}
 use Rattle.db_model.specs.Epochs.{last_good}
 use Rattle.db_model.specs.Views.{bound_in, columns_found}
 use Rattle.db_model.specs.Refusing.{commit_refusal, epoch_refusal}
-use Rattle.db_model.specs.Refusals.{copy_table_refusal, mark_refusal, projection_created_refusal, projection_dropped_refusal, query_refusal_in, raise_refusal, rows_deleted_refusal, rows_inserted_refusal, table_created_refusal, table_dropped_refusal}
+use Rattle.db_model.specs.Refusals.{column_added_refusal, copy_table_refusal, mark_refusal, projection_created_refusal, projection_dropped_refusal, query_refusal_in, raise_refusal, rows_deleted_refusal, rows_inserted_refusal, table_created_refusal, table_dropped_refusal}
 use Rattle.query_laws.specs.Bounded.{IsBoundedQuery}
 use Rattle.statement_plan.specs.Places.{IsDeleteOf, IsProjectionOf, IsUpdateOf, projection_places, table_place}
 use Rattle.statement_plan.specs.declared.plans.Plan.{Plan}
@@ -42,7 +43,7 @@ is_planned (Statement.DropProjection name) = true
 is_planned (Statement.Insert i) = true
 is_planned (Statement.Delete d) = true
 is_planned (Statement.Update u) = true
-is_planned (Statement.AddColumn a) = false
+is_planned (Statement.AddColumn a) = true
 is_planned (Statement.Copy table file) = true
 is_planned Statement.Commit = true
 is_planned Statement.Rollback = true
@@ -72,6 +73,7 @@ early_refusal state (Statement.DropProjection name) = projection_dropped_refusal
 early_refusal state (Statement.Insert i) = rows_inserted_refusal state i
 early_refusal state (Statement.Delete d) = rows_deleted_refusal state d
 early_refusal state (Statement.Update u) = update_refusal (columns_found state.database.tables u.table) u
+early_refusal state (Statement.AddColumn a) = column_added_refusal state a
 early_refusal state (Statement.Copy table file) = copy_table_refusal state table
 early_refusal state Statement.Commit = commit_refusal state
 early_refusal state (Statement.Select at q) = select_refusal state at q
@@ -90,7 +92,6 @@ is_settled_call f = false
 
 abbrev pub is_settled : Statement → Bool
 is_settled (Statement.Update u) = false
-is_settled (Statement.AddColumn a) = false
 is_settled (Statement.Copy table file) = false
 is_settled (Statement.Select at q) = false
 is_settled (Statement.Call f) = is_settled_call f
@@ -110,6 +111,7 @@ IsPlanOf state (Statement.DropProjection name) (Plan.DropProjection table place)
 IsPlanOf state (Statement.Insert i) (Plan.Insert rows) = (rows.items ≡ inserted_rows i) × All IsRow rows.items
 IsPlanOf state (Statement.Delete d) (Plan.Delete place b) = IsDeleteOf state d place b
 IsPlanOf state (Statement.Update u) (Plan.Update place b) = IsUpdateOf state u place b
+IsPlanOf state (Statement.AddColumn a) (Plan.AddColumn place default) = (table_place a.table state.database.tables ≡ Some place) × (default ≡ default_value a) × IsValue default
 IsPlanOf state (Statement.Copy table file) (Plan.Copy place) = table_place table state.database.tables ≡ Some place
 IsPlanOf state Statement.Commit Plan.Commit = Unit {0}
 IsPlanOf state Statement.Rollback Plan.Rollback = Unit {0}

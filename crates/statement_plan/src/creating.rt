@@ -81,8 +81,8 @@ fn is_wrong_width(kind: ColType) -> bool
     }
 }
 
-/// The first limit that a column of a new table passes, at its place from 0.
-fn column_limit(place: usize, column: &Column) -> Option<Refusal>
+/// The first limit that a new column of a table passes, at its place from 0.
+pub(crate) fn column_limit(place: usize, column: &Column) -> Option<Refusal>
     ensures { result ≡ rule.column_limit (place, column.now) }
 {
     if place >= 64 {

@@ -4,6 +4,7 @@ ghost use Rattle.std.specs.Prelude.{◌≡◌, ◌≤◌, ◌&&◌, ◌||◌, by
 ghost use Rattle.std.specs.List.{list_any};
 ghost use Rattle.db_model.specs.Database.{is_taken};
 ghost use Rattle.db_model.specs.Events.{rows_pending};
+ghost use Rattle.db_model.specs.Locks.{holder};
 ghost use Rattle.db_model.specs.State.{has_changes, is_empty, pending_rows};
 ghost use Rattle.db_model.specs.Epochs.{last_good};
 ghost use Rattle.db_model.specs.Numbers.{spent_refusal};
@@ -184,6 +185,16 @@ impl<'a> Frame<'a> {
         ensures { result ≡ locked self.now name.now want }
     {
         match self.txns.conflict(self.current, name, want) {
+            Some(holder) => Some(Refusal::Locked(holder as u8)),
+            None => None,
+        }
+    }
+
+    /// Where a session holds a table, the current one among them, the refusal of what needs it free.
+    pub(crate) fn held(&self, name: &[u8]) -> Option<Refusal>
+        ensures { result ≡ option_map Refusal.Locked (holder self.now name.now) }
+    {
+        match self.txns.holder(name) {
             Some(holder) => Some(Refusal::Locked(holder as u8)),
             None => None,
         }

@@ -8,6 +8,7 @@
 //! was read, and `change_refusal` where the rows of an UPDATE were found.
 #![tactic(auto)]
 
+mod adding;
 mod changing;
 mod creating;
 mod dropping;

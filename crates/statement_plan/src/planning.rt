@@ -4,6 +4,7 @@ ghost use Rattle.std.specs.Prelude.{◌≡◌, true, IfErr, IfOk};
 ghost use Rattle.name_binder.specs.Refusing.{RefusesBy};
 ghost use Rattle.statement_plan.specs.Planned.{early_call_refusal, early_refusal, is_planned, IsPlanned};
 
+use crate::adding::plan_addition;
 use crate::changing::{plan_delete, plan_update};
 use crate::creating::plan_table;
 use crate::dropping::{plan_drop, plan_projection_drop};
@@ -52,7 +53,7 @@ pub fn make_plan(alloc: Global, frame: &Frame<'_>, statement: &Statement) -> Res
             Ok(place) => Ok(Plan::Copy(place)),
             Err(fault) => Err(fault),
         },
-        Statement::AddColumn(_) => unreachable!(),
+        Statement::AddColumn(add) => plan_addition(alloc, frame, add),
         Statement::Commit => match frame.committing() {
             Some(refusal) => Err(BindFault::Refused(refusal)),
             None => Ok(Plan::Commit),

@@ -1,7 +1,7 @@
 //! What a statement does.
 
 use change_binder::{BoundUpdate, ProjectionShape};
-use col_value::Row;
+use col_value::{Row, Value};
 use sql_bound::BoundQuery;
 
 /// What a statement does that isn't refused before a row is looked at. The first number is the place of its table among all tables.
@@ -16,6 +16,8 @@ pub enum Plan {
     Delete(usize, BoundQuery),
     Update(usize, BoundUpdate),
     Copy(usize),
+    /// What each row has in the new column.
+    AddColumn(usize, Value),
     Commit,
     Rollback,
     Select(BoundQuery),

@@ -13,7 +13,6 @@ ghost use Rattle.statement_plan.specs.Projecting.{before_limits, is_limit, refus
 use crate::frame::Frame;
 use crate::placed::Placed;
 use crate::plans::Plan;
-use crate::refusing::exists;
 use change_binder::{
     ProjectionShape, bind_projection, check_projection_form, check_projection_names,
 };
@@ -71,7 +70,7 @@ fn check_free(alloc: Global, frame: &Frame<'_>, name: &Name) -> Result<(), BindF
     ensures refused { IfErr result (RefusesBy (option_map Refusal.Exists (if_taken frame.now.database.tables name.now))) }
 {
     if frame.is_taken(name.as_slice()) {
-        return Err(exists(alloc, name));
+        return Err(Naming::Exists.refuse(alloc, name.as_slice()));
     }
     Ok(())
 }

@@ -9,16 +9,6 @@ use name_binder::BindFault;
 use sql_tree::Refusal;
 use std::alloc::{AllocError, Global};
 
-/// The refusal of a name that is taken.
-pub fn exists(alloc: Global, name: &Name) -> BindFault
-    ensures { RefusesBy (Some (Refusal.Exists name.now)) result }
-{
-    match name.copy(alloc) {
-        Ok(name) => BindFault::Refused(Refusal::Exists(name)),
-        Err(AllocError) => BindFault::Memory,
-    }
-}
-
 /// The refusal of a projection that isn't there.
 pub fn unknown_projection(alloc: Global, name: &Name) -> BindFault
     ensures { RefusesBy (Some (Refusal.UnknownProjection name.now)) result }

@@ -18,6 +18,13 @@ pub fn projection_created_text(alloc: Global) -> Result<Vec<u8>, AllocError>
     Vec::from_slice(alloc, b"CREATE PROJECTION\n")
 }
 
+/// `ALTER TABLE`
+pub fn column_added_text(alloc: Global) -> Result<Vec<u8>, AllocError>
+    ensures { IfOk result (λ v. v.items ≡ codes "ALTER TABLE\n") }
+{
+    Vec::from_slice(alloc, b"ALTER TABLE\n")
+}
+
 /// `DROP TABLE`
 pub fn table_dropped_text(alloc: Global) -> Result<Vec<u8>, AllocError>
     ensures { IfOk result (λ v. v.items ≡ codes "DROP TABLE\n") }

@@ -14,6 +14,7 @@ pub mod Chain
 pub mod Dropping
 pub mod Ended
 pub mod Shaped
+pub mod Added
 pub mod Unshaped
 pub mod Planned
 pub mod Loaded

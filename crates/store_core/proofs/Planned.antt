@@ -46,7 +46,7 @@ place_found {X} p n (y ∷ ys) i x there = by (p (n, y)) (λ rest. place_found p
         let (k, at, found) = more rest in
         (suc k, omega (arith, at), found)
 
-some_below : {X : Type 0} (P : X → Type 0) (xs : List X) (k : ℕ) → IsSomeAnd (slice_get xs k) P → k < length xs
+pub some_below : {X : Type 0} (P : X → Type 0) (xs : List X) (k : ℕ) → IsSomeAnd (slice_get xs k) P → k < length xs
 some_below P [] k there = absurd there
 some_below P (x ∷ xs) zero there = omega arith
 some_below P (x ∷ xs) (suc k) there = let rest = some_below P xs k there in omega (arith, rest)

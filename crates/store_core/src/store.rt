@@ -51,6 +51,7 @@ use store_query::{SelectFault, bound_queries_read_their_tables, select};
 use table_store::TableStore;
 use txn_core::Txns;
 
+mod adding;
 mod changing;
 mod loading;
 mod looking;

@@ -70,9 +70,9 @@ stays_call state Function.Current = refl
 stays_call state Function.MakeAhmNow = refl
 stays_call state (Function.SetAhm n) = refl
 stays_call state Function.Moveout = inl refl
-stays_call state Function.Mergeout = refl
-stays_call state (Function.Purge table) = refl
-stays_call state (Function.Refresh table) = refl
+stays_call state Function.Mergeout = inl refl
+stays_call state (Function.Purge table) = inl refl
+stays_call state (Function.Refresh table) = inl refl
 stays_call state Function.StartRefresh = refl
 
 pub stays : (state : State) (s : Statement) → RefusedLeaves state s state

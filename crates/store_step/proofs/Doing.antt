@@ -18,6 +18,7 @@ use Rattle.catalog_types.specs.declared.catalogue.Table as kept
 use Rattle.sql_tree.specs.declared.query.At.{At}
 use Rattle.sql_tree.specs.declared.query.Query.{Query}
 use Rattle.sql_tree.specs.declared.refusal.Refusal.{Refusal}
+use Rattle.sql_tree.specs.declared.statement.AddColumn.{AddColumn}
 use Rattle.sql_tree.specs.declared.statement.NewProjection.{NewProjection}
 use Rattle.sql_tree.specs.declared.statement.Statement.{Statement}
 use Rattle.sql_bound.specs.declared.query.BoundQuery.{BoundQuery}
@@ -28,14 +29,14 @@ use Rattle.db_model.specs.Database.{Table}
 use Rattle.db_model.specs.State.{State, own_changes, has_changes}
 use Rattle.db_model.specs.Sound.{IsSound, IsSoundDatabase}
 use Rattle.db_model.specs.Epochs.{last_good, cut}
-use Rattle.db_model.specs.Events.{table_created, table_dropped, projection_created, projection_dropped, changes_committed}
+use Rattle.db_model.specs.Events.{table_created, table_dropped, projection_created, projection_dropped, column_added, changes_committed}
 use Rattle.db_model.specs.Loading.{Files}
 use Rattle.db_model.specs.Numbers.{IsDrawn}
 use Rattle.db_model.specs.Printing.{commit_text, IsListed}
-use Rattle.db_model.specs.Refusals.{query_refusal_in, table_created_refusal, table_dropped_refusal, projection_created_refusal, projection_dropped_refusal, SumRefuses, SelectRefuses}
+use Rattle.db_model.specs.Refusals.{query_refusal_in, table_created_refusal, table_dropped_refusal, projection_created_refusal, projection_dropped_refusal, column_added_refusal, SumRefuses, SelectRefuses}
 use Rattle.db_model.specs.Refusing.{commit_refusal, epoch_refusal}
 use Rattle.db_model.specs.Views.{bound_in, inputs}
-use Rattle.db_laws.proofs.Goods.{IsGood, good_itself, good_created, good_dropped, good_projected, good_bared, good_committed, good_drawn}
+use Rattle.db_laws.proofs.Goods.{IsGood, good_itself, good_created, good_dropped, good_projected, good_bared, good_widened, good_committed, good_drawn}
 use Rattle.folder_model.specs.Reopening.{Reopens}
 use Rattle.statement_plan.specs.Bare.{bare_table}
 use Rattle.statement_plan.specs.Places.{table_place}
@@ -92,6 +93,14 @@ bared_event state files name accepted sound made draw = record {
   answer = λ new drawn. record { decided = sym accepted; effect = (refl, drawn) };
   sound = λ new drawn. (draw state (projection_dropped name state) new drawn made).database;
   good = λ new drawn. good_drawn (last_good state.database) state (projection_dropped name state) new drawn (good_bared (last_good state.database) name state (good_itself state.database sound.database));
+}
+
+pub added_event : (state : State) (files : Files) (a : AddColumn) → column_added_refusal state a ≡ None → IsSound state → IsSound (column_added a state) → ((old made new : State) → IsDrawn old made new → IsSound made → IsSound new)
+    → Event state files (Statement.AddColumn a) (codes "ALTER TABLE\n") (IsDrawn state (column_added a state))
+added_event state files a accepted sound made draw = record {
+  answer = λ new drawn. record { decided = sym accepted; effect = (refl, drawn) };
+  sound = λ new drawn. (draw state (column_added a state) new drawn made).database;
+  good = λ new drawn. good_drawn (last_good state.database) state (column_added a state) new drawn (good_widened (last_good state.database) a state (good_itself state.database sound.database));
 }
 
 -- where the table of a name stands

@@ -56,7 +56,7 @@ pub fn is_served(statement: &Statement) -> bool
         Statement::Delete(_) => true,
         Statement::Update(_) => true,
         Statement::Copy(_, _) => true,
-        Statement::AddColumn(_) => false,
+        Statement::AddColumn(_) => true,
         Statement::Commit => true,
         Statement::Rollback => true,
         Statement::Select(_, _) => true,

@@ -1,4 +1,4 @@
-//! Statements by which projections come and go.
+//! Statements by which projections and columns come and go.
 
 ghost use Rattle.std.specs.Prelude.{◌≡◌};
 ghost use Rattle.common_laws.specs.Causes.{HasCause};
@@ -14,10 +14,13 @@ use crate::answer::Answer;
 use crate::answering::{on_disk, printed};
 use change_binder::ProjectionShape;
 use col_disk::{Disk, StoreFault};
+use col_value::Value;
 use folder_model::every_image_reopens;
-use sql_tree::NewProjection;
-use state_laws::{a_new_projection_is_sound, an_event_may_draw, projections_may_be_dropped};
-use statement_text::{projection_created_text, projection_dropped_text};
+use sql_tree::{AddColumn, NewProjection};
+use state_laws::{
+    a_new_column_is_sound, a_new_projection_is_sound, an_event_may_draw, projections_may_be_dropped,
+};
+use statement_text::{column_added_text, projection_created_text, projection_dropped_text};
 use std::alloc::{AllocError, Global};
 use store_core::{Store, frames_are_of_the_state, planned_projections_have_places};
 
@@ -47,6 +50,34 @@ pub fn create_projection<D: Disk>(
     on_disk(
         printed(text),
         store.create_projection(alloc, place, projection.name, shape, disk),
+    )
+}
+
+/// ALTER TABLE that isn't refused, of the table at a place.
+pub fn add_column<D: Disk>(
+    alloc: Global,
+    store: &mut Store,
+    add: &AddColumn,
+    place: usize,
+    default: &Value,
+    disk: &mut D,
+) -> Result<Answer, StoreFault>
+    requires { IsPlanned (frame_of store.old) (Statement.AddColumn add.now) (Plan.AddColumn place default.now) }
+    ensures answers { (files : LoadFiles) (state : State) → IsState ⟦<D as Disk>⟧ store.old disk.old state
+        → Answers ⟦<D as Disk>⟧ files (Statement.AddColumn add.now) store.new disk.old disk.new result state }
+    ensures cause { HasCause StoreFault.Disk (D.faults disk.old) (D.faults disk.new) result }
+{
+    every_image_reopens::<D>();
+    frames_are_of_the_state::<D>();
+    a_new_column_is_sound();
+    an_event_may_draw();
+    let text = match column_added_text(alloc) {
+        Ok(text) => text,
+        Err(AllocError) => return Err(StoreFault::Memory),
+    };
+    on_disk(
+        printed(text),
+        store.add_column(alloc, place, &add.column, default, disk),
     )
 }
 

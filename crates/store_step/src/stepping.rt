@@ -26,7 +26,7 @@ use crate::loading::copy;
 use crate::marking::set_mark;
 use crate::moving::{moveout, step_mover};
 use crate::reading::{Reading, is_served, read_statement};
-use crate::shaping::{create_projection, drop_projection};
+use crate::shaping::{add_column, create_projection, drop_projection};
 use col_disk::{Disk, StoreFault};
 use col_io::Files;
 use folder_model::{every_image_reopens, last_good_is_reached};
@@ -94,6 +94,9 @@ fn perform<D: Disk>(
         }
         (Statement::DropProjection(name), Plan::DropProjection(table, place)) => {
             drop_projection(alloc, store, name.as_slice(), table, place, disk)
+        }
+        (Statement::AddColumn(add), Plan::AddColumn(place, default)) => {
+            add_column(alloc, store, &add, place, &default, disk)
         }
         (Statement::Insert(insert), Plan::Insert(rows)) => {
             in_memory(insert_rows::<D>(alloc, store, &insert, rows))

@@ -10,7 +10,9 @@ pub mod Readied
 pub mod Standing
 pub mod Moved
 pub mod Makes
+pub mod Installed
 pub mod Drawn
 pub mod Shaped
 pub mod Unshaped
 pub mod Unblamed
+pub mod Wider

@@ -49,19 +49,19 @@ change_put i y [] lt = absurd (omega (arith, lt))
 change_put zero y (x ∷ xs) lt = refl
 change_put {X} (suc i) y (x ∷ xs) lt = ap (λ (zs : List X). x ∷ zs) (change_put i y xs (omega (arith, lt)))
 
-map_changed : {X Y : Type 0} (g : X → Y) (i : ℕ) (f : X → X) (h : Y → Y) (xs : List X) (x : X) → i < length xs → x ≡ get_or xs i x → g (f x) ≡ h (g x) → map g (change_at i f xs) ≡ change_at i h (map g xs)
+pub map_changed : {X Y : Type 0} (g : X → Y) (i : ℕ) (f : X → X) (h : Y → Y) (xs : List X) (x : X) → i < length xs → x ≡ get_or xs i x → g (f x) ≡ h (g x) → map g (change_at i f xs) ≡ change_at i h (map g xs)
 map_changed g i f h [] x lt is one = absurd (omega (arith, lt))
 map_changed {X} {Y} g zero f h (y ∷ xs) x lt is one = ap (λ (z : Y). z ∷ map g xs) (ap (λ (w : X). g (f w)) (sym is) ∙ one ∙ ap (λ (w : X). h (g w)) is)
 map_changed {X} {Y} g (suc i) f h (y ∷ xs) x lt is one = ap (λ (zs : List Y). g y ∷ zs) (map_changed g i f h xs x (omega (arith, lt)) is one)
 
-all_changed : {X : Type 0} (P : X → Type 0) (i : ℕ) (y : X) (xs : List X) → P y → All P xs → All P (change_at i (λ x. y) xs)
+pub all_changed : {X : Type 0} (P : X → Type 0) (i : ℕ) (y : X) (xs : List X) → P y → All P xs → All P (change_at i (λ x. y) xs)
 all_changed P i y [] one all = All-nil P
 all_changed P zero y (x ∷ xs) one all = All-cons P y xs one (All-tail P x xs all)
 all_changed P (suc i) y (x ∷ xs) one all = All-cons P x (change_at i (λ x. y) xs) (All-head P x xs all) (all_changed P i y xs one (All-tail P x xs all))
 
 -- ---- the projection
 
-nothing_later : (lge : ℕ) (m : Contents) (ks : List Container) (bs : List Beside) → AllZip (IsUnmarked m) ks bs → All (λ b. AreLater lge b.fresh) bs
+pub nothing_later : (lge : ℕ) (m : Contents) (ks : List Container) (bs : List Beside) → AllZip (IsUnmarked m) ks bs → All (λ b. AreLater lge b.fresh) bs
 nothing_later lge m [] [] all = All-nil (λ b. AreLater lge b.fresh)
 nothing_later lge m [] (b ∷ bs) all = absurd all
 nothing_later lge m (k ∷ ks) [] all = absurd all

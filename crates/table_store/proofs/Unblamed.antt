@@ -81,7 +81,7 @@ rows_unblamed m holds p rows (fault.Damaged q) told (saved, stores, all) blames 
     none_of (HasRowsIn m (written_of p.entry)) (λ k. BlamesContainer (written_of p.entry) k holds (fault.Damaged q)) p.entry.containers
     (λ k has blamed. blamed_holds_none (written_of p.entry) k holds (fault.Damaged q) blamed m told has.0 has.1) (stored_held m (written_of p.entry) p.entry.containers p.beside saved stores) blames
 
-load_unblamed : (m : Contents) (holds : Option Contents) (p : Projection) (rows : List Stamped) (f : StoreFault) → holds ≡ Some m → Holds m p rows → BlamesLoad p.containers holds f → IsUnblamed f
+pub load_unblamed : (m : Contents) (holds : Option Contents) (p : Projection) (rows : List Stamped) (f : StoreFault) → holds ≡ Some m → Holds m p rows → BlamesLoad p.containers holds f → IsUnblamed f
 load_unblamed m holds p rows fault.Disk told held blames = tt
 load_unblamed m holds p rows fault.Memory told held blames = tt
 load_unblamed m holds p rows (fault.Damaged q) told held blames =

@@ -3,6 +3,8 @@ pub mod Creating
 pub mod Changing
 pub mod Committing
 pub mod Moving
+pub mod Installing
 pub mod Drawing
 pub mod Shaping
 pub mod Faults
+pub mod Widening

@@ -15,6 +15,7 @@ mod part;
 mod parts;
 mod shaping;
 mod store;
+mod widening;
 
 pub use moving::entry_copy;
 pub use parts::Parts;

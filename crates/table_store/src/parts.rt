@@ -13,6 +13,8 @@ ghost use Rattle.table_store.specs.Changing.{all_applied, all_coming, is_at, wit
 ghost use Rattle.col_disk.specs.Faults.{IsUnblamed};
 ghost use Rattle.table_store.specs.Faults.{IsReadable};
 
+mod columns;
+
 use crate::part::{ReadyPart, apply_part, can_take, prepare_part, with_coming};
 use catalog_types::Projection;
 use col_disk::{Disk, StoreFault};

@@ -39,6 +39,8 @@ use store_commit::settle;
 use stored_rows::what_is_read_is_stored;
 use txn_core::Session;
 
+mod columns;
+mod installing;
 mod projections;
 
 // The last epoch that can be closed.

@@ -1,6 +1,6 @@
 //! The changes of one session.
 
-ghost use Rattle.std.specs.Prelude.{◌≡◌, [], filter, IfOk, IfSome, IfNone, OnOk, OnErr};
+ghost use Rattle.std.specs.Prelude.{◌≡◌, [], filter, is_some, IfOk, IfSome, IfNone, OnOk, OnErr};
 ghost use Rattle.std.specs.List.{All};
 ghost use Rattle.std.specs.Option.{option_copied};
 ghost use Rattle.col_value.specs.Order.{IsRow};
@@ -97,6 +97,13 @@ impl Session {
             Some(place) => Some(&self.changes[place]),
             None => None,
         }
+    }
+
+    /// Whether it holds the table, in some mode.
+    pub fn holds(&self, table: &[u8]) -> bool
+        ensures { result ≡ is_some (changes_on table.now self.now) }
+    {
+        self.on(table).is_some()
     }
 
     /// Whether it keeps another session from a table that is wanted in mode X, or in mode I.

@@ -5,7 +5,7 @@ ghost use Rattle.std.specs.List.{All, slice_index_or};
 ghost use Rattle.col_value.specs.Order.{IsRow};
 ghost use Rattle.db_model.specs.State.{idle_sessions, with_rows};
 ghost use Rattle.db_model.specs.Events.{change_of, is_not_named};
-ghost use Rattle.txn_core.specs.Marking.{marked, holder};
+ghost use Rattle.txn_core.specs.Marking.{marked, excluder, holder};
 
 use crate::session::Session;
 use col_value::{Asked, Row};
@@ -55,11 +55,24 @@ impl Txns {
 
     /// The least other session that keeps this one from a table that it wants in mode X, or in mode I. It takes no memory.
     pub fn conflict(&self, session: usize, table: &[u8], want: bool) -> Option<usize>
-        ensures holder { result ≡ holder self.now session table.now want }
+        ensures holder { result ≡ excluder self.now session table.now want }
         ensures session { IfSome result (λ h. (1 ≤ h) × (h ≤ 8)) }
     {
         for (place, other) in self.sessions.as_slice().iter().enumerate() {
             if place + 1 != session && other.excludes(table, want) {
+                return Some(place + 1);
+            }
+        }
+        None
+    }
+
+    /// The least session that holds a table in some mode. It takes no memory.
+    pub fn holder(&self, table: &[u8]) -> Option<usize>
+        ensures holder { result ≡ holder self.now table.now }
+        ensures session { IfSome result (λ h. (1 ≤ h) × (h ≤ 8)) }
+    {
+        for (place, session) in self.sessions.as_slice().iter().enumerate() {
+            if session.holds(table) {
                 return Some(place + 1);
             }
         }

@@ -1,8 +1,9 @@
 -- Rows in memory, and which of them are deleted.
-use Rattle.std.specs.Prelude.{ℕ, ◌≡◌, ◌==◌, ◌+◌, if◌then◌else◌, Bool, List, [], ◌∷◌, map, IsSomeAnd, Option, Some, None}
+use Rattle.std.specs.Prelude.{ℕ, ◌≡◌, ◌==◌, ◌+◌, ◌++◌, if◌then◌else◌, Bool, List, [], ◌∷◌, map, IsSomeAnd, Option, Some, None}
 use Rattle.std.specs.List.{All, slice_get, list_any}
 use Rattle.col_value.specs.declared.row.Asked.{Asked}
 use Rattle.col_value.specs.declared.row.Stamped.{Stamped}
+use Rattle.col_value.specs.declared.value.Value.{Value}
 use Rattle.col_value.specs.Order.{IsRow}
 use Rattle.write_store.specs.declared.held.Held.{Held}
 
@@ -39,3 +40,11 @@ deleted_from i epoch places (s ∷ rows) = (if is_in i places then record s { de
 
 abbrev pub deleted_at : ℕ → List ℕ → List Stamped → List Stamped
 deleted_at epoch places rows = deleted_from 0 epoch places rows
+
+-- a row with one value more, at its end
+abbrev pub with_value : Value → Stamped → Stamped
+with_value v s = record s { row = s.row ++ v ∷ [] }
+
+-- and so a row in memory
+abbrev pub wider : Value → Held → Held
+wider v h = record h { inserted = record (h.inserted) { row = h.inserted.row ++ v ∷ [] } }

@@ -1,12 +1,24 @@
-ghost use Rattle.std.specs.Prelude.{◌≡◌, IfOk};
+ghost use Rattle.std.specs.Prelude.{◌≡◌, ◌++◌, [], ◌∷◌, IfOk};
 ghost use Rattle.std.specs.Cmp.{partial_equiv_from_equiv, eq_by_cmp_equiv};
 ghost use Rattle.std.specs.Ordering.{eq_by_cmp};
-ghost use Rattle.write_store.specs.Memory.{stamp, held_of};
+ghost use Rattle.write_store.specs.Memory.{stamp, held_of, wider};
 ghost use Rattle.write_store.specs.Order.{inserted_cmp, inserted_fed, inserted_fed_alike, inserted_total};
 
-use col_value::{Asked, Row, Stamped};
+use col_value::{Asked, Row, Stamped, Value};
 use std::alloc::{AllocError, Global};
 use std::hash::{Hash, Hasher};
+
+/// The row with one value more, at its end.
+fn row_with(alloc: Global, row: &Row, last: &Value) -> Result<Row, AllocError>
+    ensures { IfOk result (λ r. r ≡ row.now ++ last.now ∷ []) }
+{
+    let mut values = Vec::with_capacity(alloc, row.as_slice().len().saturating_add(1))?;
+    for value in row.as_slice() {
+        values.push(value.copy(alloc)?)?;
+    }
+    values.push(last.copy(alloc)?)?;
+    Ok(Row::new(values))
+}
 
 /// A row and the epoch that inserted it.
 #[derive(Debug, Drop)]
@@ -78,6 +90,19 @@ impl Held {
         Ok(Stamped {
             row: self.inserted.row.copy(alloc)?,
             ins: self.inserted.ins,
+            del: self.del,
+        })
+    }
+
+    /// The row with one value more, and its epochs.
+    pub fn copy_with(&self, alloc: Global, last: &Value) -> Result<Held, AllocError>
+        ensures { IfOk result (λ h. h ≡ wider last.now self.now) }
+    {
+        Ok(Held {
+            inserted: Inserted {
+                ins: self.inserted.ins,
+                row: row_with(alloc, &self.inserted.row, last)?,
+            },
             del: self.del,
         })
     }

@@ -2,10 +2,10 @@
 
 ghost use Rattle.std.specs.Prelude.{◌≡◌, ◌≤◌, ◌<◌, [], ◌∷◌, map, length, filter, nat_le, nat_lt, IfOk, vec_len, vec_capacity};
 ghost use Rattle.std.specs.List.{All};
-ghost use Rattle.write_store.specs.Memory.{stamp, AreHeldRows, deleted_at};
+ghost use Rattle.write_store.specs.Memory.{stamp, AreHeldRows, deleted_at, wider};
 
 use crate::held::Held;
-use col_value::Stamped;
+use col_value::{Stamped, Value};
 use std::alloc::{AllocError, Global};
 
 /// The row at a place is deleted by an epoch.
@@ -49,6 +49,17 @@ pub fn copies_upto(alloc: Global, rows: &[Held], epoch: u64) -> Result<Vec<Stamp
         if row.inserted.ins <= epoch {
             taken.push(row.copy(alloc)?)?;
         }
+    }
+    Ok(taken)
+}
+
+/// Copies of the rows with one value more each.
+pub fn copies_with(alloc: Global, rows: &[Held], last: &Value) -> Result<Vec<Held>, AllocError>
+    ensures { IfOk result (λ v. v.items ≡ map (wider last.now) rows.now) }
+{
+    let mut taken = Vec::with_capacity(alloc, rows.len())?;
+    for row in rows {
+        taken.push(row.copy_with(alloc, last)?)?;
     }
     Ok(taken)
 }

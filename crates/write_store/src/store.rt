@@ -2,13 +2,13 @@
 
 ghost use Rattle.std.specs.Prelude.{◌≡◌, ◌≤◌, ◌<◌, ◌-◌, ◌++◌, [], ◌∷◌, map, length, filter, nat_le, nat_lt, IfOk, OnOk};
 ghost use Rattle.std.specs.List.{All};
-ghost use Rattle.col_value.specs.Order.{IsRow};
+ghost use Rattle.col_value.specs.Order.{IsRow, IsValue};
 ghost use Rattle.row_history.specs.History.{inserted_at};
-ghost use Rattle.write_store.specs.Memory.{stamp, AreHeldRows, IsLive, deleted_at};
+ghost use Rattle.write_store.specs.Memory.{stamp, AreHeldRows, IsLive, deleted_at, with_value};
 
 use crate::held::{Held, Inserted};
-use crate::rows::{copies_upto, delete, delete_each, keep_after};
-use col_value::{Row, Stamped};
+use crate::rows::{copies_upto, copies_with, delete, delete_each, keep_after};
+use col_value::{Row, Stamped, Value};
 use std::alloc::{AllocError, Global};
 use std::marker::Model;
 
@@ -112,5 +112,14 @@ impl WriteStore {
         ensures { IfOk result (λ v. v.items ≡ filter (λ s. nat_le s.ins epoch) self.now.rows) }
     {
         copies_upto(alloc, self.rows.as_slice(), epoch)
+    }
+
+    /// The rows with one value more each, in a store that can take the place of this one.
+    pub fn with_value(&self, alloc: Global, last: &Value) -> Result<WriteStore, AllocError>
+        requires { IsValue last.now }
+        ensures { IfOk result (λ w. w.rows ≡ map (with_value last.now) self.now.rows) }
+    {
+        let rows = copies_with(alloc, self.rows.as_slice(), last)?;
+        Ok(WriteStore { rows })
     }
 }

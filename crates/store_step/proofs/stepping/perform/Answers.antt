@@ -35,6 +35,12 @@ returns-in-DropProjection-DropProjection-clause-answers g c = λ files state her
     let is : c.args.statement ≡ s = search rules in
     same_answers g.D.Disk files c.args.statement s c.drop_projection.new.store c.drop_projection.result state is (c.drop_projection.ensures.answers files state here)
 
+pub returns-in-AddColumn-AddColumn-clause-answers : goal.returns-in-AddColumn-AddColumn-clause-answers
+returns-in-AddColumn-AddColumn-clause-answers g c = λ files state here.
+    let s = Statement.AddColumn c.in-AddColumn-AddColumn.add in
+    let is : c.args.statement ≡ s = search rules in
+    same_answers g.D.Disk files c.args.statement s c.add_column.new.store c.add_column.result state is (c.add_column.ensures.answers files state here)
+
 pub returns-in-Insert-Insert-clause-answers : goal.returns-in-Insert-Insert-clause-answers
 returns-in-Insert-Insert-clause-answers g c = λ files state here.
     let s = Statement.Insert c.in-Insert-Insert.insert in

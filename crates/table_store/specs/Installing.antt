@@ -1,0 +1,26 @@
+-- A projection that gets another entry.
+use Rattle.std.specs.Prelude.{ℕ, ◌≡◌, true, List, IsSomeAnd}
+use Rattle.std.specs.List.{slice_get}
+use Rattle.common_laws.specs.Maps.{Contents}
+use Rattle.col_value.specs.declared.row.Stamped.{Stamped}
+use Rattle.catalog_types.specs.declared.catalogue.Container.{Container}
+use Rattle.catalog_types.specs.declared.catalogue.Projection.{Projection}
+use Rattle.db_model.specs.Database.{Database}
+use Rattle.stored_rows.specs.Held.{Holds}
+use Rattle.stored_rows.specs.Stored.{Projected}
+use Rattle.folder_model.specs.Projections.{IsHistoryOf}
+
+-- the entry with other containers, up to date with all its rows on disk up to an epoch
+abbrev pub renewed_to : ℕ → ℕ → List Container → Projection → Projection
+renewed_to epoch born containers old = record old { fresh = true; lge = epoch; born = born; containers = containers }
+
+-- an entry is one of the same projection, and up to date
+abbrev pub IsRenewal : Projection → Projection → Type 0
+IsRenewal old new = new ≡ renewed_to new.lge new.born new.containers old
+
+abbrev pub IsRenewalAt : List (List Projected) → ℕ → ℕ → Projection → Type 0
+IsRenewalAt stores i j entry = IsSomeAnd (slice_get stores i) (λ ps. IsSomeAnd (slice_get ps j) (λ p. IsRenewal p.entry entry))
+
+-- the files of an entry hold, from the ancient history mark on, the rows of the table at a place with its columns
+abbrev pub HoldsTable : Contents → ℕ → Projection → Database → Type 0
+HoldsTable m i entry d = IsSomeAnd (slice_get d.tables i) (λ u. (held : List Stamped) × Holds m entry held × IsHistoryOf d.ahm entry held u.rows)
