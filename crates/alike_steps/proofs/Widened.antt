@@ -34,7 +34,8 @@ added_by c columns held spent =
     (first_of (option_and_then (λ cs. column_limit (length cs, c.column)) columns)
     (first_of (option_map Refusal.Locked held) (first_of (default_refusal c) (refused_where spent Refusal.NumbersSpent))))
 
-pub add_same : (a b : State) → AreAlikeStates a b → (c : AddColumn) → are_spent a ≡ are_spent b → column_added_refusal a c ≡ column_added_refusal b c
+pub add_same : (a b : State) → AreAlikeStates a b → (c : AddColumn) → are_spent a ≡ are_spent b
+    → column_added_refusal a c ≡ column_added_refusal b c
 add_same a b alike c spent =
     ap₂ (λ (cs : Option (List Column)) (held : Option ℕ). added_by c cs held (are_spent a)) (columns_same a.database.ahm c.table a.database.tables b.database.tables alike.database.tables)
     (holder_alike a b c.table alike.sessions)
@@ -44,9 +45,11 @@ add_same a b alike c spent =
 
 -- a projection of a table with these columns, where the table has one more
 abbrev column_in : List Column → Shape → Shape
-column_in columns s = if has_columns s (map (λ e. e.0) (enumerate_from 0 columns)) then record s { columns = s.columns ++ (length columns, Encoding.Auto) ∷ [] } else s
+column_in columns s =
+    if has_columns s (map (λ e. e.0) (enumerate_from 0 columns)) then record s { columns = s.columns ++ (length columns, Encoding.Auto) ∷ [] } else s
 
-retained_wide : (mark : ℕ) (v : Value) (rows : List Stamped) → retained mark (map (with_value v) rows) ≡ map (with_value v) (retained mark rows)
+retained_wide : (mark : ℕ) (v : Value) (rows : List Stamped)
+    → retained mark (map (with_value v) rows) ≡ map (with_value v) (retained mark rows)
 retained_wide mark v [] = refl
 retained_wide mark v (s ∷ rows) = by (is_retained mark s) (retained_wide mark v rows)
   where

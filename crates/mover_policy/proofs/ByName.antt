@@ -1,14 +1,16 @@
--- A moveout of the projection at a place is that of the projection of its name.
-use Rattle.std.proofs.Common.{◌≡◌, ℕ, zero, suc, ◌++◌, Bool, true, cond, List, [], ◌∷◌, map, refl, sym, ap, ap₂, subst}
-use Rattle.std.specs.Prelude.{bytes_eq, Some, IsSomeAnd}
+-- A job on the projection at a place is one on the projection of its name.
+use Rattle.std.proofs.Common.{◌≡◌, ℕ, zero, suc, ◌≤◌, ◌++◌, Bool, true, cond, List, [], ◌∷◌, map, refl, sym, ap, ap₂, subst}
+use Rattle.std.specs.Prelude.{bytes_eq, Contains, Option, Some, None, IsSomeAnd}
 use Rattle.std.specs.List.{All, AllPairs, slice_get}
 use Rattle.std.proofs.lemmas.List.Concat.{flat_map-cons}
-use Rattle.std.proofs.lemmas.List.Elements.{All-head, All-tail}
+use Rattle.std.proofs.lemmas.List.Elements.{All-contains_itself, All-head, All-tail}
 use Rattle.std.proofs.lemmas.Slice.Eq.{bytes_eq-Decides}
 use Rattle.db_model.specs.Database.{Shape, Table, Database}
-use Rattle.db_model.specs.Mover.{change_shape, change_shape_of, with_change, reached_to}
+use Rattle.db_model.specs.Epochs.{all_shapes}
+use Rattle.db_model.specs.Mover.{change_shape, change_shape_of, with_change, reached_to, Rises}
 use Rattle.db_model.specs.Sound.{names_of, all_names, IsSoundDatabase}
-use Rattle.sound_laws.specs.Moves.{change_at, moved_at}
+use Rattle.db_laws.proofs.Goods.{shapes_apart}
+use Rattle.sound_laws.specs.Moves.{change_at, moved_at, reached_at}
 use Rattle.sound_laws.proofs.Pairs.{pairs_head, pairs_tail, pairs_front, pairs_back, pairs_across, all_front, all_back}
 use Rattle.sound_laws.proofs.Created.{Differ, differ_turned}
 
@@ -95,5 +97,39 @@ tables_moved f (t ∷ ts) (suc i) j s pairs there =
     ap₂ (λ (ss : List Shape) (us : List Table). (record t { shapes = ss }) ∷ us) (others_still s.name f t.shapes (name_behind t ts i j s pairs there))
     (tables_moved f ts i j s (pairs_back Differ (names_of t) (all_names ts) (subst (AllPairs Differ) (flat_map-cons names_of t ts) pairs)) there)
 
+pub reached_by_name : (d : Database) (epoch i j : ℕ) (s : Shape) → IsSoundDatabase d → IsSomeAnd (slice_get d.tables i) (λ t. slice_get t.shapes j ≡ Some s)
+    → reached_at epoch i j d ≡ with_change s.name (reached_to epoch) d
+reached_by_name d epoch i j s sound there =
+    ap (λ (ts : List Table). record d { tables = ts }) (sym (tables_moved (reached_to epoch) d.tables i j s sound.names there))
+
 pub moved_by_name : (d : Database) (i j : ℕ) (s : Shape) → IsSoundDatabase d → IsSomeAnd (slice_get d.tables i) (λ t. slice_get t.shapes j ≡ Some s) → moved_at i j d ≡ with_change s.name (reached_to d.last) d
-moved_by_name d i j s sound there = ap (λ (ts : List Table). record d { tables = ts }) (sym (tables_moved (reached_to d.last) d.tables i j s sound.names there))
+moved_by_name d i j s sound there = reached_by_name d d.last i j s sound there
+
+-- ---- a rise
+
+all_at : {X : Type 0} (P : X → Type 0) (xs : List X) (i : ℕ) (x : X) → All P xs → slice_get xs i ≡ Some x → P x
+all_at P [] i x all none = absurd (cc)
+all_at P (y ∷ xs) zero x all is = let same : y ≡ x = cc in subst P same (All-head P y xs all)
+all_at P (y ∷ xs) (suc i) x all is = all_at P xs i x (All-tail P y xs all) is
+
+shape_there : (ts : List Table) (i j : ℕ) (s : Shape) → IsSomeAnd (slice_get ts i) (λ t. slice_get t.shapes j ≡ Some s) → Contains (all_shapes ts) s
+shape_there ts i j s there = by (slice_get ts i) refl there
+  where
+    among : All (λ t. All (Contains (all_shapes ts)) t.shapes) ts
+    among = shapes_apart (Contains (all_shapes ts)) ts (All-contains_itself (all_shapes ts))
+
+    by : (o : Option Table) → slice_get ts i ≡ o → IsSomeAnd o (λ t. slice_get t.shapes j ≡ Some s) → Contains (all_shapes ts) s
+    by None at none = absurd none
+    by (Some t) at is = all_at (Contains (all_shapes ts)) t.shapes j s (all_at (λ u. All (Contains (all_shapes ts)) u.shapes) ts i t among at) is
+
+pub rises_by_name : (d : Database) (epoch i j : ℕ) (s : Shape) → IsSoundDatabase d → IsSomeAnd (slice_get d.tables i) (λ t. slice_get t.shapes j ≡ Some s)
+    → s.fresh ≡ true → s.lge ≤ epoch → epoch ≤ d.last → Rises d (reached_at epoch i j d)
+rises_by_name d epoch i j s sound there fresh from to = record {
+  shape = s;
+  epoch = epoch;
+  there = shape_there d.tables i j s there;
+  fresh = fresh;
+  from = from;
+  to = to;
+  same = reached_by_name d epoch i j s sound there;
+}

@@ -1,11 +1,12 @@
 //! Which projection the tuple mover moves out of memory, and that this is what the mover of db_model chooses.
 //!
 //! `first_behind` looks at a catalogue's projections and takes no memory: it finds the one that `first_behind` of db_model's
-//! `specs/Mover.antt` says, since a database has behind what its catalogue has (`a_catalogue_has_what_is_behind`). `moveouts_go_by_names` says that the moveout of a place is that of the projection's name.
+//! `specs/Mover.antt` says, since a database has behind what its catalogue has (`a_catalogue_has_what_is_behind`).
+//! `moveouts_go_by_names` says that the moveout of a place is that of the projection's name, and `jobs_go_by_names` says it of each job.
 #![tactic(auto)]
 
 mod first;
 mod laws;
 
 pub use first::{Place, first_behind, projection_at};
-pub use laws::{a_catalogue_has_what_is_behind, moveouts_go_by_names};
+pub use laws::{a_catalogue_has_what_is_behind, jobs_go_by_names, moveouts_go_by_names};

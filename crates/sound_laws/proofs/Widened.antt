@@ -45,13 +45,15 @@ tables_named name c v (t ∷ ts) = by (bytes_eq t.name name) (tables_named name 
 
 -- ---- rows
 
-values_join : (columns : List Column) (row : List Value) (c : Column) (v : Value) → AllZip ValueFits columns row → ValueFits c v → AllZip ValueFits (columns ++ c ∷ []) (row ++ v ∷ [])
+values_join : (columns : List Column) (row : List Value) (c : Column) (v : Value) → AllZip ValueFits columns row → ValueFits c v
+    → AllZip ValueFits (columns ++ c ∷ []) (row ++ v ∷ [])
 values_join [] [] c v all fits = (fits, tt)
 values_join [] (w ∷ row) c v all fits = absurd all
 values_join (b ∷ columns) [] c v all fits = absurd all
 values_join (b ∷ columns) (w ∷ row) c v (here, rest) fits = (here, values_join columns row c v rest fits)
 
-row_fits : (columns : List Column) (row : List Value) (c : Column) (v : Value) → ValueFits c v → IsValue v → RowFits columns row → RowFits (columns ++ c ∷ []) (row ++ v ∷ [])
+row_fits : (columns : List Column) (row : List Value) (c : Column) (v : Value) → ValueFits c v → IsValue v → RowFits columns row
+    → RowFits (columns ++ c ∷ []) (row ++ v ∷ [])
 row_fits columns row c v fits is sound = record {
   values = All-append IsValue row (v ∷ []) sound.values (All-cons IsValue v [] is (All-nil IsValue));
   each = values_join columns row c v sound.each fits;
@@ -77,7 +79,8 @@ shape_sound d t s sound = by (has_columns s (ordinals t))
     by false = sound
 
 -- the places of a table with one column more
-ordinals_join : (n : ℕ) (columns : List Column) (c : Column) → map {B = ℕ} (λ e. e.0) (enumerate_from n (columns ++ c ∷ [])) ≡ map {B = ℕ} (λ e. e.0) (enumerate_from n columns) ++ (n + length columns) ∷ []
+ordinals_join : (n : ℕ) (columns : List Column) (c : Column)
+    → map {B = ℕ} (λ e. e.0) (enumerate_from n (columns ++ c ∷ [])) ≡ map {B = ℕ} (λ e. e.0) (enumerate_from n columns) ++ (n + length columns) ∷ []
 ordinals_join n [] c = ap (λ (m : ℕ). m ∷ []) (omega arith)
 ordinals_join n (b ∷ columns) c =
     let place : n + 1 + length columns ≡ n + length (b ∷ columns) = omega arith in
@@ -92,7 +95,8 @@ and_parts true b is = (refl, is)
 and_parts false b is = absurd (cc)
 
 -- a projection with one column more has what it had
-has_still : (columns more : List (ℕ × Encoding)) (used : List ℕ) → list_all (λ i. list_any (λ c. c.0 == i) columns) used ≡ true → list_all (λ i. list_any (λ c. c.0 == i) (columns ++ more)) used ≡ true
+has_still : (columns more : List (ℕ × Encoding)) (used : List ℕ) → list_all (λ i. list_any (λ c. c.0 == i) columns) used ≡ true
+    → list_all (λ i. list_any (λ c. c.0 == i) (columns ++ more)) used ≡ true
 has_still columns more [] is = refl
 has_still columns more (i ∷ used) is =
     let (here, rest) = and_parts (list_any (λ c. c.0 == i) columns) (list_all (λ j. list_any (λ c. c.0 == j) columns) used) is in
@@ -130,7 +134,8 @@ both_wider true b c e first more is = ap (λ (x : Bool). x || e) (first refl)
 both_wider false b true e first more is = refl
 both_wider false b false e first more is = more is
 
-super_stays : (t : Table) (c : Column) (v : Value) (ss : List Shape) → list_any (is_super t) ss ≡ true → list_any (is_super (widened c v t)) (map (with_column t) ss) ≡ true
+super_stays : (t : Table) (c : Column) (v : Value) (ss : List Shape) → list_any (is_super t) ss ≡ true
+    → list_any (is_super (widened c v t)) (map (with_column t) ss) ≡ true
 super_stays t c v [] is = is
 super_stays t c v (s ∷ ss) is =
     both_wider (is_super t s) (list_any (is_super t) ss) (is_super (widened c v t) (with_column t s)) (list_any (is_super (widened c v t)) (map (with_column t) ss))
@@ -138,7 +143,8 @@ super_stays t c v (s ∷ ss) is =
 
 -- ---- tables
 
-table_widened : (d : Database) (c : Column) (v : Value) (t : Table) → ValueFits c v → IsValue v → IsSoundTable d t → IsSoundTable d (widened c v t)
+table_widened : (d : Database) (c : Column) (v : Value) (t : Table) → ValueFits c v → IsValue v → IsSoundTable d t
+    → IsSoundTable d (widened c v t)
 table_widened d c v t fits is sound = record {
   rows =
       All-map (λ s. RowFits (t.columns ++ c ∷ []) s.row) (with_value v) t.rows
@@ -148,18 +154,22 @@ table_widened d c v t fits is sound = record {
   super = super_stays t c v t.shapes sound.super;
 }
 
-tables_widened : (d : Database) (name : List ℕ) (c : Column) (v : Value) (ts : List Table) → ValueFits c v → IsValue v → All (IsSoundTable d) ts → All (IsSoundTable d) (change_named name (widened c v) ts)
+tables_widened : (d : Database) (name : List ℕ) (c : Column) (v : Value) (ts : List Table) → ValueFits c v → IsValue v
+    → All (IsSoundTable d) ts → All (IsSoundTable d) (change_named name (widened c v) ts)
 tables_widened d name c v [] fits is all = all
-tables_widened d name c v (t ∷ ts) fits is all = by (bytes_eq t.name name) (tables_widened d name c v ts fits is (All-tail (IsSoundTable d) t ts all))
+tables_widened d name c v (t ∷ ts) fits is all =
+    by (bytes_eq t.name name) (tables_widened d name c v ts fits is (All-tail (IsSoundTable d) t ts all))
   where
     others : List Table
     others = change_named name (widened c v) ts
 
     by : (b : Bool) → All (IsSoundTable d) others → All (IsSoundTable d) (cond b (widened c v t ∷ ts) (t ∷ others))
-    by true rest = All-cons (IsSoundTable d) (widened c v t) ts (table_widened d c v t fits is (All-head (IsSoundTable d) t ts all)) (All-tail (IsSoundTable d) t ts all)
+    by true rest =
+        All-cons (IsSoundTable d) (widened c v t) ts (table_widened d c v t fits is (All-head (IsSoundTable d) t ts all)) (All-tail (IsSoundTable d) t ts all)
     by false rest = All-cons (IsSoundTable d) t others (All-head (IsSoundTable d) t ts all) rest
 
-pub widened_sound : (d : Database) (name : List ℕ) (c : Column) (v : Value) → ValueFits c v → IsValue v → IsSoundDatabase d → IsSoundDatabase (record d { tables = change_named name (widened c v) d.tables })
+pub widened_sound : (d : Database) (name : List ℕ) (c : Column) (v : Value) → ValueFits c v → IsValue v → IsSoundDatabase d
+    → IsSoundDatabase (record d { tables = change_named name (widened c v) d.tables })
 widened_sound d name c v fits is sound = record {
   names = subst (AllPairs Differ) (sym (tables_named name c v d.tables)) sound.names;
   tables =

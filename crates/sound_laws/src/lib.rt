@@ -6,4 +6,6 @@
 
 mod laws;
 
-pub use laws::{added_columns_are_sound, commits_are_sound, created_tables_are_sound, moveouts_are_sound};
+pub use laws::{
+    added_columns_are_sound, commits_are_sound, created_tables_are_sound, moveouts_are_sound,
+};

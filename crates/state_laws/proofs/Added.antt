@@ -37,7 +37,8 @@ not_some : {X : Type 0} (o : Option X) → is_some o ≡ false → o ≡ None
 not_some None is = refl
 not_some (Some x) is = absurd (cc)
 
-none_held : (state : State) (name : List ℕ) → holder state name ≡ None → All (λ changes. All (λ c. Differ c.table name) changes) state.sessions
+none_held : (state : State) (name : List ℕ) → holder state name ≡ None
+    → All (λ changes. All (λ c. Differ c.table name) changes) state.sessions
 none_held state name free i d lt =
     let holds : ℕ × List Changes → Bool = λ e. is_some (changes_on name e.1) in
     let none = mapped_none (λ (e : ℕ × List Changes). e.0) (find holds (enumerate_from 1 state.sessions)) free in
@@ -46,7 +47,8 @@ none_held state name free i d lt =
 
 -- so what sessions have changed in the others fits as before
 
-other_found : (n name : List ℕ) (f : Table → Table) (us : List Table) → ((t : Table) → (f t).name ≡ t.name) → Differ n name → table_named n (change_named name f us) ≡ table_named n us
+other_found : (n name : List ℕ) (f : Table → Table) (us : List Table) → ((t : Table) → (f t).name ≡ t.name) → Differ n name
+    → table_named n (change_named name f us) ≡ table_named n us
 other_found n name f [] keeps differ = refl
 other_found n name f (u ∷ us) keeps differ = by (bytes_eq u.name name) refl (other_found n name f us keeps differ)
   where
@@ -62,7 +64,8 @@ other_found n name f (u ∷ us) keeps differ = by (bytes_eq u.name name) refl (o
 abbrev pub wider : List ℕ → Column → Value → Database → Database
 wider name c v d = record d { tables = change_named name (widened c v) d.tables }
 
-changes_fit : (d : Database) (name : List ℕ) (column : Column) (v : Value) (c : Changes) → Differ c.table name → ChangesFit d c → ChangesFit (wider name column v d) c
+changes_fit : (d : Database) (name : List ℕ) (column : Column) (v : Value) (c : Changes) → Differ c.table name → ChangesFit d c
+    → ChangesFit (wider name column v d) c
 changes_fit d name column v c differ fit = record {
   table = fit.table;
   there = other_found c.table name (widened column v) d.tables (λ t. refl) differ ∙ fit.there;
@@ -71,7 +74,8 @@ changes_fit d name column v c differ fit = record {
   shared = fit.shared;
 }
 
-session_fits : (d : Database) (name : List ℕ) (column : Column) (v : Value) (changes : List Changes) → All (λ c. Differ c.table name) changes → IsSoundSession d changes → IsSoundSession (wider name column v d) changes
+session_fits : (d : Database) (name : List ℕ) (column : Column) (v : Value) (changes : List Changes)
+    → All (λ c. Differ c.table name) changes → IsSoundSession d changes → IsSoundSession (wider name column v d) changes
 session_fits d name column v changes apart sound = record {
   each = λ i x lt. changes_fit d name column v (get_or changes i x) (apart i x lt) (sound.each i x lt);
   once = sound.once;
@@ -96,7 +100,8 @@ has_widened c v name t has = record {
 
 -- ---- the state
 
-wider_state : (state : State) (name : List ℕ) (c : Column) (v : Value) → holder state name ≡ None → ValueFits c v → IsValue v → IsSound state → IsSound (record state { database = wider name c v state.database; busy = 0 })
+wider_state : (state : State) (name : List ℕ) (c : Column) (v : Value) → holder state name ≡ None → ValueFits c v → IsValue v
+    → IsSound state → IsSound (record state { database = wider name c v state.database; busy = 0 })
 wider_state state name c v free fits is sound = record {
   database = widened_sound d name c v fits is sound.database;
   eight = sound.eight;
@@ -138,12 +143,14 @@ of_column a (Some columns) is =
     let both = first_none (refused_where (has_column columns a.column.name) (Refusal.Exists a.column.name)) (refused_where (not (is_of_column (added_pair a))) Refusal.TypeMismatch) is in
     right (is_of_column (added_pair a)) (not_wrong (not (is_of_column (added_pair a))) Refusal.TypeMismatch both.1)
 
-not_such : (p : Column × Wide → Bool) (f : List ℕ → Refusal) (a : AddColumn) → option_map f (first_such p (added_pair a ∷ [])) ≡ None → p (added_pair a) ≡ false
+not_such : (p : Column × Wide → Bool) (f : List ℕ → Refusal) (a : AddColumn) → option_map f (first_such p (added_pair a ∷ [])) ≡ None
+    → p (added_pair a) ≡ false
 not_such p f a none =
     let ps : List (Column × Wide) = added_pair a ∷ [] in
     All-head (λ x. p x ≡ false) (added_pair a) [] (none_such p ps (mapped_none (λ (x : Column × Wide). x.0.name) (find p ps) (mapped_none f (first_such p ps) none)))
 
-added_over : (state : State) (a : AddColumn) (columns : Option (List Column)) → Accepted state a columns → IsSound state → IsSound (column_added a state)
+added_over : (state : State) (a : AddColumn) (columns : Option (List Column)) → Accepted state a columns → IsSound state
+    → IsSound (column_added a state)
 added_over state a columns accepted sound =
     let ps : List (Column × Wide) = added_pair a ∷ [] in
     let width = option_map Refusal.TextTooLong (first_such is_too_long ps) in

@@ -23,17 +23,22 @@ name_still : (epoch : ℕ) (s : Shape) (b : Bool) → (cond b (reached_to epoch 
 name_still epoch s true = refl
 name_still epoch s false = refl
 
-names_still : (name : List ℕ) (epoch : ℕ) (ss : List Shape) → map (λ s. s.name) (map (change_shape name (reached_to epoch)) ss) ≡ map (λ s. s.name) ss
+names_still : (name : List ℕ) (epoch : ℕ) (ss : List Shape)
+    → map (λ s. s.name) (map (change_shape name (reached_to epoch)) ss) ≡ map (λ s. s.name) ss
 names_still name epoch [] = refl
-names_still name epoch (s ∷ ss) = ap₂ (λ (n : List ℕ) (ns : List (List ℕ)). n ∷ ns) (name_still epoch s (bytes_eq s.name name)) (names_still name epoch ss)
+names_still name epoch (s ∷ ss) =
+    ap₂ (λ (n : List ℕ) (ns : List (List ℕ)). n ∷ ns) (name_still epoch s (bytes_eq s.name name)) (names_still name epoch ss)
 
-all_names_still : (name : List ℕ) (epoch : ℕ) (ts : List Table) → all_names (map (change_shape_of name (reached_to epoch)) ts) ≡ all_names ts
+pub all_names_still : (name : List ℕ) (epoch : ℕ) (ts : List Table)
+    → all_names (map (change_shape_of name (reached_to epoch)) ts) ≡ all_names ts
 all_names_still name epoch [] = refl
-all_names_still name epoch (t ∷ ts) = ap₂ (λ (ns ms : List (List ℕ)). (t.name ∷ ns) ++ ms) (names_still name epoch t.shapes) (all_names_still name epoch ts)
+all_names_still name epoch (t ∷ ts) =
+    ap₂ (λ (ns ms : List (List ℕ)). (t.name ∷ ns) ++ ms) (names_still name epoch t.shapes) (all_names_still name epoch ts)
 
 -- ---- the projections
 
-shape_reached : (d : Database) (name : List ℕ) (epoch : ℕ) (s : Shape) → d.ahm ≤ epoch → epoch ≤ d.last → IsSoundShape d s → IsSoundShape d (change_shape name (reached_to epoch) s)
+shape_reached : (d : Database) (name : List ℕ) (epoch : ℕ) (s : Shape) → d.ahm ≤ epoch → epoch ≤ d.last → IsSoundShape d s
+    → IsSoundShape d (change_shape name (reached_to epoch) s)
 shape_reached d name epoch s mark closed sound = by (bytes_eq s.name name)
   where
     by : (b : Bool) → IsSoundShape d (cond b (reached_to epoch s) s)
@@ -53,7 +58,8 @@ super_one : (t : Table) (epoch : ℕ) (s : Shape) (b : Bool) → is_super t s �
 super_one t epoch s true is = fresh_more s.fresh (has_columns s (ordinals t)) is
 super_one t epoch s false is = is
 
-super_still : (t : Table) (name : List ℕ) (epoch : ℕ) (ss : List Shape) → list_any (is_super t) ss ≡ true → list_any (is_super t) (map (change_shape name (reached_to epoch)) ss) ≡ true
+super_still : (t : Table) (name : List ℕ) (epoch : ℕ) (ss : List Shape) → list_any (is_super t) ss ≡ true
+    → list_any (is_super t) (map (change_shape name (reached_to epoch)) ss) ≡ true
 super_still t name epoch [] is = is
 super_still t name epoch (s ∷ ss) is =
     both_wider (is_super t s) (list_any (is_super t) ss) (is_super t (change_shape name (reached_to epoch) s)) (list_any (is_super t) (map (change_shape name (reached_to epoch)) ss))
@@ -61,7 +67,8 @@ super_still t name epoch (s ∷ ss) is =
 
 -- ---- the tables and the database
 
-table_reached : (d : Database) (name : List ℕ) (epoch : ℕ) (t : Table) → d.ahm ≤ epoch → epoch ≤ d.last → IsSoundTable d t → IsSoundTable d (change_shape_of name (reached_to epoch) t)
+table_reached : (d : Database) (name : List ℕ) (epoch : ℕ) (t : Table) → d.ahm ≤ epoch → epoch ≤ d.last → IsSoundTable d t
+    → IsSoundTable d (change_shape_of name (reached_to epoch) t)
 table_reached d name epoch t mark closed sound = record {
   rows = sound.rows;
   epochs = sound.epochs;
@@ -70,7 +77,8 @@ table_reached d name epoch t mark closed sound = record {
   super = super_still t name epoch t.shapes sound.super;
 }
 
-pub reached_sound : (d : Database) (name : List ℕ) (epoch : ℕ) → d.ahm ≤ epoch → epoch ≤ d.last → IsSoundDatabase d → IsSoundDatabase (with_change name (reached_to epoch) d)
+pub reached_sound : (d : Database) (name : List ℕ) (epoch : ℕ) → d.ahm ≤ epoch → epoch ≤ d.last → IsSoundDatabase d
+    → IsSoundDatabase (with_change name (reached_to epoch) d)
 reached_sound d name epoch mark closed sound = record {
   names = subst (AllPairs (λ m n. bytes_eq m n ≡ false)) (sym (all_names_still name epoch d.tables)) sound.names;
   tables = All-map (IsSoundTable after) (change_shape_of name (reached_to epoch)) d.tables
@@ -84,7 +92,8 @@ reached_sound d name epoch mark closed sound = record {
 
 -- ---- the state
 
-changes_fit : (d : Database) (name : List ℕ) (epoch : ℕ) (c : Changes) → ChangesFit d c → ChangesFit (with_change name (reached_to epoch) d) c
+changes_fit : (d : Database) (name : List ℕ) (epoch : ℕ) (c : Changes) → ChangesFit d c
+    → ChangesFit (with_change name (reached_to epoch) d) c
 changes_fit d name epoch c fit = record {
   table = change_shape_of name (reached_to epoch) fit.table;
   there = map_named (change_shape_of name (reached_to epoch)) c.table d.tables (λ t. refl) ∙ ap (option_map (change_shape_of name (reached_to epoch))) fit.there;
@@ -93,14 +102,17 @@ changes_fit d name epoch c fit = record {
   shared = fit.shared;
 }
 
-pub reached_state : (state : State) (name : List ℕ) (epoch : ℕ) → All (IsStale (with_change name (reached_to epoch) state.database)) state.asked → state.database.ahm ≤ epoch → epoch ≤ state.database.last → IsSound state
+pub reached_state : (state : State) (name : List ℕ) (epoch : ℕ)
+    → All (IsStale (with_change name (reached_to epoch) state.database)) state.asked → state.database.ahm ≤ epoch
+    → epoch ≤ state.database.last → IsSound state
     → IsSound (record state { database = with_change name (reached_to epoch) state.database })
 reached_state state name epoch asked mark closed sound =
     database_sound state (with_change name (reached_to epoch) state.database) asked (changes_fit state.database name epoch) (reached_sound state.database name epoch mark closed sound.database) sound
 
 -- ---- the epoch up to which an up-to-date projection is on disk rises
 
-fresh_reached : (state : State) (s : Shape) (epoch : ℕ) → Contains (all_shapes state.database.tables) s → s.fresh ≡ true → state.database.ahm ≤ epoch → epoch ≤ state.database.last → IsSound state
+fresh_reached : (state : State) (s : Shape) (epoch : ℕ) → Contains (all_shapes state.database.tables) s → s.fresh ≡ true
+    → state.database.ahm ≤ epoch → epoch ≤ state.database.last → IsSound state
     → IsSound (record state { database = with_change s.name (reached_to epoch) state.database })
 fresh_reached state s epoch there fresh mark closed sound =
     let d = state.database in
@@ -109,10 +121,12 @@ fresh_reached state s epoch there fresh mark closed sound =
     (All-weaker (IsStale d) (IsStale after) (λ n is. stale_other d n s.name (reached_to epoch) (fresh_differs d s n sound.database there fresh is) is) state.asked sound.asked) mark closed sound
 
 all_sound : (d : Database) (ts : List Table) → All (IsSoundTable d) ts → All (IsSoundShape d) (all_shapes ts)
-all_sound d ts all = shapes_joined (IsSoundShape d) ts (All-weaker (IsSoundTable d) (λ t. All (IsSoundShape d) t.shapes) (λ t is. is.shapes) ts all)
+all_sound d ts all =
+    shapes_joined (IsSoundShape d) ts (All-weaker (IsSoundTable d) (λ t. All (IsSoundShape d) t.shapes) (λ t is. is.shapes) ts all)
 
 pub risen_state : (state : State) (d : Database) → Rises state.database d → IsSound state → IsSound (record state { database = d })
-risen_state state d rises sound = subst with_database (sym rises.same) (fresh_reached state rises.shape rises.epoch rises.there rises.fresh reaches rises.to sound)
+risen_state state d rises sound =
+    subst with_database (sym rises.same) (fresh_reached state rises.shape rises.epoch rises.there rises.fresh reaches rises.to sound)
   where
     with_database : Database → Type 0
     with_database e = IsSound (record state { database = e })
@@ -208,10 +222,12 @@ all_moved stopped old new moves sound =
     (length (behind old.database)) (given_up old) stopped new moves.jobs (busy_state old 0 sound)
 
 one_raised : (meant : Shape → Bool) (old new : State) → RaisesOne meant old new → IsSound old → IsSound new
-one_raised meant old new (d, rises, is, drawn) sound = drawn_sound old (record old { database = d }) new drawn (risen_state old d rises sound)
+one_raised meant old new (d, rises, is, drawn) sound =
+    drawn_sound old (record old { database = d }) new drawn (risen_state old d rises sound)
 
 pub all_raised : (meant : Shape → Bool) (stopped : Bool) (old new : State) → RaisesAll meant old stopped new → IsSound old → IsSound new
-all_raised meant stopped old new raises sound = jobs_keep IsSound (RaisesOne meant) (one_raised meant) raises.count (given_up old) stopped new raises.jobs (busy_state old 0 sound)
+all_raised meant stopped old new raises sound =
+    jobs_keep IsSound (RaisesOne meant) (one_raised meant) raises.count (given_up old) stopped new raises.jobs (busy_state old 0 sound)
 
 one_refreshed : (names : List (List ℕ)) (old new : State) → RefreshesFirst names old new → IsSound old → IsSound new
 one_refreshed [] old new never sound = absurd never

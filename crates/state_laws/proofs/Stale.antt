@@ -26,21 +26,26 @@ use Rattle.sound_laws.proofs.Pairs.{pairs_none, pairs_head, pairs_tail, pairs_fr
 
 all_of_map : {X Y : Type 0} (P : Y → Type 0) (f : X → Y) (xs : List X) → All P (map f xs) → All (λ x. P (f x)) xs
 all_of_map P f [] all = All-nil (λ x. P (f x))
-all_of_map P f (x ∷ xs) all = All-cons (λ y. P (f y)) x xs (All-head P (f x) (map f xs) all) (all_of_map P f xs (All-tail P (f x) (map f xs) all))
+all_of_map P f (x ∷ xs) all =
+    All-cons (λ y. P (f y)) x xs (All-head P (f x) (map f xs) all) (all_of_map P f xs (All-tail P (f x) (map f xs) all))
 
 pub in_map : {X Y : Type 0} (f : X → Y) (xs : List X) (x : X) → Contains xs x → Contains (map f xs) (f x)
-in_map f xs x there = All-contains (λ y. Contains (map f xs) (f y)) xs x (all_of_map (Contains (map f xs)) f xs (All-contains_itself (map f xs))) there
+in_map f xs x there =
+    All-contains (λ y. Contains (map f xs) (f y)) xs x (all_of_map (Contains (map f xs)) f xs (All-contains_itself (map f xs))) there
 
 all_of_filter : {X : Type 0} (P : X → Type 0) (p : X → Bool) (xs : List X) → All P (filter p xs) → All (λ x. p x ≡ true → P x) xs
 all_of_filter P p [] all = All-nil (λ x. p x ≡ true → P x)
 all_of_filter P p (x ∷ xs) all = by (p x) refl (λ rest. all_of_filter P p xs rest) all
   where
-    by : (b : Bool) → p x ≡ b → (All P (filter p xs) → All (λ y. p y ≡ true → P y) xs) → All P (cond b (x ∷ filter p xs) (filter p xs)) → All (λ y. p y ≡ true → P y) (x ∷ xs)
-    by true is more some = All-cons (λ y. p y ≡ true → P y) x xs (λ on. All-head P x (filter p xs) some) (more (All-tail P x (filter p xs) some))
+    by : (b : Bool) → p x ≡ b → (All P (filter p xs) → All (λ y. p y ≡ true → P y) xs) → All P (cond b (x ∷ filter p xs) (filter p xs))
+        → All (λ y. p y ≡ true → P y) (x ∷ xs)
+    by true is more some =
+        All-cons (λ y. p y ≡ true → P y) x xs (λ on. All-head P x (filter p xs) some) (more (All-tail P x (filter p xs) some))
     by false is more rest = All-cons (λ y. p y ≡ true → P y) x xs (λ on. absurd (cc)) (more rest)
 
 pub in_filter : {X : Type 0} (p : X → Bool) (xs : List X) (x : X) → p x ≡ true → Contains xs x → Contains (filter p xs) x
-in_filter p xs x passes there = All-contains (λ y. p y ≡ true → Contains (filter p xs) y) xs x (all_of_filter (Contains (filter p xs)) p xs (All-contains_itself (filter p xs))) there passes
+in_filter p xs x passes there =
+    All-contains (λ y. p y ≡ true → Contains (filter p xs) y) xs x (all_of_filter (Contains (filter p xs)) p xs (All-contains_itself (filter p xs))) there passes
 
 all_of_put : (P : Table → Type 0) (t : Table) (us : List Table) → All P (put_table t us) → All P us
 all_of_put P t [] all = All-nil P
@@ -51,7 +56,8 @@ all_of_put P t (u ∷ us) all = by (is_lt (slice_cmp nat_cmp t.name u.name)) all
     by false some more = All-cons P u us (All-head P u (put_table t us) some) (more (All-tail P u (put_table t us) some))
 
 in_put : (t : Table) (us : List Table) (u : Table) → Contains us u → Contains (put_table t us) u
-in_put t us u there = All-contains (Contains (put_table t us)) us u (all_of_put (Contains (put_table t us)) t us (All-contains_itself (put_table t us))) there
+in_put t us u there =
+    All-contains (Contains (put_table t us)) us u (all_of_put (Contains (put_table t us)) t us (All-contains_itself (put_table t us))) there
 
 all_of_put_shape : (P : Shape → Type 0) (s : Shape) (os : List Shape) → All P (put_shape s os) → All P os
 all_of_put_shape P s [] all = All-nil P
@@ -62,18 +68,23 @@ all_of_put_shape P s (o ∷ os) all = by (is_lt (slice_cmp nat_cmp s.name o.name
     by false some more = All-cons P o os (All-head P o (put_shape s os) some) (more (All-tail P o (put_shape s os) some))
 
 pub in_put_shape : (s : Shape) (os : List Shape) (o : Shape) → Contains os o → Contains (put_shape s os) o
-in_put_shape s os o there = All-contains (Contains (put_shape s os)) os o (all_of_put_shape (Contains (put_shape s os)) s os (All-contains_itself (put_shape s os))) there
+in_put_shape s os o there =
+    All-contains (Contains (put_shape s os)) os o (all_of_put_shape (Contains (put_shape s os)) s os (All-contains_itself (put_shape s os))) there
 
-all_of_change : (P : Table → Type 0) (name : List ℕ) (f : Table → Table) (ts : List Table) → All P (change_named name f ts) → All (λ t. P t ⊎ P (f t)) ts
+all_of_change : (P : Table → Type 0) (name : List ℕ) (f : Table → Table) (ts : List Table) → All P (change_named name f ts)
+    → All (λ t. P t ⊎ P (f t)) ts
 all_of_change P name f [] all = All-nil (λ t. P t ⊎ P (f t))
 all_of_change P name f (t ∷ ts) all = by (bytes_eq t.name name) all (λ rest. all_of_change P name f ts rest)
   where
-    by : (b : Bool) → All P (cond b (f t ∷ ts) (t ∷ change_named name f ts)) → (All P (change_named name f ts) → All (λ u. P u ⊎ P (f u)) ts) → All (λ u. P u ⊎ P (f u)) (t ∷ ts)
+    by : (b : Bool) → All P (cond b (f t ∷ ts) (t ∷ change_named name f ts))
+        → (All P (change_named name f ts) → All (λ u. P u ⊎ P (f u)) ts) → All (λ u. P u ⊎ P (f u)) (t ∷ ts)
     by true some more =
         All-cons (λ u. P u ⊎ P (f u)) t ts (inr (All-head P (f t) ts some)) (All-weaker P (λ u. P u ⊎ P (f u)) (λ u is. inl is) ts (All-tail P (f t) ts some))
-    by false some more = All-cons (λ u. P u ⊎ P (f u)) t ts (inl (All-head P t (change_named name f ts) some)) (more (All-tail P t (change_named name f ts) some))
+    by false some more =
+        All-cons (λ u. P u ⊎ P (f u)) t ts (inl (All-head P t (change_named name f ts) some)) (more (All-tail P t (change_named name f ts) some))
 
-in_change : (name : List ℕ) (f : Table → Table) (ts : List Table) (t : Table) → Contains ts t → Contains (change_named name f ts) t ⊎ Contains (change_named name f ts) (f t)
+in_change : (name : List ℕ) (f : Table → Table) (ts : List Table) (t : Table) → Contains ts t
+    → Contains (change_named name f ts) t ⊎ Contains (change_named name f ts) (f t)
 in_change name f ts t there =
     let changed = change_named name f ts in
     All-contains (λ u. Contains changed u ⊎ Contains changed (f u)) ts t (all_of_change (Contains changed) name f ts (All-contains_itself changed)) there
@@ -94,13 +105,16 @@ has_stale : (d : Database) (name : List ℕ) (is : IsStale d name) → HasStale 
 has_stale d name is = record { shape = is.shape; of = is.of; named = is.named; stale = is.stale }
 
 pub stale_put : (d : Database) (t : Table) (name : List ℕ) → IsStale d name → IsStale (record d { tables = put_table t d.tables }) name
-stale_put d t name is = stale_in (record d { tables = put_table t d.tables }) name is.table (in_put t d.tables is.table is.there) (has_stale d name is)
+stale_put d t name is =
+    stale_in (record d { tables = put_table t d.tables }) name is.table (in_put t d.tables is.table is.there) (has_stale d name is)
 
-pub stale_mapped : (d e : Database) (f : Table → Table) (name : List ℕ) → e.tables ≡ map f d.tables → ((t : Table) → HasStale name t → HasStale name (f t)) → IsStale d name → IsStale e name
+pub stale_mapped : (d e : Database) (f : Table → Table) (name : List ℕ) → e.tables ≡ map f d.tables
+    → ((t : Table) → HasStale name t → HasStale name (f t)) → IsStale d name → IsStale e name
 stale_mapped d e f name same keeps is =
     stale_in e name (f is.table) (subst (λ (ts : List Table). Contains ts (f is.table)) (sym same) (in_map f d.tables is.table is.there)) (keeps is.table (has_stale d name is))
 
-pub stale_changed : (d : Database) (table : List ℕ) (f : Table → Table) (name : List ℕ) → ((t : Table) → HasStale name t → HasStale name (f t)) → IsStale d name
+pub stale_changed : (d : Database) (table : List ℕ) (f : Table → Table) (name : List ℕ)
+    → ((t : Table) → HasStale name t → HasStale name (f t)) → IsStale d name
     → IsStale (record d { tables = change_named table f d.tables }) name
 stale_changed d table f name keeps is = by (in_change table f d.tables is.table is.there)
   where
@@ -113,7 +127,8 @@ stale_changed d table f name keeps is = by (in_change table f d.tables is.table 
 
 -- ---- a table that goes takes its own along
 
-found_at : (name : List ℕ) (k : ℕ) (ts : List Table) → option_map (λ e. e.1) (find (λ e. bytes_eq e.1.name name) (enumerate_from k ts)) ≡ table_named name ts
+found_at : (name : List ℕ) (k : ℕ) (ts : List Table)
+    → option_map (λ e. e.1) (find (λ e. bytes_eq e.1.name name) (enumerate_from k ts)) ≡ table_named name ts
 found_at name k [] = refl
 found_at name k (t ∷ ts) = by (bytes_eq t.name name) (found_at name (k + 1) ts)
   where
@@ -132,7 +147,8 @@ any_named t name has =
     list_any_at (λ s. bytes_eq s.name name) t.shapes k has.shape lt
     ((bytes_eq-Decides (get_or t.shapes k has.shape).name name).1 (ap (λ (s : Shape). s.name) at ∙ has.named))
 
-not_of : (d : Database) (table name : List ℕ) (is : IsStale d name) → IsSoundDatabase d → not (is_of_table table d.tables name) ≡ true → is_not_named table is.table.name ≡ true
+not_of : (d : Database) (table name : List ℕ) (is : IsStale d name) → IsSoundDatabase d → not (is_of_table table d.tables name) ≡ true
+    → is_not_named table is.table.name ≡ true
 not_of d table name is sound other = by (bytes_eq is.table.name table) refl
   where
     by : (b : Bool) → bytes_eq is.table.name table ≡ b → not b ≡ true
@@ -145,19 +161,22 @@ not_of d table name is sound other = by (bytes_eq is.table.name table) refl
         ap (λ (ss : List Shape). list_any (λ s. bytes_eq s.name name) ss) (shapes_of (table_found table d.tables) is.table there) ∙ any_named is.table name (has_stale d name is) in
         absurd (cc)
 
-pub stale_left : (d : Database) (table name : List ℕ) → IsSoundDatabase d → not (is_of_table table d.tables name) ≡ true → IsStale d name → IsStale (record d { tables = filter (λ t. is_not_named table t.name) d.tables }) name
+pub stale_left : (d : Database) (table name : List ℕ) → IsSoundDatabase d → not (is_of_table table d.tables name) ≡ true → IsStale d name
+    → IsStale (record d { tables = filter (λ t. is_not_named table t.name) d.tables }) name
 stale_left d table name sound other is =
     stale_in (record d { tables = filter (λ t. is_not_named table t.name) d.tables }) name is.table (in_filter (λ t. is_not_named table t.name) d.tables is.table (not_of d table name is sound other) is.there)
     (has_stale d name is)
 
 -- what holds of each name behind a filter holds where it passes
-pub filtered : {X : Type 0} (P Q : X → Type 0) (p : X → Bool) (xs : List X) → ((x : X) → p x ≡ true → P x → Q x) → All P xs → All Q (filter p xs)
+pub filtered : {X : Type 0} (P Q : X → Type 0) (p : X → Bool) (xs : List X) → ((x : X) → p x ≡ true → P x → Q x) → All P xs
+    → All Q (filter p xs)
 filtered P Q p xs keeps all i d lt = keeps (get_or (filter p xs) i d) (filter_passes p xs i d lt) (All-filter p P xs all i d lt)
 
 -- ---- a projection that comes to be up to date
 
 -- the others stay
-has_other : (name other : List ℕ) (f : Shape → Shape) (t : Table) → Differ name other → HasStale name t → HasStale name (change_shape_of other f t)
+has_other : (name other : List ℕ) (f : Shape → Shape) (t : Table) → Differ name other → HasStale name t
+    → HasStale name (change_shape_of other f t)
 has_other name other f t differ has = record {
   shape = has.shape;
   of = subst (Contains (map (change_shape other f) t.shapes)) same (in_map (change_shape other f) t.shapes has.shape has.of);
@@ -171,12 +190,14 @@ has_other name other f t differ has = record {
     same : change_shape other f has.shape ≡ has.shape
     same = ap (λ (b : Bool). cond b (f has.shape) has.shape) off
 
-pub stale_other : (d : Database) (name other : List ℕ) (f : Shape → Shape) → Differ name other → IsStale d name → IsStale (with_change other f d) name
-stale_other d name other f differ is = stale_mapped d (with_change other f d) (change_shape_of other f) name refl (λ t has. has_other name other f t differ has) is
+pub stale_other : (d : Database) (name other : List ℕ) (f : Shape → Shape) → Differ name other → IsStale d name
+    → IsStale (with_change other f d) name
+stale_other d name other f differ is =
+    stale_mapped d (with_change other f d) (change_shape_of other f) name refl (λ t has. has_other name other f t differ has) is
 
 -- no two projections have one name
 
-abbrev shape_names : List Shape → List (List ℕ)
+abbrev pub shape_names : List Shape → List (List ℕ)
 shape_names ss = map (λ s. s.name) ss
 
 names_split : (t : Table) (ts : List Table) → shape_names (all_shapes (t ∷ ts)) ≡ shape_names t.shapes ++ shape_names (all_shapes ts)
@@ -201,9 +222,11 @@ shapes_apart (t ∷ ts) pairs =
     (All-weaker (λ n. All (Differ n) (all_names ts)) (λ n. All (Differ n) (shape_names (all_shapes ts))) (λ n all. all_of_shapes (Differ n) ts all) (shape_names t.shapes) across))
 
 -- so each of an up-to-date one's name is up to date
-fresh_named : (ss : List Shape) (s : Shape) → AllPairs Differ (shape_names ss) → Contains ss s → s.fresh ≡ true → All (λ o. o.fresh ≡ false → Differ o.name s.name) ss
+fresh_named : (ss : List Shape) (s : Shape) → AllPairs Differ (shape_names ss) → Contains ss s → s.fresh ≡ true
+    → All (λ o. o.fresh ≡ false → Differ o.name s.name) ss
 fresh_named [] s pairs there fresh = All-nil (λ o. o.fresh ≡ false → Differ o.name s.name)
-fresh_named (x ∷ ss) s pairs (k, lt, at) fresh = by k lt at (λ there. fresh_named ss s (pairs_tail Differ x.name (shape_names ss) pairs) there fresh)
+fresh_named (x ∷ ss) s pairs (k, lt, at) fresh =
+    by k lt at (λ there. fresh_named ss s (pairs_tail Differ x.name (shape_names ss) pairs) there fresh)
   where
     Apart : Shape → Type 0
     Apart o = o.fresh ≡ false → Differ o.name s.name
@@ -226,7 +249,8 @@ in_all_shapes ts t s there of =
     All-contains (Contains (all_shapes ts)) t.shapes s
     (All-contains (λ u. All (Contains (all_shapes ts)) u.shapes) ts t (shapes_of_tables (Contains (all_shapes ts)) ts (All-contains_itself (all_shapes ts))) there) of
 
-pub fresh_differs : (d : Database) (s : Shape) (name : List ℕ) → IsSoundDatabase d → Contains (all_shapes d.tables) s → s.fresh ≡ true → IsStale d name → Differ name s.name
+pub fresh_differs : (d : Database) (s : Shape) (name : List ℕ) → IsSoundDatabase d → Contains (all_shapes d.tables) s → s.fresh ≡ true
+    → IsStale d name → Differ name s.name
 fresh_differs d s name sound there fresh is =
     subst (λ (n : List ℕ). Differ n s.name) is.named
     (All-contains (λ o. o.fresh ≡ false → Differ o.name s.name) (all_shapes d.tables) is.shape (fresh_named (all_shapes d.tables) s (shapes_apart d.tables sound.names) there fresh)
@@ -248,4 +272,5 @@ stale_are_stale d =
     not_true false is = refl
 
     each : (t : Table) → Contains d.tables t → All Named t.shapes
-    each t there = All-weaker (Contains t.shapes) Named (λ s of stale. record { table = t; shape = s; there = there; of = of; named = refl; stale = stale }) t.shapes (All-contains_itself t.shapes)
+    each t there =
+        All-weaker (Contains t.shapes) Named (λ s of stale. record { table = t; shape = s; there = there; of = of; named = refl; stale = stale }) t.shapes (All-contains_itself t.shapes)

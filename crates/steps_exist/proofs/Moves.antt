@@ -18,7 +18,9 @@ use Rattle.db_model.specs.Sound.{names_of, all_names}
 use Rattle.db_model.specs.State.{State}
 use Rattle.mover_policy.proofs.Least.{some_least}
 use Rattle.sound_laws.proofs.Created.{Differ, differ_turned}
-use Rattle.sound_laws.proofs.Pairs.{pairs_none, pairs_head, pairs_tail, pairs_front, pairs_back, pairs_across, pairs_join, all_front, all_back}
+use Rattle.sound_laws.proofs.Pairs.{pairs_head, pairs_tail}
+use Rattle.state_laws.proofs.Reached.{all_names_still}
+use Rattle.state_laws.proofs.Stale.{shape_names, shapes_apart}
 
 -- ---- an event that draws no number
 
@@ -30,9 +32,6 @@ pub nothing_drawn : (old made : State) → IsDrawn old made (undrawn old made)
 nothing_drawn old made = record { same = refl; drawn = record { from = omega arith; to = omega arith; parts = omega arith } }
 
 -- ---- one moveout leaves the others behind
-
-abbrev pub shape_names : List Shape → List (List ℕ)
-shape_names ss = map (λ s. s.name) ss
 
 others_still : (name : List ℕ) (f : Shape → Shape) (ss : List Shape) → All (Differ name) (shape_names ss) → map (change_shape name f) ss ≡ ss
 others_still name f [] apart = refl
@@ -86,28 +85,6 @@ shapes_changed name f (t ∷ ts) =
     ∙ ap (λ (ss : List Shape). map (change_shape name f) t.shapes ++ ss) (shapes_changed name f ts)
     ∙ sym (ap (map (change_shape name f)) (flat_map-cons (λ (u : Table). u.shapes) t ts) ∙ map-append (change_shape name f) t.shapes (all_shapes ts))
 
-names_split : (t : Table) (ts : List Table) → shape_names (all_shapes (t ∷ ts)) ≡ shape_names t.shapes ++ shape_names (all_shapes ts)
-names_split t ts = ap (map (λ s. s.name)) (flat_map-cons (λ (u : Table). u.shapes) t ts) ∙ map-append (λ s. s.name) t.shapes (all_shapes ts)
-
-all_of_shapes : (P : List ℕ → Type 0) (ts : List Table) → All P (all_names ts) → All P (shape_names (all_shapes ts))
-all_of_shapes P [] all = all
-all_of_shapes P (t ∷ ts) all =
-    let both : All P (names_of t ++ all_names ts) = subst (All P) (flat_map-cons names_of t ts) all in
-    subst (All P) (sym (names_split t ts))
-    (All-append P (shape_names t.shapes) (shape_names (all_shapes ts)) (All-tail P t.name (shape_names t.shapes) (all_front P (names_of t) (all_names ts) both)) (all_of_shapes P ts (all_back P (names_of t) (all_names ts) both)))
-
--- no two projections of one name
-shapes_apart : (ts : List Table) → AllPairs Differ (all_names ts) → AllPairs Differ (shape_names (all_shapes ts))
-shapes_apart [] pairs = pairs_none Differ
-shapes_apart (t ∷ ts) pairs =
-    let both : AllPairs Differ (names_of t ++ all_names ts) = subst (AllPairs Differ) (flat_map-cons names_of t ts) pairs in
-    let own : AllPairs Differ (shape_names t.shapes) = pairs_tail Differ t.name (shape_names t.shapes) (pairs_front Differ (names_of t) (all_names ts) both) in
-    let across : All (λ n. All (Differ n) (all_names ts)) (shape_names t.shapes) =
-    All-tail (λ n. All (Differ n) (all_names ts)) t.name (shape_names t.shapes) (pairs_across Differ (names_of t) (all_names ts) both) in
-    subst (AllPairs Differ) (sym (names_split t ts))
-    (pairs_join Differ (shape_names t.shapes) (shape_names (all_shapes ts)) own (shapes_apart ts (pairs_back Differ (names_of t) (all_names ts) both))
-    (All-weaker (λ n. All (Differ n) (all_names ts)) (λ n. All (Differ n) (shape_names (all_shapes ts))) (λ n all. all_of_shapes (Differ n) ts all) (shape_names t.shapes) across))
-
 -- a database of which no two tables or projections have one name
 abbrev pub HasNames : Database → Type 0
 HasNames d = AllPairs Differ (all_names d.tables)
@@ -116,23 +93,6 @@ one_less_behind : (s : Shape) (d : Database) → HasNames d → length (behind d
 one_less_behind s d apart =
     subst (λ (ss : List Shape). length (behind d) ≤ suc (length (passing (is_behind d.last) ss))) (sym (shapes_changed s.name (reached_to d.last) d.tables))
     (one_less (is_behind d.last) s.name (reached_to d.last) (all_shapes d.tables) (shapes_apart d.tables apart))
-
--- ---- the names stay
-
-name_stays : (name : List ℕ) (last : ℕ) (ss : List Shape) → shape_names (map (change_shape name (reached_to last)) ss) ≡ shape_names ss
-name_stays name last [] = refl
-name_stays name last (s ∷ ss) = ap₂ (λ (n : List ℕ) (ns : List (List ℕ)). n ∷ ns) (by (bytes_eq s.name name)) (name_stays name last ss)
-  where
-    by : (b : Bool) → (cond b (reached_to last s) s).name ≡ s.name
-    by true = refl
-    by false = refl
-
-pub names_stay : (name : List ℕ) (last : ℕ) (ts : List Table) → all_names (map (change_shape_of name (reached_to last)) ts) ≡ all_names ts
-names_stay name last [] = refl
-names_stay name last (t ∷ ts) =
-    flat_map-cons names_of (change_shape_of name (reached_to last) t) (map (change_shape_of name (reached_to last)) ts)
-    ∙ ap₂ (λ (ns ms : List (List ℕ)). (t.name ∷ ns) ++ ms) (name_stays name last t.shapes) (names_stay name last ts)
-    ∙ sym (flat_map-cons names_of t ts)
 
 -- ---- the first that is behind
 
@@ -179,7 +139,7 @@ moved_out zero old most apart = record { stopped = false; new = old; jobs = (ref
 moved_out (suc n) old most apart =
     next_moved n old (are_spent old) (first_behind old.database) refl refl (some_first old.database (omega (arith, most)))
     (λ s. let less = one_less_behind s old.database apart in
-    moved_out n (moved_one s old) (omega (arith, most, less)) (subst (AllPairs Differ) (sym (names_stay s.name old.database.last old.database.tables)) apart))
+    moved_out n (moved_one s old) (omega (arith, most, less)) (subst (AllPairs Differ) (sym (all_names_still s.name old.database.last old.database.tables)) apart))
 
 pub all_moved : (old : State) → HasNames old.database → (stopped : Bool) × (new : State) × MovesAll old stopped new
 all_moved old apart =

@@ -13,8 +13,10 @@ use Rattle.db_model.specs.Sound.{all_names, names_of}
 use Rattle.db_model.specs.State.{State}
 use Rattle.sound_laws.proofs.Created.{Differ}
 use Rattle.sound_laws.proofs.Pairs.{pairs_back, pairs_front, pairs_none, pairs_tail}
+use Rattle.state_laws.proofs.Reached.{all_names_still}
+use Rattle.state_laws.proofs.Stale.{shape_names}
 use Rattle.state_laws.proofs.Tables.{map_named}
-use Rattle.steps_exist.proofs.Moves.{HasNames, names_stay, nothing_drawn, one_less, passing, shape_names, undrawn}
+use Rattle.steps_exist.proofs.Moves.{HasNames, one_less, passing}
 
 -- the projections of a table that is found or not
 abbrev shapes_of : Option Table → List Shape
@@ -23,18 +25,21 @@ shapes_of o = option_map_or (λ t. t.shapes) o []
 abbrev is_stale : Shape → Bool
 is_stale s = not s.fresh
 
-own_apart : (table : List ℕ) (ts : List Table) → AllPairs Differ (all_names ts) → AllPairs Differ (shape_names (shapes_of (table_named table ts)))
+own_apart : (table : List ℕ) (ts : List Table) → AllPairs Differ (all_names ts)
+    → AllPairs Differ (shape_names (shapes_of (table_named table ts)))
 own_apart table [] pairs = pairs_none Differ
 own_apart table (t ∷ ts) pairs = by (bytes_eq t.name table) (own_apart table ts (pairs_back Differ (names_of t) (all_names ts) both))
   where
     both : AllPairs Differ (names_of t ++ all_names ts)
     both = subst (AllPairs Differ) (flat_map-cons names_of t ts) pairs
 
-    by : (b : Bool) → AllPairs Differ (shape_names (shapes_of (table_named table ts))) → AllPairs Differ (shape_names (shapes_of (cond b (Some t) (table_named table ts))))
+    by : (b : Bool) → AllPairs Differ (shape_names (shapes_of (table_named table ts)))
+        → AllPairs Differ (shape_names (shapes_of (cond b (Some t) (table_named table ts))))
     by true rest = pairs_tail Differ t.name (shape_names t.shapes) (pairs_front Differ (names_of t) (all_names ts) both)
     by false rest = rest
 
-changed_shapes : (name : List ℕ) (f : Shape → Shape) (o : Option Table) → shapes_of (option_map (change_shape_of name f) o) ≡ map (change_shape name f) (shapes_of o)
+changed_shapes : (name : List ℕ) (f : Shape → Shape) (o : Option Table)
+    → shapes_of (option_map (change_shape_of name f) o) ≡ map (change_shape name f) (shapes_of o)
 changed_shapes name f None = refl
 changed_shapes name f (Some t) = refl
 
@@ -65,9 +70,11 @@ record Refreshed (table : List ℕ) (n : ℕ) (old : State) : Type 0 where
   next : new.next ≡ old.next
   parts : new.parts ≡ old.parts
 
-next_refreshed : (table : List ℕ) (n : ℕ) (old : State) (spent : Bool) (names : List (List ℕ)) → are_spent old ≡ spent → stale_of table old.database ≡ names → 0 < length names
+next_refreshed : (table : List ℕ) (n : ℕ) (old : State) (spent : Bool) (names : List (List ℕ)) → are_spent old ≡ spent
+    → stale_of table old.database ≡ names → 0 < length names
     → ((name : List ℕ) → Refreshed table n (refreshed name old)) → Refreshed table (suc n) old
-next_refreshed table n old true names is found some rest = record { stopped = true; new = old; jobs = inl (is, refl, refl); next = refl; parts = refl }
+next_refreshed table n old true names is found some rest =
+    record { stopped = true; new = old; jobs = inl (is, refl, refl); next = refl; parts = refl }
 next_refreshed table n old false [] is found some rest = absurd (omega (arith, some))
 next_refreshed table n old false (name ∷ names) is found some rest =
     let more = rest name in
@@ -84,9 +91,10 @@ so_many table zero old most apart = record { stopped = false; new = old; jobs = 
 so_many table (suc n) old most apart =
     next_refreshed table n old (are_spent old) (stale_of table old.database) refl refl (omega (arith, most))
     (λ name. let less = one_less_stale table name old.database apart in
-    so_many table n (refreshed name old) (omega (arith, most, less)) (subst (AllPairs Differ) (sym (names_stay name old.database.last old.database.tables)) apart))
+    so_many table n (refreshed name old) (omega (arith, most, less)) (subst (AllPairs Differ) (sym (all_names_still name old.database.last old.database.tables)) apart))
 
-pub all_refreshed : (table : List ℕ) (old : State) → HasNames old.database → (stopped : Bool) × (new : State) × RefreshesAll table old stopped new
+pub all_refreshed : (table : List ℕ) (old : State) → HasNames old.database
+    → (stopped : Bool) × (new : State) × RefreshesAll table old stopped new
 all_refreshed table old apart =
     let made = so_many table (length (stale_of table old.database)) (given_up old) (omega arith) apart in
     let next = made.next in
