@@ -179,7 +179,9 @@ shapes_wide u v [] = refl
 shapes_wide u v (p ∷ ps) = ap₂ (λ (s : Shape) (ss : List Shape). s ∷ ss) (by (has_all u.columns p)) (shapes_wide u v ps)
   where
     by : (b : Bool) → cond b (record (shape_of p) { columns = (shape_of p).columns ++ (length u.columns, Encoding.Auto) ∷ [] }) (shape_of p) ≡ shape_of (cond b (with_columns (p.columns ++ new_column (length u.columns) v ∷ []) p) p)
-    by true = ap (with_shape_columns (shape_of p)) (sym (map_join {ProjColumn} {ℕ × Encoding} (λ c. (c.ordinal, c.encoding)) p.columns (new_column (length u.columns) v ∷ [])))
+    by true =
+        let f : ProjColumn → ℕ × Encoding = λ c. (c.ordinal, c.encoding) in
+        ap (with_shape_columns (shape_of p)) (sym (map_join f p.columns (new_column (length u.columns) v ∷ [])))
     by false = refl
 
 pub entries_wide : (columns : List Column) (v : Value) (ps : List Projected) → map (λ p. p.entry) (wide_parts columns v ps) ≡ map (wide_entry columns v) (map (λ p. p.entry) ps)
@@ -382,11 +384,11 @@ next_changed f [] i x lt = absurd (omega (arith, lt))
 next_changed f (e ∷ es) zero x lt = refl
 next_changed {X} f (e ∷ es) (suc i) x lt = ap (λ (ys : List X). f e ∷ ys) (next_changed f es i x (omega (arith, lt)))
 
-pub changed_next : {X : Type 0} (f : X → X) (es now : List X) (i : ℕ) (old new : X) → i < length es → now ≡ map f (take i es) ++ drop i es → old ≡ get_or now i old → new ≡ f old
+pub changed_next : {X : Type 0} (f : X → X) (es now : List X) (i : ℕ) (old new : X) → i < length es → now ≡ map f (take i es) ++ drop i es → new ≡ f (get_or now i old)
     → set now i new ≡ map f (take (i + 1) es) ++ drop (i + 1) es
-changed_next {X} f es now i old new lt is at one =
+changed_next {X} f es now i old new lt is one =
     let more : suc i ≡ i + 1 = omega arith in
-    ap₂ (λ (xs : List X) (x : X). set xs i x) is (one ∙ ap f (at ∙ ap (λ (xs : List X). get_or xs i old) is)) ∙ next_changed f es i old lt
+    ap₂ (λ (xs : List X) (x : X). set xs i x) is (one ∙ ap (λ (xs : List X). f (get_or xs i old)) is) ∙ next_changed f es i old lt
     ∙ ap (λ (n : ℕ). map f (take n es) ++ drop n es) more
 
 -- ---- the columns that are lent
