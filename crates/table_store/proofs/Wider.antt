@@ -393,8 +393,9 @@ changed_next {X} f es now i old new lt is one =
 
 -- ---- the columns that are lent
 
-pub columns_there : (root : Catalogue) (last : ℕ) (tables : List (List Loaded)) (now : Seen) (i : ℕ) (listed : List kept.Table) (t : kept.Table) (columns : List Column) → seen_of root last tables ≡ now → i < length now.catalogue.tables
-    → listed ≡ root.tables → t ≡ get_or listed i t → columns ≡ t.columns → IsSomeAnd (slice_get root.tables i) (λ u. u.columns ≡ columns)
-columns_there root last tables now i listed t columns view lt same is columns_are =
+pub columns_there : (root : Catalogue) (last : ℕ) (tables : List (List Loaded)) (now : Seen) (i : ℕ) (listed : List kept.Table) (d : kept.Table) (columns : List Column) → seen_of root last tables ≡ now → i < length now.catalogue.tables
+    → listed ≡ root.tables → columns ≡ (get_or listed i d).columns → IsSomeAnd (slice_get root.tables i) (λ u. u.columns ≡ columns)
+columns_there root last tables now i listed d columns view lt same columns_are =
     let within : i < length root.tables = subst (λ (s : Seen). i < length s.catalogue.tables) (sym view) lt in
-    is_at root.tables i t (λ u. u.columns ≡ columns) within (is ∙ ap (λ (ts : List kept.Table). get_or ts i t) same) (sym columns_are)
+    let t : kept.Table = get_or root.tables i d in
+    is_at root.tables i t (λ u. u.columns ≡ columns) within (get_or_default root.tables i d t within) (sym (columns_are ∙ ap (λ (ts : List kept.Table). (get_or ts i d).columns) same))

@@ -35,7 +35,7 @@ returns-in-Err-settle-clause-made g c = λ d stands sound.
     let last = c.self.inside.last in
     let items = c.self.inside.tables.items in
     let columns = c.as_slice-columns.result.now in
-    let there = columns_there root last items c.args.self.now c.args.table c.as_slice.result.now c.index-as_slice-table.result columns c.self.view_is c.requires c.as_slice.ensures c.index-as_slice-table.is c.as_slice-columns.ensures in
+    let there = columns_there root last items c.args.self.now c.args.table c.as_slice.result.now c.index-as_slice-table.result columns c.self.view_is c.requires c.as_slice.ensures c.as_slice-columns.ensures in
     settled_not g.D.Disk c.args.self.now _ _ c.in-Err-settle.fault d (widened_at c.args.table c.args.column.now c.args.default.now d)
     (wide_makes g.D.Disk root last items c.args.self.now c.args.table c.args.column.now c.args.default.now columns c.in-Ok.catalogue _ d c.in-Err-settle.ensures.made
     c.self.view_is c.self.invariant there c.in-Ok.ensures stands sound)
@@ -58,7 +58,7 @@ invariant_of-self g c =
     let items = c.self.inside.tables.items in
     let columns = c.as_slice-columns.result.now in
     let lt = table_there root last items c.args.self.now c.args.table c.self.view_is c.self.invariant c.requires in
-    let there = columns_there root last items c.args.self.now c.args.table c.as_slice.result.now c.index-as_slice-table.result columns c.self.view_is c.requires c.as_slice.ensures c.index-as_slice-table.is c.as_slice-columns.ensures in
+    let there = columns_there root last items c.args.self.now c.args.table c.as_slice.result.now c.index-as_slice-table.result columns c.self.view_is c.requires c.as_slice.ensures c.as_slice-columns.ensures in
     let stores = parts_applied items c.args.table columns c.args.default.now c.index.result.now c.index_mut.result.now c.apply_column.new.self c.in-Ok-prepare_column.ready.items lt c.index.ensures c.index_mut.ensures.value
     c.in-Ok-prepare_column.ensures.made c.apply_column.ensures in
     wide_held items (set items c.args.table c.apply_column.new.self) root last c.args.table c.args.column.now c.args.default.now columns c.in-Ok.catalogue stores c.in-Ok.ensures there c.self.invariant c.in-Ok-settle.ensures.valid
@@ -70,7 +70,7 @@ returns-clause-made g c = λ d stands sound.
     let items = c.self.inside.tables.items in
     let columns = c.as_slice-columns.result.now in
     let lt = table_there root last items c.args.self.now c.args.table c.self.view_is c.self.invariant c.requires in
-    let there = columns_there root last items c.args.self.now c.args.table c.as_slice.result.now c.index-as_slice-table.result columns c.self.view_is c.requires c.as_slice.ensures c.index-as_slice-table.is c.as_slice-columns.ensures in
+    let there = columns_there root last items c.args.self.now c.args.table c.as_slice.result.now c.index-as_slice-table.result columns c.self.view_is c.requires c.as_slice.ensures c.as_slice-columns.ensures in
     let stores = parts_applied items c.args.table columns c.args.default.now c.index.result.now c.index_mut.result.now c.apply_column.new.self c.in-Ok-prepare_column.ready.items lt c.index.ensures c.index_mut.ensures.value
     c.in-Ok-prepare_column.ensures.made c.apply_column.ensures in
     settled_done g.D.Disk c.args.self.now _ _ d (widened_at c.args.table c.args.column.now c.args.default.now d)
