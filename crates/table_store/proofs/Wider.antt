@@ -1,10 +1,10 @@
 -- A table with one column more, and what the store stands for with it.
 use Rattle.std.proofs.Common.{◌≡◌, ℕ, zero, suc, ◌+◌, ◌<◌, ◌≤◌, Bool, true, false, cond, List, [], ◌∷◌, ◌++◌, length, map, set, take, drop, get_or, refl, sym, ◌∙◌, ap, ap₂, subst, arith}
-use Rattle.std.specs.Prelude.{Result, Option, Some, None, IsSomeAnd, IfSome, filter, slice_index_or}
+use Rattle.std.specs.Prelude.{Result, Option, IsSomeAnd, IfSome, slice_index_or}
 use Rattle.std.specs.Bool.{OnTrue, OnFalse}
-use Rattle.std.specs.List.{All, AllZip, slice_get, enumerate_from}
+use Rattle.std.specs.List.{All, AllZip, slice_get}
 use Rattle.std.proofs.lemmas.List.{get_or-map, get_or_default, length-map, map-set, take_more}
-use Rattle.std.proofs.lemmas.List.Elements.{All-cons, All-filter, All-head, All-map, All-nil, All-tail, All-weaker}
+use Rattle.std.proofs.lemmas.List.Elements.{All-cons, All-filter, All-head, All-nil, All-tail, All-weaker}
 use Rattle.std.proofs.Math.ListN.{get_or-append}
 use Rattle.std.proofs.Math.Seq.{get_or-append_seam}
 use Rattle.common_laws.specs.Bags.{SameBag}
@@ -20,23 +20,22 @@ use Rattle.col_value.specs.declared.row.Stamped.{Stamped}
 use Rattle.col_value.specs.declared.value.Value.{Value}
 use Rattle.col_value.specs.declared.value.Value.TheVariants as value
 use Rattle.row_history.specs.History.{is_retained, retained, on_columns}
-use Rattle.row_history.proofs.Histories.{filter_mapped, map_mapped}
-use Rattle.catalog_types.specs.declared.catalogue.Container.{Container}
+use Rattle.row_history.proofs.Histories.{filter_mapped}
 use Rattle.catalog_types.specs.declared.catalogue.ProjColumn.{ProjColumn}
 use Rattle.catalog_types.specs.declared.catalogue.Projection.{Projection}
 use Rattle.catalog_types.specs.declared.catalogue.Table as kept
 use Rattle.catalog_types.specs.declared.catalogue.Catalogue.{Catalogue}
 use Rattle.catalog_types.specs.Parts.{FitsColumn, IsContainer, IsProjColumn, IsProjection, IsTable, takes_kind}
 use Rattle.catalog_types.specs.Valid.{IsValid}
-use Rattle.db_model.specs.Database.{Database, Shape, Table, has_columns}
+use Rattle.db_model.specs.Database.{Database, Shape, Table}
 use Rattle.db_model.specs.Events.{widened, with_value}
 use Rattle.db_model.specs.Events as event
 use Rattle.db_model.specs.Sound.{IsSoundDatabase, IsSoundTable, RowFits, ValueFits}
-use Rattle.stored_rows.specs.Stored.{Beside, Projected, Stores, IsMemoryAbove}
+use Rattle.stored_rows.specs.Stored.{Projected}
 use Rattle.proj_store.specs.Loaded.{Loaded}
 use Rattle.proj_store.specs.Widening.{Wider, new_column, with_column, with_columns}
 use Rattle.proj_store.proofs.Wider.{stores_wide, wide_above}
-use Rattle.folder_model.specs.Projections.{shape_of, ordinals, IsHistoryOf, HasHistory, IsBare, HasRows}
+use Rattle.folder_model.specs.Projections.{shape_of, ordinals, HasHistory, IsBare, HasRows}
 use Rattle.folder_model.specs.Tables.{StandsForTable, StandForTables, AreDatabase}
 use Rattle.folder_model.proofs.CutTables.{of_entries}
 use Rattle.store_commit.specs.Seen.{Seen, Stands, seen}
@@ -233,7 +232,6 @@ table_wide m mark k d c v t ps u is sound stands = record {
 
 -- ---- the catalogue
 
-
 stand_wide : (m : Contents) (mark : ℕ) (k : Catalogue) (d : Database) (c : Column) (v : Value) (columns : List Column) (ts : List kept.Table) (pss : List (List Projected)) (us : List Table) (i : ℕ)
     → All (IsTable k) ts → All (IsSoundTable d) us → IsSomeAnd (slice_get ts i) (λ t. t.columns ≡ columns) → StandForTables m mark ts pss us
     → StandForTables m mark (change_at i (wide_table c v) ts) (change_at i (wide_parts columns v) pss) (change_at i (widened c v) us)
@@ -242,9 +240,11 @@ stand_wide m mark k d c v columns [] [] (u ∷ us) i valid sound there stand = a
 stand_wide m mark k d c v columns [] (ps ∷ pss) us i valid sound there stand = absurd stand
 stand_wide m mark k d c v columns (t ∷ ts) [] us i valid sound there stand = absurd stand
 stand_wide m mark k d c v columns (t ∷ ts) (ps ∷ pss) [] i valid sound there stand = absurd stand
-stand_wide m mark k d c v columns (t ∷ ts) (ps ∷ pss) (u ∷ us) zero valid sound there (here, more) =
-    (subst (λ (cs : List Column). StandsForTable m mark (wide_table c v t) (wide_parts cs v ps) (widened c v u)) there
-    (table_wide m mark k d c v t ps u (All-head (IsTable k) t ts valid) (All-head (IsSoundTable d) u us sound) here), more)
+stand_wide m mark k d c v columns (t ∷ ts) (ps ∷ pss) (u ∷ us) zero valid sound there (here, more) = (
+  subst (λ (cs : List Column). StandsForTable m mark (wide_table c v t) (wide_parts cs v ps) (widened c v u)) there
+      (table_wide m mark k d c v t ps u (All-head (IsTable k) t ts valid) (All-head (IsSoundTable d) u us sound) here),
+  more,
+)
 stand_wide m mark k d c v columns (t ∷ ts) (ps ∷ pss) (u ∷ us) (suc i) valid sound there (here, more) =
     (here, stand_wide m mark k d c v columns ts pss us i (All-tail (IsTable k) t ts valid) (All-tail (IsSoundTable d) u us sound) there more)
 

@@ -1,4 +1,3 @@
-use Rattle.std.proofs.Common.{◌<◌, length, arith}
 use Rattle.table_store.specs.Widening.{wide_entry}
 use Rattle.table_store.proofs.Wider.{changed_next}
 use Rattle.table_store.proofs.widening.widen_entries.Goals as goal

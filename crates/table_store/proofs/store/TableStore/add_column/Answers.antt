@@ -1,6 +1,5 @@
-use Rattle.std.proofs.Common.{◌≡◌, ◌<◌, List, length, map, set, sym, subst, rules}
+use Rattle.std.proofs.Common.{◌<◌, length, set, subst, rules}
 use Rattle.col_disk.specs.declared.disk.DiskFault.TheVariants as disk_fault
-use Rattle.col_value.specs.declared.column.Column.{Column}
 use Rattle.store_commit.specs.Seen.{Seen}
 use Rattle.store_commit.proofs.Settled.{made_nothing}
 use Rattle.table_store.specs.Drawing.{DrawsOne}
