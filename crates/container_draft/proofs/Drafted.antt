@@ -1,5 +1,5 @@
 -- A container that is written one column after the other.
-use Rattle.std.proofs.Common.{◌≡◌, ℕ, ◌+◌, ◌*◌, ◌<◌, ◌≤◌, List, [], ◌∷◌, length, get_or, refl, sym, ap, ◌∙◌, arith, subst, inl, inr}
+use Rattle.std.proofs.Common.{◌≡◌, ℕ, ◌+◌, ◌*◌, ◌<◌, ◌≤◌, List, [], ◌∷◌, length, map, get_or, refl, sym, ap, ◌∙◌, arith, subst, inl, inr}
 use Rattle.std.specs.Prelude.{◌⊎◌, ◌==◌, if◌then◌else◌, Bool, true, false, Some}
 use Rattle.std.proofs.lemmas.Bool.{cases_Bool, eqb-true, eq-eqb}
 use Rattle.std.specs.FinMap.{get}
@@ -17,6 +17,8 @@ use Rattle.col_disk.specs.declared.disk.Disk.{Ghosts}
 use Rattle.col_disk.proofs.Moving.{changed_kept}
 use Rattle.container_writer.proofs.ByColumn.{all_held}
 use Rattle.container_writer.proofs.Filled.{told_before}
+use Rattle.std.proofs.lemmas.List.{length-map}
+use Rattle.container_draft.specs.Placed.{asked_at, all_at, seen}
 use Rattle.container_draft.specs.Draft.{Drafted, IsDraft, one_more}
 
 -- its files stay
@@ -73,3 +75,19 @@ goes_on disk {old} {new} es columns d e long is here moved m n before after draf
         changed =
             let (l, told, moves) = told_before disk n after moved in
             subst (λ (x : Contents). Changed (Either (Named (body_of d.base d.done)) (Named (index_of d.base d.done))) NoName x n) (one_contents l m told before) moves
+
+-- the same of a draft as it is seen
+pub goes_on_at : {D : Type 0} (disk : Ghosts D) {old new : D} (es : List Written) (columns : ℕ) (rows shown : List Asked) (places places_shown : List ℕ) (base done : ℕ) (d : Drafted) → columns ≡ length es → shown ≡ rows → places_shown ≡ places
+    → seen rows places base done ≡ d
+    → (0 < length places_shown → (n : Contents) → disk.holds new ≡ Some n → HoldsColumn (encoding_at es done) (body_of base done) (index_of base done) (length places_shown) n (stored_values columns done (all_at shown places_shown)))
+    → Moved disk (Either (Named (body_of base done)) (Named (index_of base done))) NoName old new
+    → (m n : Contents) → disk.holds old ≡ Some m → disk.holds new ≡ Some n → IsDraft m es d → IsDraft n es (seen rows places base (done + 1))
+goes_on_at disk es columns rows shown places places_shown base done d long same same_too is here moved m n before after draft =
+    let next : done + 1 ≡ 1 + done = omega arith in
+    let many : length places_shown ≡ length (all_at rows places) = ap length same_too ∙ sym (length-map places (asked_at rows)) in
+    let values : all_at shown places_shown ≡ all_at rows places = ap (λ (xs : List Asked). all_at xs places_shown) same ∙ ap (all_at rows) same_too in
+    goes_on disk es columns (seen rows places base done) (seen rows places base (done + 1)) long (ap (seen rows places base) next)
+    (λ some l told.
+    subst (λ (xs : List Asked). HoldsColumn (encoding_at es done) (body_of base done) (index_of base done) (length (all_at rows places)) l (stored_values columns done xs)) values
+    (subst (λ (k : ℕ). HoldsColumn (encoding_at es done) (body_of base done) (index_of base done) k l (stored_values columns done (all_at shown places_shown))) many (here (omega (arith, many, some)) l told)))
+    moved m n before after (subst (IsDraft m es) (sym is) draft)

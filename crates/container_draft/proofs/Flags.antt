@@ -7,7 +7,7 @@ use Rattle.std.proofs.lemmas.List.Elements.{All-nil, All-cons, All-head, All-tai
 use Rattle.merge_rows.specs.Inputs.{chosen}
 
 -- what stands at a place, where it is chosen
-abbrev one_if : {X : Type 0} → Bool → X → List X
+abbrev pub one_if : {X : Type 0} → Bool → X → List X
 one_if b x = cond b (x ∷ []) []
 
 more_suc : {X : Type 0} (i : ℕ) (flags : List Bool) (xs : List X) (x : X) → i < length xs → x ≡ get_or xs i x → chosen (take (suc i) flags) (take (suc i) xs) ≡ chosen (take i flags) (take i xs) ++ one_if (slice_index_or flags i false) x

@@ -1,5 +1,5 @@
 pub mod Chosen
-pub mod Deletes
+pub mod Joining
 pub mod Drafted
 pub mod Ended
 pub mod Flags

@@ -30,7 +30,6 @@ use std::alloc::{AllocError, Global};
 // Numbers are drawn below this one.
 const MOST_NUMBERS: u64 = 1 << 61;
 
-#[tactic(auto, using(crate::proofs::Ended::lesser_more))]
 fn least_epoch(rows: &[Asked], places: &[usize]) -> u64
     ensures { All (λ i. result ≤ (asked_at rows.now i).ins) places.now }
 {
@@ -41,7 +40,6 @@ fn least_epoch(rows: &[Asked], places: &[usize]) -> u64
     least
 }
 
-#[tactic(auto, using(crate::proofs::Ended::greater_more))]
 fn greatest_epoch(rows: &[Asked], places: &[usize]) -> u64
     ensures { All (λ i. (asked_at rows.now i).ins ≤ result) places.now }
 {

@@ -1,7 +1,7 @@
 use Rattle.std.proofs.Common.{◌≡◌, rules, ap, ◌∙◌}
 use Rattle.std.specs.Prelude.{slice_index_or}
 use Rattle.proj_store.proofs.SavedRows.{item, item_is}
-use Rattle.container_draft.proofs.Deletes.{beside_within, kept_at, deletes_more, deletes_all}
+use Rattle.container_draft.proofs.Joining.{beside_within, kept_at, deletes_more, deletes_all}
 use Rattle.container_draft.proofs.deletes.chosen_deletes.Goals as goal
 
 pub add_if-requires-clause-place : goal.add_if-requires-clause-place

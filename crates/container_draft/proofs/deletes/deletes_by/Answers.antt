@@ -1,5 +1,5 @@
 use Rattle.std.proofs.lemmas.Result.{IfOk-weaker}
-use Rattle.container_draft.proofs.Deletes.{deletes_are}
+use Rattle.container_draft.proofs.Joining.{deletes_are}
 use Rattle.container_draft.proofs.deletes.deletes_by.Goals as goal
 
 pub returns : goal.returns

@@ -1,5 +1,5 @@
 use Rattle.std.proofs.Common.{rules}
-use Rattle.container_draft.proofs.Deletes.{padded_more}
+use Rattle.container_draft.proofs.Joining.{padded_more}
 use Rattle.container_draft.proofs.deletes.padded.Goals as goal
 
 pub loop-place-preserved : goal.loop-place-preserved

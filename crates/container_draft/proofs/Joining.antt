@@ -80,7 +80,7 @@ zip_at R (a ∷ xs) (b ∷ ys) zero x y all lt below = all.0
 zip_at R (a ∷ xs) (b ∷ ys) (suc i) x y all lt below = zip_at R xs ys i x y all.1 (omega (arith, lt)) (omega (arith, below))
 
 both_long : (p : Projected) → IsSound p.entry p.beside → length p.entry.containers ≡ length p.beside
-both_long p sound = AllZip-long IsKept p.entry.containers p.beside sound.kept
+both_long p sound = sym (AllZip-long IsKept p.entry.containers p.beside sound.kept)
 
 pub beside_within : (p : Projected) (shown : List Container) (i : ℕ) → shown ≡ p.entry.containers → IsSound p.entry p.beside → i < length shown → i < length p.beside
 beside_within p shown i same sound lt = omega (arith, lt, ap length same, both_long p sound)
