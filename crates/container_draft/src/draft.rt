@@ -84,7 +84,8 @@ impl Draft {
 
     /// The places of the rows among those that were read, in their order. It takes no memory.
     pub fn places(&self) -> &[usize]
-        ensures { result.now ≡ self.now.places }
+        ensures places { result.now ≡ self.now.places }
+        ensures count { length result.now ≡ length self.now.rows }
     {
         self.places.as_slice()
     }

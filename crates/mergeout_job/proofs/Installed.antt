@@ -55,7 +55,7 @@ stores_below m l es (k ∷ ks) (b ∷ bs) rows next below changed (here, more, v
     let same = same_below m l next k (All-head (IsBelow next) k ks below) changed in
     (here, more, vector_kept m l k b.held same vector, marked_kept m l es k (mark_in b) here same marked, stores_below m l es ks bs more next (All-tail (IsBelow next) k ks below) changed rest, is)
 
-finished_below : (columns level next after : ℕ) (d : Drafted) (made : Option Container) → d.base + file_count columns ≤ next → AreFinished columns level next after d made → All (IsBelow after) (listed made)
+pub finished_below : (columns level next after : ℕ) (d : Drafted) (made : Option Container) → d.base + file_count columns ≤ next → AreFinished columns level next after d made → All (IsBelow after) (listed made)
 finished_below columns level next after d None le is = All-nil (IsBelow after)
 finished_below columns level next after d (Some k) le is = All-cons (IsBelow after) k [] one (All-nil (IsBelow after))
   where
@@ -206,7 +206,7 @@ merged_levels next after j old new four is light =
 
 -- ---- numbers
 
-all_in : (P : Container → Type 0) (o : Option Container) → IfSome o P → All P (listed o)
+pub all_in : (P : Container → Type 0) (o : Option Container) → IfSome o P → All P (listed o)
 all_in P None one = All-nil P
 all_in P (Some k) one = All-cons P k [] one (All-nil P)
 
@@ -234,7 +234,7 @@ merged_below next after j old new base is below =
 
 -- ---- that it can be loaded
 
-finished_reads : (columns : List ProjColumn) (level next after : ℕ) (d : Drafted) (made : Option Container) → next < 2 ^ 61 → d.base + file_count (length columns) ≤ next → AreFinished (length columns) level next after d made
+pub finished_reads : (columns : List ProjColumn) (level next after : ℕ) (d : Drafted) (made : Option Container) → next < 2 ^ 61 → d.base + file_count (length columns) ≤ next → AreFinished (length columns) level next after d made
     → All (IsReadable columns) (listed made) × All HasVectorNumber (listed made)
 finished_reads columns level next after d None low base is = (All-nil (IsReadable columns), All-nil HasVectorNumber)
 finished_reads columns level next after d (Some k) low base is = (All-cons (IsReadable columns) k [] reads (All-nil (IsReadable columns)), All-cons HasVectorNumber k [] (vector k.marks is.vector) (All-nil HasVectorNumber))

@@ -1,4 +1,4 @@
 pub mod Joined
 pub mod Renewed
 pub mod Assembled
-pub mod Others
+pub mod Remaining

@@ -6,7 +6,7 @@ use Rattle.col_disk.proofs.Moving.{moved_join, moved_none}
 use Rattle.ros_container.specs.Encodings.{written_of}
 use Rattle.moveout_job.specs.OnDisk.{IsRemarked}
 use Rattle.moveout_job.proofs.Renewed.{beside_within, later_data, entry_more}
-use Rattle.moveout_job.proofs.Others.{others_none, others_turn, others_all, remarked_long}
+use Rattle.moveout_job.proofs.Remaining.{others_none, others_turn, others_all, remarked_long}
 use Rattle.moveout_job.proofs.others.mark_others.Goals as goal
 
 pub loop-i-init : goal.loop-i-init

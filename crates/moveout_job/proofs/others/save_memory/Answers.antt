@@ -8,7 +8,7 @@ use Rattle.ros_container.specs.Encodings.{written_of}
 use Rattle.container_writer.specs.Ordered.{stamped_of}
 use Rattle.container_writer.specs.Writing.{listed, HoldsBag, AreNumbered}
 use Rattle.moveout_job.proofs.Renewed.{later_data}
-use Rattle.moveout_job.proofs.Others.{saves_others}
+use Rattle.moveout_job.proofs.Remaining.{saves_others}
 use Rattle.moveout_job.proofs.others.save_memory.Goals as goal
 
 pub returns-in-Err-clause-moved : goal.returns-in-Err-clause-moved
