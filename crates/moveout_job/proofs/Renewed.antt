@@ -219,7 +219,7 @@ remarked_wider next after low end k j le lt is = record { base = is.base; rows =
 pub beside_within : (p : Projected) (shown : List Container) (i : ℕ) → shown ≡ p.entry.containers → IsSound p.entry p.beside → i < length shown → i < length p.beside
 beside_within p shown i same sound lt = omega (arith, lt, ap length same, AllZip-long IsKept p.entry.containers p.beside sound.kept)
 
-at_slice : {X : Type 0} (P : X → Type 0) (xs : List X) (i : ℕ) (d : X) → IsSomeAnd (slice_get xs i) P → P (get_or xs i d)
+pub at_slice : {X : Type 0} (P : X → Type 0) (xs : List X) (i : ℕ) (d : X) → IsSomeAnd (slice_get xs i) P → P (get_or xs i d)
 at_slice P [] i d is = absurd is
 at_slice P (x ∷ xs) zero d is = is
 at_slice P (x ∷ xs) (suc i) d is = at_slice P xs i d is
