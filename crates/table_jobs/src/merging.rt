@@ -46,7 +46,7 @@ fn write_columns<D: Disk>(
     ensures moved { Moved ⟦<D as Disk>⟧ (DataFrom job.old.draft.base) NoName disk.old disk.new }
     ensures cause { HasCause DiskFault.Failed (D.faults disk.old) (D.faults disk.new) result }
 {
-    for _ in 0..=p.entry().columns.as_slice().len() {
+    for _ in 0..p.entry().columns.as_slice().len() + 1 {
         match job.advance(alloc, p, disk) {
             Ok(()) => {}
             Err(fault) => return Err(fault),

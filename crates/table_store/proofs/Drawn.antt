@@ -115,7 +115,7 @@ drawn_few columns containers most next version narrow few upto =
     omega arith
 
 -- what stands at a place of the catalogue
-entry_small : (root : Catalogue) (stores : List (List Projected)) (i j : ℕ) (parts : List Projected) (old : Projected) → IsValid root → map (λ ps. map (λ p. p.entry) ps) stores ≡ map (λ t. t.projections) root.tables
+pub entry_small : (root : Catalogue) (stores : List (List Projected)) (i j : ℕ) (parts : List Projected) (old : Projected) → IsValid root → map (λ ps. map (λ p. p.entry) ps) stores ≡ map (λ t. t.projections) root.tables
     → i < length stores → parts ≡ get_or stores i parts → j < length parts → old ≡ get_or parts j old
     → (length old.entry.columns ≤ 64) × ((most : ℕ) → FewContainers most root → length old.entry.containers ≤ most)
 entry_small root stores i j parts old valid entries lt parts_are below old_is =

@@ -1,0 +1,3 @@
+pub mod Writing
+pub mod Holding
+pub mod Raising
