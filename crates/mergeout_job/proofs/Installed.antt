@@ -116,7 +116,7 @@ install_keeps disk {old} {mid} {new} one p entry j made js memory next after end
     let others_low : All (IsBelow next) (others flags ks) = all_others (IsBelow next) flags ks below in
     let others_wide : All (IsBelow after) (others flags ks) = All-weaker (IsBelow next) (IsBelow after) (λ k x. wider_below next after k rise.0 x) (others flags ks) others_low in
     let some : 0 < length (chosen flags js) =
-    (let long = both_chosen flags ks js (AllZip-long (IsRemarked after saved.mid) ks js saved.each) in let count = four.four in omega (arith, long, count)) in
+    (let long = both_chosen flags ks js (sym (AllZip-long (IsRemarked after saved.mid) ks js saved.each)) in let count = four.four in omega (arith, long, count)) in
     merge_keeps one m n p entry j.merge (listed made) js (listed memory) merging some at_n
     (λ outs stores. save l n told_l left others_wide outs (stores_below m l es (others flags ks) (others flags p.beside) outs next others_low written stores))
     (unsaved n left) (ap (λ (e : Projection). e.columns) is) (ap (λ (e : Projection). e.containers) is)
@@ -139,7 +139,7 @@ pub merged_count : (next after : ℕ) (j : Mergeout) (old new : Projection) → 
 merged_count next after j old new four is =
     let flags = j.merge.inputs in
     let long = AllZip-long (IsRemarked is.mid is.saved.mid) old.containers is.others is.saved.each in
-    let both = both_chosen flags old.containers is.others long in
+    let both = both_chosen flags old.containers is.others (sym long) in
     let count = four.four in
     let parts = length_replaced flags (listed is.made) is.others (omega (arith, both, count)) in
     let all = ap (λ (e : Projection). length e.containers) is.is in
@@ -190,7 +190,7 @@ merged_levels next after j old new four is light =
     let flags = j.merge.inputs in
     let each = is.saved.each in
     let long = AllZip-long (IsRemarked is.mid is.saved.mid) old.containers is.others each in
-    let both = both_chosen flags old.containers is.others long in
+    let both = both_chosen flags old.containers is.others (sym long) in
     let count = four.four in
     let four_long : length (chosen flags is.others) ≡ 4 = sym both ∙ count in
     let parts = sum_replaced weight flags (listed is.made) is.others (omega (arith, four_long)) in

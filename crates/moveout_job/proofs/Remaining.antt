@@ -102,7 +102,7 @@ others_turn disk {old} {mid} {new} es next after end i flags shown ks js out bs 
         (each_more disk es next after end (others flags (take i ks)) (others flags js) (others flags (take i bs)) k j (beside held fresh) le up first second was marked)))
 
 pub remarked_long : (next after i : ℕ) (ks js : List Container) → i ≤ length ks → AllZip (IsRemarked next after) (take i ks) js → length js ≡ i
-remarked_long next after i ks js le each = sym (AllZip-long (IsRemarked next after) (take i ks) js each) ∙ length-take-le i ks le
+remarked_long next after i ks js le each = AllZip-long (IsRemarked next after) (take i ks) js each ∙ length-take-le i ks le
 
 pub others_all : (es : List Written) (next after i : ℕ) (flags : List Bool) (shown js : List Container) (p : Projected) (found left : Option Contents) → shown ≡ p.entry.containers → IsSound p.entry p.beside → length shown ≤ i
     → RemarksEach es next after (others flags (take i p.entry.containers)) (others flags (take i p.beside)) (others flags js) found left → RemarksEach es next after (others flags p.entry.containers) (others flags p.beside) (others flags js) found left

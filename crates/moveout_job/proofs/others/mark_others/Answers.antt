@@ -18,13 +18,13 @@ loop-i-init g c = record {
   moved = moved_none g.D.Disk c.args.disk.now;
 }
 
-pub vector-requires : goal.vector-requires
-vector-requires g c =
+pub vector-held-requires : goal.vector-held-requires
+vector-held-requires g c =
     let shown : c.as_slice-containers.result.now ≡ c.args.p.now.stored.entry.containers = search rules in
     beside_within c.args.p.now.stored c.as_slice-containers.result.now c.loop-i.i shown c.entry.ensures.sound c.loop-i-test.true
 
-pub fresh_marks-requires : goal.fresh_marks-requires
-fresh_marks-requires g c =
+pub fresh_marks-fresh-requires : goal.fresh_marks-fresh-requires
+fresh_marks-fresh-requires g c =
     let shown : c.as_slice-containers.result.now ≡ c.args.p.now.stored.entry.containers = search rules in
     beside_within c.args.p.now.stored c.as_slice-containers.result.now c.loop-i.i shown c.entry.ensures.sound c.loop-i-test.true
 
@@ -49,8 +49,8 @@ loop-i-preserved g c =
     let k_is : k ≡ get_or ks i k = get_or_default ks i blank k c.loop-i-test.true in
     let long = remarked_long next after i p.entry.containers c.loop-i.out.items (omega (arith, c.loop-i-test.true, ap length shown)) c.loop-i.invariant.each in
     record {
-      held = others_turn g.D.Disk (written_of p.entry) next after end i c.args.left_out.now ks p.entry.containers c.loop-i.out.items c.add.new.containers.items p.beside k j c.vector.result.now c.fresh_marks.result.now c.is_left-left.result
-          shown c.loop-i-test.true within long c.is_left-left.ensures k_is c.vector.ensures c.fresh_marks.ensures c.in-Ok-add.ensures c.loop-i.invariant.next c.in-Ok.ensures.next c.loop-i.invariant.moved c.mark_if.ensures.moved
+      held = others_turn g.D.Disk (written_of p.entry) next after end i c.args.left_out.now ks p.entry.containers c.loop-i.out.items c.add.new.containers.items p.beside k j c.vector-held.result.now c.fresh_marks-fresh.result.now c.is_left-left.result
+          shown c.loop-i-test.true within long c.is_left-left.ensures k_is c.vector-held.ensures c.fresh_marks-fresh.ensures c.in-Ok-add.ensures c.loop-i.invariant.next c.in-Ok.ensures.next c.loop-i.invariant.moved c.mark_if.ensures.moved
           c.loop-i.invariant.held c.in-Ok.ensures.held;
       each = entry_more next after end i ks p.entry.containers c.loop-i.out.items c.add.new.containers.items k j shown c.loop-i-test.true k_is c.in-Ok-add.ensures c.loop-i.invariant.next c.in-Ok.ensures.next c.loop-i.invariant.each c.in-Ok.ensures.entry;
       next = let one = c.in-Ok.ensures.next in let was = c.loop-i.invariant.next in omega (arith, one, was);

@@ -40,6 +40,6 @@ pub returns-in-Ok-write_stamped-clause-moved : goal.returns-in-Ok-write_stamped-
 returns-in-Ok-write_stamped-clause-moved g c =
     moved_join g.D.Disk c.mark_others.ensures.moved (later_data g.D.Disk c.args.next c.in-Ok-mark_others.marked.next c.in-Ok-mark_others.ensures.next c.write_stamped.ensures.moved)
 
-pub returns-clause-moved : goal.returns-clause-moved
-returns-clause-moved g c =
+pub returns-in-Err-write_stamped-clause-moved : goal.returns-in-Err-write_stamped-clause-moved
+returns-in-Err-write_stamped-clause-moved g c =
     moved_join g.D.Disk c.mark_others.ensures.moved (later_data g.D.Disk c.args.next c.in-Ok-mark_others.marked.next c.in-Ok-mark_others.ensures.next c.write_stamped.ensures.moved)
