@@ -56,7 +56,7 @@ fn write_columns<D: Disk>(
 }
 
 /// The entry of a projection after a mergeout from its begin to its end, with numbers from `next` on.
-fn merged<D: Disk>(
+fn merge_out<D: Disk>(
     alloc: Global,
     p: &ProjStore,
     level: u32,
@@ -115,7 +115,7 @@ pub fn merge<D: Disk>(
 {
     let (mark, next) = (store.root().ahm, store.root().next);
     let p = &store.tables()[table].as_slice()[place];
-    let merged = match merged(alloc, p, level, mark, next, disk) {
+    let merged = match merge_out(alloc, p, level, mark, next, disk) {
         Ok(merged) => merged,
         Err(fault) => return Err(fault),
     };

@@ -8,4 +8,4 @@ use Rattle.mergeout_job.specs.Oldest.{AreFour}
 use Rattle.moveout_job.proofs.Renewed.{later_data}
 use Rattle.proj_store.specs.Reading.{BlamesRows}
 use Rattle.table_jobs.proofs.Holding.{keeps_before, merging_kept, of_disk_blames, reached_later, renewal_of}
-use Rattle.table_jobs.proofs.merging.merged.Goals as goal
+use Rattle.table_jobs.proofs.merging.merge_out.Goals as goal
