@@ -111,7 +111,7 @@ raise_fails disk {old} {new} was root i j p f d rooted there fresh moved stands 
 
 -- ---- the numbers
 
-entry_in : (pss : List (List Projected)) (ts : List kept.Table) (i j : ℕ) (p : Projected) (P : Projection → Type 0) → map (λ ps. map (λ q. q.entry) ps) pss ≡ map (λ t. t.projections) ts → IsOwnAt pss i j p → P p.entry
+pub entry_in : (pss : List (List Projected)) (ts : List kept.Table) (i j : ℕ) (p : Projected) (P : Projection → Type 0) → map (λ ps. map (λ q. q.entry) ps) pss ≡ map (λ t. t.projections) ts → IsOwnAt pss i j p → P p.entry
     → IsSomeAnd (slice_get ts i) (λ t. IsSomeAnd (slice_get t.projections j) P)
 entry_in [] ts i j p P are there is = absurd there
 entry_in (ps ∷ pss) [] i j p P are there is = absurd (cc)

@@ -113,11 +113,14 @@ pub fn merge<D: Disk>(
     ensures same { OnErr result (store.new ≡ store.old) }
     ensures cause { HasCause StoreFault.Disk (D.faults disk.old) (D.faults disk.new) result }
 {
-    let (mark, next) = (store.root().ahm, store.root().next);
+    let root = store.root();
     let p = &store.tables()[table].as_slice()[place];
-    let merged = match merge_out(alloc, p, level, mark, next, disk) {
+    let merged = match merge_out(alloc, p, level, root.ahm, root.next, disk) {
         Ok(merged) => merged,
         Err(fault) => return Err(fault),
     };
+    if merged.entry.lge > store.last() {
+        return Err(StoreFault::Memory);
+    }
     store.install(alloc, table, place, merged.entry, merged.next, disk)
 }

@@ -16,9 +16,6 @@ use Rattle.table_store.proofs.Makes.{move_held, move_seen, store_done, store_mak
 use Rattle.table_store.proofs.Unblamed.{load_unblamed, of_disk}
 use Rattle.table_store.proofs.store.TableStore.install.Goals as goal
 
-pub returns-then-clause-made : goal.returns-then-clause-made
-returns-then-clause-made g c = λ d stands holds. nothing_done g.D.Disk fault.Memory c.args.disk.now c.args.self.now fault.Memory d (reached_at c.args.entry.lge c.args.table c.args.place d) stands
-
 pub returns-in-Err-clause-made : goal.returns-in-Err-clause-made
 returns-in-Err-clause-made g c = λ d stands holds.
     read_only g.D.Disk fault.Memory c.args.self.now c.args.self.now c.in-Err.fault d (reached_at c.args.entry.lge c.args.table c.args.place d) stands c.read_again.ensures.looks
