@@ -88,7 +88,7 @@ columns_below columns (k ∷ ks) all q found = by (eqb q k.ordinal) refl (column
         omega arith
     by false is behind there = behind there
 
-columns_most : (c : Catalogue) (t : kept.Table) (p : Projection) → IsProjection c t p → length p.columns ≤ length t.columns
+pub columns_most : (c : Catalogue) (t : kept.Table) (p : Projection) → IsProjection c t p → length p.columns ≤ length t.columns
 columns_most c t p is =
     let most : length (map (λ (k : ProjColumn). k.ordinal) p.columns) ≤ length t.columns =
     length-le_from_distinct_below (map (λ k. k.ordinal) p.columns) (length t.columns) (ordinals_distinct p.columns is.columns_once) (columns_below t.columns p.columns is.columns) in
