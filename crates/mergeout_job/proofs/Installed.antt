@@ -4,6 +4,7 @@ use Rattle.std.specs.Prelude.{Option, Some, None, IfSome, sum_by}
 use Rattle.std.specs.Option.{option_map_or}
 use Rattle.std.specs.List.{All, AllZip}
 use Rattle.std.proofs.lemmas.List.{length-append, append-nil, drop_all, length-map}
+use Rattle.std.proofs.Math.Nat.{pow-succ'}
 use Rattle.std.proofs.lemmas.List.Sums.{sum_by-cons, sum_by-append}
 use Rattle.std.proofs.lemmas.Slice.Zip.{AllZip-long}
 use Rattle.std.proofs.lemmas.List.Elements.{All-nil, All-cons, All-append, All-head, All-tail, All-weaker}
@@ -168,11 +169,8 @@ levels_same next after level (true ∷ flags) (k ∷ ks) (j ∷ js) (one, each) 
     All-cons (λ x. x.level ≡ level) j (chosen flags js) (one.level ∙ All-head (λ x. x.level ≡ level) k (chosen flags ks) all) (levels_same next after level flags ks js each (All-tail (λ x. x.level ≡ level) k (chosen flags ks) all))
 levels_same next after level (false ∷ flags) (k ∷ ks) (j ∷ js) (one, each) all = levels_same next after level flags ks js each all
 
-power_suc : (n : ℕ) → 4 ^ suc n ≡ 4 * 4 ^ n
-power_suc n = refl
-
 power_more : (n : ℕ) → 4 ^ (n + 1) ≡ 4 * 4 ^ n
-power_more n = let next : n + 1 ≡ suc n = omega arith in ap (λ (k : ℕ). 4 ^ k) next ∙ power_suc n
+power_more n = let next : n + 1 ≡ suc n = omega arith in ap (λ (k : ℕ). 4 ^ k) next ∙ pow-succ' 4 n
 
 made_weighs : (columns level next after : ℕ) (d : Drafted) (made : Option Container) → AreFinished columns (level + 1) next after d made → weights (listed made) ≤ 4 * 4 ^ level
 made_weighs columns level next after d None is = omega arith
