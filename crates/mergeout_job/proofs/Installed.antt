@@ -1,9 +1,10 @@
 -- What the entry after a mergeout holds.
-use Rattle.std.proofs.Common.{◌≡◌, ℕ, ◌+◌, ◌*◌, ◌<◌, ◌≤◌, ◌^◌, ◌++◌, Bool, true, false, List, [], ◌∷◌, length, map, refl, sym, ap, ap₂, ◌∙◌, arith, subst, inl, inr}
+use Rattle.std.proofs.Common.{◌≡◌, ℕ, suc, ◌+◌, ◌*◌, ◌<◌, ◌≤◌, ◌^◌, ◌++◌, Bool, true, false, List, [], ◌∷◌, length, map, refl, sym, ap, ap₂, ◌∙◌, arith, subst, inl, inr}
 use Rattle.std.specs.Prelude.{Option, Some, None, IfSome, sum_by}
 use Rattle.std.specs.Option.{option_map_or}
 use Rattle.std.specs.List.{All, AllZip}
 use Rattle.std.proofs.lemmas.List.{length-append, append-nil, drop_all, length-map}
+use Rattle.std.proofs.Math.Nat.{pow-succ'}
 use Rattle.std.proofs.lemmas.List.Sums.{sum_by-cons, sum_by-append}
 use Rattle.std.proofs.lemmas.Slice.Zip.{AllZip-long}
 use Rattle.std.proofs.lemmas.List.Elements.{All-nil, All-cons, All-append, All-head, All-tail, All-weaker}
@@ -169,7 +170,7 @@ levels_same next after level (true ∷ flags) (k ∷ ks) (j ∷ js) (one, each) 
 levels_same next after level (false ∷ flags) (k ∷ ks) (j ∷ js) (one, each) all = levels_same next after level flags ks js each all
 
 power_more : (n : ℕ) → 4 ^ (n + 1) ≡ 4 * 4 ^ n
-power_more n = grind arith
+power_more n = let next : n + 1 ≡ suc n = omega arith in ap (λ (k : ℕ). 4 ^ k) next ∙ pow-succ' 4 n
 
 made_weighs : (columns level next after : ℕ) (d : Drafted) (made : Option Container) → AreFinished columns (level + 1) next after d made → weights (listed made) ≤ 4 * 4 ^ level
 made_weighs columns level next after d None is = omega arith
@@ -269,3 +270,55 @@ merged_loads next after j old new low base is loadable =
       vectors = All-append HasVectorNumber (replaced flags (listed is.made) is.others) (listed is.memory) (all_replaced HasVectorNumber flags (listed is.made) is.others output.1 vectors) (all_in HasVectorNumber is.memory memory.1);
       sort = loadable.sort;
     })
+
+-- ---- what the calls answered, of the job as it is seen
+
+output_at : (next mid level : ℕ) (inside self : Mergeout) (shape old : Projection) (made : Option Container) → inside ≡ self → shape ≡ old → level ≡ inside.level + 1 → AreFinished (length shape.columns) level next mid inside.draft made
+    → AreFinished (length old.columns) (self.level + 1) next mid self.draft made
+output_at next mid level inside self shape old made self_is shape_is level_is output =
+    subst (λ (j : Mergeout). AreFinished (length old.columns) (j.level + 1) next mid j.draft made) self_is
+    (subst (λ (e : Projection). AreFinished (length e.columns) (inside.level + 1) next mid inside.draft made) shape_is (subst (λ (n : ℕ). AreFinished (length shape.columns) n next mid inside.draft made) level_is output))
+
+entry_at : (inside self : Mergeout) (shape old entry : Projection) (made memory : Option Container) (js shown : List Container) (inputs : List Bool) → inside ≡ self → shape ≡ old → inputs ≡ inside.merge.inputs → shown ≡ js
+    → entry ≡ with_containers (replaced inputs (listed made) shown ++ listed memory) (length (listed memory)) shape → entry ≡ with_containers (merged self made js memory) (length (listed memory)) old
+entry_at inside self shape old entry made memory js shown inputs self_is shape_is inputs_are shown_is is =
+    is ∙ ap (with_containers (replaced inputs (listed made) shown ++ listed memory) (length (listed memory))) shape_is
+    ∙ ap (λ (ks : List Container). with_containers (ks ++ listed memory) (length (listed memory)) old) (ap₂ (λ (fs : List Bool) (ks : List Container). replaced fs (listed made) ks) (inputs_are ∙ ap (λ (j : Mergeout). j.merge.inputs) self_is) shown_is)
+
+pub merged_is : (next mid after level : ℕ) (inside self : Mergeout) (shape shape_too old entry : Projection) (made memory : Option Container) (js shown : List Container) (inputs : List Bool) → inside ≡ self → shape ≡ old → shape_too ≡ old → level ≡ inside.level + 1
+    → AreFinished (length shape.columns) level next mid inside.draft made → AreSaved mid after (length old.columns) old.containers js memory → inputs ≡ inside.merge.inputs → shown ≡ js
+    → entry ≡ with_containers (replaced inputs (listed made) shown ++ listed memory) (length (listed memory)) shape_too → IsMerged next after self old entry
+merged_is next mid after level inside self shape shape_too old entry made memory js shown inputs self_is shape_is too_is level_is output saved inputs_are shown_is is = record {
+  made = made;
+  others = js;
+  memory = memory;
+  mid = mid;
+  output = output_at next mid level inside self shape old made self_is shape_is level_is output;
+  saved = saved;
+  is = entry_at inside self shape_too old entry made memory js shown inputs self_is too_is inputs_are shown_is is;
+}
+
+pub keeps_at : {D : Type 0} (disk : Ghosts D) {old mid new : D} → OneContainer → (p : Projected) (shape shape_too entry : Projection) (inside self : Mergeout) (made memory : Option Container) (js shown : List Container) (next after end level : ℕ)
+    (dels dels_shown : List (Option ℕ)) (flags : List Bool) (places : List ℕ) → inside ≡ self → shape ≡ p.entry → shape_too ≡ p.entry → level ≡ inside.level + 1 → AreFour self.level self.merge.inputs p.entry.containers
+    → self.draft.base + file_count (length p.entry.columns) ≤ next → inside.draft.rows ≡ inside.merge.rows → flags ≡ inside.merge.inputs → places ≡ inside.merge.places → dels_shown ≡ dels → shown ≡ js
+    → dels ≡ dels_at (deletes_in (chosen flags p.entry.containers) (chosen flags p.beside)) places
+    → ((m l : Contents) → disk.holds old ≡ Some m → disk.holds mid ≡ Some l → Finishes made (written_of shape) (length shape.columns) next inside.draft dels_shown m l)
+    → AreFinished (length shape.columns) level next after inside.draft made → Moved disk (Named (vector_file next)) NoName old mid
+    → SavesOthers after flags p js (disk.holds mid) (disk.holds new) → ((n : Contents) → disk.holds new ≡ Some n → HoldsBag n (written_of p.entry) (listed memory) p.unsaved) → AreSaved after end (length p.entry.columns) p.entry.containers js memory
+    → Moved disk (DataFrom after) NoName mid new → entry ≡ with_containers (replaced flags (listed made) shown ++ listed memory) (length (listed memory)) shape_too
+    → (m n : Contents) → disk.holds old ≡ Some m → disk.holds new ≡ Some n → IsListedBelow next p.entry → IsMerging m p self.merge → IsDraft m (written_of p.entry) self.draft → length p.entry.columns < self.draft.done
+    → KeepsFrom self.merge.mark m n p entry
+keeps_at disk {old} {mid} {new} one p shape shape_too entry inside self made memory js shown next after end level dels dels_shown flags places self_is shape_is too_is level_is four base rows_same flags_are places_are dels_is shown_is dels_are finish output first save unsaved saved second is =
+    let flags_self : flags ≡ self.merge.inputs = flags_are ∙ ap (λ (j : Mergeout). j.merge.inputs) self_is in
+    let places_self : places ≡ self.merge.places = places_are ∙ ap (λ (j : Mergeout). j.merge.places) self_is in
+    let same : self.draft.rows ≡ self.merge.rows = subst (λ (j : Mergeout). j.draft.rows ≡ j.merge.rows) self_is rows_same in
+    let dels_self : dels ≡ dels_at (deletes_in (chosen self.merge.inputs p.entry.containers) (chosen self.merge.inputs p.beside)) self.merge.places =
+    dels_are ∙ ap₂ (λ (fs : List Bool) (ps : List ℕ). dels_at (deletes_in (chosen fs p.entry.containers) (chosen fs p.beside)) ps) flags_self places_self in
+    install_keeps disk {old = old} {mid = mid} {new = new} one p entry self made js memory next after end dels four base same dels_self
+    (λ m l told told_l.
+    subst (λ (ds : List (Option ℕ)). Finishes made (written_of p.entry) (length p.entry.columns) next self.draft ds m l) dels_is
+    (subst (λ (j : Mergeout). Finishes made (written_of p.entry) (length p.entry.columns) next j.draft dels_shown m l) self_is
+    (subst (λ (e : Projection). Finishes made (written_of e) (length e.columns) next inside.draft dels_shown m l) shape_is (finish m l told told_l))))
+    (output_at next after level inside self shape p.entry made self_is shape_is level_is output) first
+    (subst (λ (fs : List Bool). SavesOthers after fs p js (disk.holds mid) (disk.holds new)) flags_self save) unsaved saved second
+    (entry_at inside self shape_too p.entry entry made memory js shown flags self_is too_is flags_are shown_is is)

@@ -34,11 +34,12 @@ record Chooses (n level : ℕ) (ks : List Container) : Type 0 where
 chooses : (n level : ℕ) (ks : List Container) → n ≤ length (filter (is_level level) ks) → Chooses n level ks
 chooses zero level ks le = record { count = refl; all = All-nil (λ k. k.level ≡ level) }
 chooses (suc n) level [] le = absurd (omega (arith, le))
-chooses (suc n) level (k ∷ ks) le = by (is_level level k) refl le
+chooses (suc n) level (k ∷ ks) le = by (is_level level k) refl le (chooses n level ks) (chooses (suc n) level ks)
   where
-    by : (b : Bool) → is_level level k ≡ b → suc n ≤ length (cond b (k ∷ filter (is_level level) ks) (filter (is_level level) ks)) → Chooses (suc n) level (k ∷ ks)
-    by true is some =
-        let rest = chooses n level ks (omega (arith, some)) in
+    by : (b : Bool) → is_level level k ≡ b → suc n ≤ length (cond b (k ∷ filter (is_level level) ks) (filter (is_level level) ks))
+        → (n ≤ length (filter (is_level level) ks) → Chooses n level ks) → (suc n ≤ length (filter (is_level level) ks) → Chooses (suc n) level ks) → Chooses (suc n) level (k ∷ ks)
+    by true is some one other =
+        let rest = one (omega (arith, some)) in
         let flags : oldest (suc n) level (k ∷ ks) ≡ true ∷ oldest n level ks = ap (λ (b : Bool). b ∷ oldest (cond b n (suc n)) level ks) is in
         let are : chosen (oldest (suc n) level (k ∷ ks)) (k ∷ ks) ≡ k ∷ chosen (oldest n level ks) ks = ap (λ (fs : List Bool). chosen fs (k ∷ ks)) flags in
         let here : k.level ≡ level = eqb-true k.level level is in
@@ -46,8 +47,8 @@ chooses (suc n) level (k ∷ ks) le = by (is_level level k) refl le
           count = ap length are ∙ (let c = rest.count in omega (arith, c));
           all = subst (All (λ x. x.level ≡ level)) (sym are) (All-cons (λ x. x.level ≡ level) k (chosen (oldest n level ks) ks) here rest.all);
         }
-    by false is some =
-        let rest = chooses (suc n) level ks some in
+    by false is some one other =
+        let rest = other some in
         let flags : oldest (suc n) level (k ∷ ks) ≡ false ∷ oldest (suc n) level ks = ap (λ (b : Bool). b ∷ oldest (cond b n (suc n)) level ks) is in
         let are : chosen (oldest (suc n) level (k ∷ ks)) (k ∷ ks) ≡ chosen (oldest (suc n) level ks) ks = ap (λ (fs : List Bool). chosen fs (k ∷ ks)) flags in
         record { count = ap length are ∙ rest.count; all = subst (All (λ x. x.level ≡ level)) (sym are) rest.all }

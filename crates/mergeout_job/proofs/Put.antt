@@ -23,15 +23,16 @@ step_one true false flags made k ks = refl
 step_one false true flags made k ks = refl
 step_one false false flags made k ks = refl
 
+drop_none : (n : ℕ) → drop {A = Bool} n [] ≡ []
+drop_none zero = refl
+drop_none (suc n) = refl
+
 left_suc : (first : Bool) (i : ℕ) (flags : List Bool) (made ks : List Container) (k : Container) → i < length ks → k ≡ get_or ks i k
     → left_of first (drop i flags) made (drop i ks) ≡ put_at (slice_index_or flags i false) first made k ++ left_of (cond (slice_index_or flags i false) false first) (drop (suc i) flags) made (drop (suc i) ks)
 left_suc first i flags made [] k lt is = absurd (omega (arith, lt))
 left_suc first zero [] made (x ∷ ks) k lt is = step_none first made x ks ∙ ap (λ (y : Container). y ∷ left_of first [] made ks) (sym is)
 left_suc first zero (f ∷ flags) made (x ∷ ks) k lt is = step_one first f flags made x ks ∙ ap (λ (y : Container). put_at f first made y ++ left_of (cond f false first) flags made ks) (sym is)
-left_suc first (suc i) [] made (x ∷ ks) k lt is = left_suc first i [] made ks k (omega (arith, lt)) is ∙ ap (λ (fs : List Bool). put_at false first made k ++ left_of first fs made (drop (suc i) ks)) (none i)
-  where
-    none : (n : ℕ) → drop (suc n) [] ≡ []
-    none n = refl
+left_suc first (suc i) [] made (x ∷ ks) k lt is = ap (λ (fs : List Bool). left_of first fs made (drop i ks)) (sym (drop_none i)) ∙ left_suc first i [] made ks k (omega (arith, lt)) is
 left_suc first (suc i) (f ∷ flags) made (x ∷ ks) k lt is = left_suc first i flags made ks k (omega (arith, lt)) is
 
 pub left_more : (first : Bool) (i : ℕ) (flags : List Bool) (made ks all : List Container) (k : Container) (out more : List Container) (flag now : Bool) → i < length ks → k ≡ get_or ks i k → flag ≡ slice_index_or flags i false

@@ -18,7 +18,7 @@ abbrev pub HasFour : ℕ → List Container → Type 0
 HasFour level ks = 4 ≤ length (filter (is_level level) ks)
 
 -- flags choose four containers, of one level
-pub record AreFour (level : ℕ) (inputs : List Bool) (ks : List Container) : Type 0 where
+pub record AreFour (height : ℕ) (inputs : List Bool) (ks : List Container) : Type 0 where
   pub within : length inputs ≤ length ks
   pub four : length (chosen inputs ks) ≡ 4
-  pub level : All (λ k. k.level ≡ level) (chosen inputs ks)
+  pub level : All (λ k. k.level ≡ height) (chosen inputs ks)

@@ -14,3 +14,4 @@ mod remarking;
 
 pub use job::{MovedOut, moveout};
 pub use others::{Saved, save_memory};
+pub use remarking::{Remarked, mark_one};

@@ -21,6 +21,8 @@ use Rattle.catalog_types.specs.declared.catalogue.ProjColumn.{ProjColumn}
 use Rattle.catalog_types.specs.declared.catalogue.Projection.{Projection}
 use Rattle.catalog_types.specs.Numbers.{file_count}
 use Rattle.ros_container.specs.Encodings.{Written, written_of}
+use Rattle.ros_container.specs.Rows.{AreWide}
+use Rattle.container_draft.proofs.Rising.{wide_at}
 use Rattle.ros_container.specs.Readable.{HasDefaultValue, IsReadable}
 use Rattle.stored_rows.specs.Held.{HoldsRows, Holds}
 use Rattle.stored_rows.specs.Listed.{vector_file}
@@ -36,7 +38,7 @@ use Rattle.merge_rows.specs.Rewritten.{rewritten_to}
 use Rattle.container_draft.specs.Draft.{Drafted, IsDraft}
 use Rattle.container_draft.specs.Finished.{IsFinished, AreFinished}
 use Rattle.container_draft.specs.Keeping.{dels_at}
-use Rattle.container_draft.specs.Placed.{all_at}
+use Rattle.container_draft.specs.Placed.{asked_at, all_at, seen}
 use Rattle.container_draft.specs.Reading.{del_of}
 use Rattle.container_draft.proofs.Joined.{asked_at_places, dels_at_places}
 use Rattle.container_draft.proofs.OneOrder.{one_order}
@@ -46,17 +48,17 @@ use Rattle.moveout_job.proofs.Renewed.{between, rows_below, rows_join, vector_da
 use Rattle.mergeout_job.proofs.Installed.{finished_below, finished_reads, finished_rises, all_in}
 use Rattle.refresh_job.specs.Job.{AreOrdered, HoldsBoth, Refreshing, IsRefreshing, IsRefreshed, RefreshesFrom}
 use Rattle.refresh_job.specs.Rows.{wanted}
-use Rattle.refresh_job.proofs.Firsts.{first_asked, both_keep, all_placed, rows_placed}
+use Rattle.refresh_job.proofs.Firsts.{first_asked, both_keep, all_placed, rows_placed, sorted_at}
 
 -- ---- the rows in order
 
-pub are_ordered : (shape : Projection) (rows : List Stamped) (asked : List Asked) (dels shown now : List (Option ℕ)) (places places_shown : List ℕ) → asked ≡ map asked_of rows → SameBag (range_with_len 0 (length asked)) places → IsSorted (container_cmp shape) (all_at asked places)
+pub are_ordered : (shape : Projection) (rows : List Stamped) (asked : List Asked) (dels shown now : List (Option ℕ)) (places places_shown : List ℕ) → asked ≡ map asked_of rows → SameBag (range_with_len 0 (length asked)) places → IsSorted (λ i j. container_cmp shape (asked_at asked i) (asked_at asked j)) places
     → dels ≡ map del_of rows → shown ≡ dels → places_shown ≡ places → now ≡ dels_at shown places_shown → AreOrdered shape rows now
-are_ordered shape rows asked dels shown now places places_shown asked_are same sorted dels_are slice slice_too is =
+are_ordered shape rows asked dels shown now places places_shown asked_are same rising dels_are slice slice_too is =
     let long : length asked ≡ length rows = ap length asked_are ∙ length-map rows asked_of in (
       places,
       subst (λ (n : ℕ). SameBag (range_with_len 0 n) places) long same,
-      subst (λ (xs : List Asked). IsSorted (container_cmp shape) (all_at xs places)) asked_are sorted,
+      subst (λ (xs : List Asked). IsSorted (container_cmp shape) (all_at xs places)) asked_are (sorted_at shape asked places rising),
       is ∙ ap₂ dels_at (slice ∙ dels_are) slice_too,
     )
 
@@ -166,3 +168,68 @@ refreshed_loads last next after r old new low base is sort =
       vectors = All-append HasVectorNumber (listed is.first) (listed is.later) first.1 (all_in HasVectorNumber is.later later.1);
       sort = sort;
     })
+
+-- ---- the beginning
+
+-- rows of a source that were brought in order
+pub begun : (m : Contents) (source : Projected) (shape : Projection) (mark epoch : ℕ) (via shown_via : List ℕ) (rows shown : List Stamped) (d : Drafted) → Stores m source rows → shown ≡ rows → shown_via ≡ via
+    → SameBag d.rows (map asked_of (wanted mark epoch false shown_via shown)) → IsSorted (container_cmp shape) d.rows → IsRefreshing m source shape (record { mark = mark; epoch = epoch; via = via; draft = d })
+begun m source shape mark epoch via shown_via rows shown d stores same same_via bag sorted = record {
+  stored = rows;
+  are = stores;
+  rows = subst (SameBag d.rows) (ap₂ (λ (vs : List ℕ) (xs : List Stamped). map asked_of (wanted mark epoch false vs xs)) same_via same ∙ first_asked mark epoch via rows) bag;
+  ordered = sorted;
+}
+
+pub draft_rows : (rows : List Stamped) (asked : List Asked) (places : List ℕ) (base : ℕ) (d : Drafted) → asked ≡ map asked_of rows → SameBag (range_with_len 0 (length asked)) places → d ≡ seen asked places base 0 → SameBag d.rows (map asked_of rows)
+draft_rows rows asked places base d asked_are same is =
+    subst (λ (x : Drafted). SameBag x.rows (map asked_of rows)) (sym is) (subst (SameBag (all_at asked places)) asked_are (all_placed asked places same))
+
+pub draft_sorted : (shape : Projection) (asked : List Asked) (places : List ℕ) (base : ℕ) (d : Drafted) → IsSorted (λ i j. container_cmp shape (asked_at asked i) (asked_at asked j)) places → d ≡ seen asked places base 0 → IsSorted (container_cmp shape) d.rows
+draft_sorted shape asked places base d rising is = subst (λ (x : Drafted). IsSorted (container_cmp shape) x.rows) (sym is) (sorted_at shape asked places rising)
+
+pub draft_is : (m : Contents) (shape : Projection) (asked shown : List Asked) (places : List ℕ) (columns base : ℕ) (d : Drafted) → columns ≡ length (written_of shape) → shown ≡ asked → AreWide columns shown → All (λ i. i < length asked) places → d ≡ seen asked places base 0 → IsDraft m (written_of shape) d
+draft_is m shape asked shown places columns base d long same wide within is =
+    subst (IsDraft m (written_of shape)) (sym is)
+    (record {
+      wide = subst (λ (n : ℕ). AreWide n (all_at asked places)) long (wide_at columns asked places (subst (AreWide columns) same wide) within);
+      columns = λ some i lt inside. absurd (omega (arith, lt));
+    })
+
+-- ---- of the job as it is seen
+
+pub rest_at : {D : Type 0} (disk : Ghosts D) {old mid new : D} (shape entry : Projection) (inside self : Refreshing) (first later : Option Container) (rows : List Stamped) (via : List ℕ) (dels shown : List (Option ℕ)) (last born next after end : ℕ) → inside ≡ self → via ≡ inside.via → shown ≡ dels
+    → AreOrdered shape (wanted inside.mark inside.epoch false via rows) dels
+    → ((m l : Contents) → disk.holds old ≡ Some m → disk.holds mid ≡ Some l → IsDraft m (written_of shape) inside.draft → length shape.columns < inside.draft.done → inside.draft.base + file_count (length shape.columns) ≤ next → (all : List Stamped)
+    → map asked_of all ≡ inside.draft.rows → map del_of all ≡ shown → HoldsRows l (written_of shape) (listed first) all)
+    → AreFinished (length shape.columns) 0 next after inside.draft first → Moved disk (Named (vector_file next)) NoName old mid
+    → ((n : Contents) → disk.holds new ≡ Some n → HoldsBag n (written_of shape) (listed later) (wanted inside.mark inside.epoch true via rows)) → Moved disk (DataFrom after) NoName mid new
+    → entry ≡ rewritten_to last born (listed first ++ listed later) shape
+    → (m n : Contents) → disk.holds old ≡ Some m → disk.holds new ≡ Some n → IsSorted (container_cmp shape) self.draft.rows → SameBag self.draft.rows (map asked_of (wanted self.mark self.epoch false self.via rows)) → IsDraft m (written_of shape) self.draft
+    → length shape.columns < self.draft.done → self.draft.base + file_count (length shape.columns) ≤ next → HoldsBoth n entry (wanted self.mark self.epoch false self.via rows) (wanted self.mark self.epoch true self.via rows)
+rest_at disk {old} {mid} {new} shape entry inside self first later rows via dels shown last born next after end self_is via_is shown_is ordered finish finished moved bag second is m n told left =
+    subst
+    (λ (r : Refreshing). IsSorted (container_cmp shape) r.draft.rows → SameBag r.draft.rows (map asked_of (wanted r.mark r.epoch false r.via rows)) → IsDraft m (written_of shape) r.draft → length shape.columns < r.draft.done
+    → r.draft.base + file_count (length shape.columns) ≤ next → HoldsBoth n entry (wanted r.mark r.epoch false r.via rows) (wanted r.mark r.epoch true r.via rows))
+    self_is
+    (λ sorted same draft done base.
+    subst (λ (vs : List ℕ). HoldsBoth n entry (wanted inside.mark inside.epoch false vs rows) (wanted inside.mark inside.epoch true vs rows)) via_is
+    (rest_held disk {old = old} {mid = mid} {new = new} shape entry inside.draft first later (wanted inside.mark inside.epoch false via rows) (wanted inside.mark inside.epoch true via rows) dels last born next after end ordered
+    (λ k l before at d lt low all asked dels_are. finish k l before at d lt low all asked (dels_are ∙ sym shown_is)) finished moved bag second is m n told left sorted
+    (subst (λ (vs : List ℕ). SameBag inside.draft.rows (map asked_of (wanted inside.mark inside.epoch false vs rows))) (sym via_is) same) draft done base))
+
+pub install_at : OneContainer → (m n : Contents) (source : Projected) (shape entry : Projection) (r : Refreshing) (rows shown : List Stamped) → shown ≡ rows → (HasVectors m source → Stores m source rows) → IsRefreshing m source shape r
+    → (IsSorted (container_cmp shape) r.draft.rows → SameBag r.draft.rows (map asked_of (wanted r.mark r.epoch false r.via shown)) → HoldsBoth n entry (wanted r.mark r.epoch false r.via shown) (wanted r.mark r.epoch true r.via shown)) → RefreshesFrom r.mark r.via m n source entry
+install_at one m n source shape entry r rows shown slice reads is both =
+    let read : Stores m source rows = reads (vectors_of m source shape r is) in
+    let bag = same_first one m source shape r rows read is in
+    refreshes one m n source shape entry r rows read is
+    (subst (λ (xs : List Stamped). HoldsBoth n entry (wanted r.mark r.epoch false r.via xs) (wanted r.mark r.epoch true r.via xs)) slice
+    (both is.ordered (subst (λ (xs : List Stamped). SameBag r.draft.rows (map asked_of (wanted r.mark r.epoch false r.via xs))) (sym slice) bag)))
+
+pub all_level : (first later : Option Container) (columns next mid : ℕ) (d : Drafted) → AreFinished columns 0 next mid d first → IfSome later (λ k. k.level ≡ 0) → All (λ k. k.level ≡ 0) (listed first ++ listed later)
+all_level first later columns next mid d output level = All-append (λ (k : Container). k.level ≡ 0) (listed first) (listed later) (by first output) (all_in (λ k. k.level ≡ 0) later level)
+  where
+    by : (o : Option Container) → AreFinished columns 0 next mid d o → All (λ k. k.level ≡ 0) (listed o)
+    by None none = All-nil (λ k. k.level ≡ 0)
+    by (Some k) one = All-cons (λ x. x.level ≡ 0) k [] one.level (All-nil (λ x. x.level ≡ 0))

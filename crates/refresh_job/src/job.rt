@@ -123,11 +123,8 @@ fn drafted(
     ensures base { IfOk result (λ d. d.base ≡ base) }
     ensures done { IfOk result (λ d. d.done ≡ 0) }
 {
-    let Ordered {
-        rows,
-        dels: _,
-        places,
-    } = ordered(alloc, shape, rows, via, mark, epoch)?;
+    let Ordered { rows, dels, places } = ordered(alloc, shape, rows, via, mark, epoch)?;
+    drop(dels);
     all_wide(rows.as_slice(), shape.columns.as_slice().len())?;
     Ok(Draft::new(rows, places, base))
 }
@@ -186,12 +183,11 @@ fn deletes_now(
     ensures count { IfOk result (λ v. length v.items ≡ count) }
     ensures now { IfOk result (λ v. AreOrdered shape.now (wanted mark epoch false via.now rows.now) v.items) }
 {
-    let Ordered { rows, dels, places } = ordered(alloc, shape, rows, via, mark, epoch)?;
-    drop(rows);
-    if places.len() != count {
+    let found = ordered(alloc, shape, rows, via, mark, epoch)?;
+    if found.places.len() != count {
         return Err(AllocError);
     }
-    deletes_at(alloc, dels.as_slice(), places.as_slice())
+    deletes_at(alloc, found.dels.as_slice(), found.places.as_slice())
 }
 
 /// The rows that came after an epoch, as a container.

@@ -1,5 +1,4 @@
 use Rattle.std.proofs.Common.{take}
-use Rattle.std.specs.Prelude.{length}
 use Rattle.ros_container.specs.Rows.{AreWide}
 use Rattle.refresh_job.proofs.job.all_wide.Given as goal
 
