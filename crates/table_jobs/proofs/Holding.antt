@@ -163,3 +163,6 @@ pub own_shape : (m : Contents) (c : Catalogue) (stores : List (List Projected)) 
 own_shape m c stores d i j p P there are is =
     at_table m c.ahm c.tables stores d.tables i (λ ps. IsSomeAnd (slice_get ps j) (λ q. q ≡ p)) (λ u. IsSomeAnd (slice_get u.shapes j) P) are.tables there
     (λ t ps u own stands. shape_at ps u.shapes j p P (stands.shapes ∙ ap (map shape_of) (sym stands.entries) ∙ map_twice shape_of (λ (q : Projected). q.entry) ps) own is)
+
+pub own_stores : (m : Contents) (mark : ℕ) (p : Projected) (d : Database) (i : ℕ) → IsSomeAnd (slice_get d.tables i) (HasOwn m mark p) → (rows : List Stamped) × Stores m p rows
+own_stores m mark p d i own = some_tells (slice_get d.tables i) (HasOwn m mark p) ((rows : List Stamped) × Stores m p rows) (λ u has. (has.history.stored, has.history.are)) own

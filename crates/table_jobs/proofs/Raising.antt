@@ -6,6 +6,7 @@ use Rattle.std.specs.List.{All, slice_get}
 use Rattle.std.proofs.lemmas.List.{length-map}
 use Rattle.std.proofs.lemmas.List.Elements.{All-head, All-tail}
 use Rattle.common_laws.specs.Maps.{Contents}
+use Rattle.col_disk.specs.Faults.{IsUnblamed}
 use Rattle.col_disk.specs.Moved.{Moved, NoName}
 use Rattle.col_disk.specs.declared.disk.Disk.{Ghosts}
 use Rattle.col_disk.specs.declared.disk.StoreFault.{StoreFault}
@@ -16,9 +17,11 @@ use Rattle.catalog_types.specs.declared.catalogue.Table as kept
 use Rattle.catalog_types.specs.Valid.{IsValid}
 use Rattle.catalog_root.specs.Quiet.{IsSpare}
 use Rattle.container_writer.specs.Writing.{DataFrom}
+use Rattle.col_value.specs.declared.row.Stamped.{Stamped}
+use Rattle.stored_rows.specs.Held.{Holds}
 use Rattle.stored_rows.specs.Stored.{Projected}
 use Rattle.merge_rows.specs.Inputs.{KeepsFrom}
-use Rattle.proj_store.specs.Reading.{HasVectors}
+use Rattle.proj_store.specs.Reading.{BlamesRows, HasVectors}
 use Rattle.moveout_job.specs.OnDisk.{IsListedBelow}
 use Rattle.db_model.specs.Database.{Database, Shape, Table}
 use Rattle.db_model.specs.Sound.{IsSoundShape, IsSoundTable, ReachesMark}
@@ -31,8 +34,9 @@ use Rattle.table_store.specs.Held.{at_epoch}
 use Rattle.table_store.specs.Installing.{HoldsTable, IsRenewal}
 use Rattle.table_store.specs.Moving.{with_entry_at}
 use Rattle.table_store.proofs.Makes.{move_makes, undrawn, wrote_only}
+use Rattle.table_store.proofs.Unblamed.{part_unblamed}
 use Rattle.table_jobs.specs.Jobs.{DrawsAnew, DrawsMerged, MakesRise, OfProjection}
-use Rattle.table_jobs.proofs.Holding.{HasOwn, IsOwnAt, kept_holds, own_history, own_shape, own_vectors}
+use Rattle.table_jobs.proofs.Holding.{HasOwn, IsOwnAt, kept_holds, own_history, own_shape, own_stores, own_vectors}
 
 -- a store over its root: the catalogue is the root at the newest epoch, and each projection has its entry there
 pub record IsRooted (was : Seen) (root : Catalogue) : Type 0 where
@@ -139,3 +143,31 @@ draws_anew was is i j more next old entry same from upto count =
       upto = omega (arith, rises, upto);
       count = count;
     }
+
+-- ---- what is read
+
+-- the entry that was written can be read
+pub raised_holds : {D : Type 0} (disk : Ghosts D) {old mid : D} (was : Seen) (root : Catalogue) (i j : ℕ) (p : Projected) (entry : Projection) (d : Database) → IsRooted was root → IsOwnAt was.stores i j p → p.entry.fresh ≡ true
+    → IsListedBelow root.next p.entry → Moved disk (DataFrom root.next) NoName old mid
+    → ((m n : Contents) → disk.holds old ≡ Some m → disk.holds mid ≡ Some n → IsListedBelow root.next p.entry → HasVectors m p → KeepsFrom root.ahm m n p entry)
+    → Stands disk was old d → (n : Contents) × (held : List Stamped) × (disk.holds mid ≡ Some n) × Holds n entry held
+raised_holds disk {old} {mid} was root i j p entry d rooted there fresh below moved keeps stands =
+    let spare = job_spares disk old was root i j p d rooted there stands in
+    let then : Stands disk was mid d = stands_moved disk {W = DataFrom root.next} {R = NoName} was.catalogue was.stores d stands spare (λ q none. absurd none) moved in
+    let own : IsSomeAnd (slice_get d.tables i) (HasOwn stands.files was.catalogue.ahm p) = own_history stands.files was.catalogue was.stores d i j p fresh there stands.are in
+    let from : KeepsFrom root.ahm stands.files then.files p entry =
+    keeps stands.files then.files stands.quiet.told_is then.quiet.told_is below (own_vectors stands.files was.catalogue.ahm p d i own) in
+    let (stored, are) = own_stores stands.files was.catalogue.ahm p d i own in
+    let (held, holds, same) = from stored are in
+    (then.files, held, then.quiet.told_is, holds)
+
+-- a fault of reading the projection blames no file
+pub own_unblamed : {D : Type 0} (disk : Ghosts D) (now : D) (was : Seen) (i j : ℕ) (p : Projected) (f : StoreFault) (d : Database) → IsOwnAt was.stores i j p → p.entry.fresh ≡ true → BlamesRows p.entry (disk.holds now) f → Stands disk was now d → IsUnblamed f
+own_unblamed disk now was i j p f d there fresh blames stands =
+    let own = own_history stands.files was.catalogue was.stores d i j p fresh there stands.are in
+    let readable = own_stores stands.files was.catalogue.ahm p d i own in
+    part_unblamed stands.files (disk.holds now) p f stands.quiet.told_is fresh (on_fresh p.entry.fresh readable) blames
+  where
+    on_fresh : (b : Bool) {P : Type 0} → P → OnTrue b P
+    on_fresh true x = x
+    on_fresh false x = tt

@@ -1,9 +1,60 @@
 use Rattle.std.proofs.Common.{◌≡◌, ◌≤◌, refl, sym, ◌∙◌, ap, subst, arith}
-use Rattle.std.specs.Prelude.{OnOk}
+use Rattle.std.specs.Prelude.{Err}
 use Rattle.catalog_types.specs.declared.catalogue.Catalogue.{Catalogue}
+use Rattle.col_disk.specs.declared.disk.StoreFault.TheVariants as fault
 use Rattle.mergeout_job.specs.Oldest.{HasFour}
 use Rattle.table_jobs.specs.Jobs.{DrawsMerged}
 use Rattle.table_jobs.proofs.Holding.{IsOwnAt}
-use Rattle.table_jobs.proofs.Raising.{IsRooted, draws_anew, own_entry, raise_fails, raises}
-use Rattle.table_jobs.proofs.Rooted.{of_own, own_below, own_fresh, own_narrow, own_reached, own_renewal, own_there, own_valid}
+use Rattle.table_jobs.proofs.Raising.{IsRooted, draws_anew, own_entry, own_unblamed, raise_fails, raised_holds, raises}
+use Rattle.table_jobs.proofs.Rooted.{IsEntryOf, of_own, own_below, own_fresh, own_narrow, own_reached, own_renewal, own_there, own_valid}
 use Rattle.table_jobs.proofs.merging.merge.Goals as goal
+
+pub merge_out-requires-clause-four : goal.merge_out-requires-clause-four
+merge_out-requires-clause-four g c =
+    let rooted : IsRooted c.args.store.now c.root.result.now = record { catalogue = c.root.ensures.root; entries = c.root.ensures.entries; valid = c.root.ensures.valid } in
+    let p = c.index-as_slice-place.result.stored in
+    let own : IsOwnAt c.args.store.now.stores c.args.table c.args.place p =
+    own_there c.tables.result.now c.args.store.now.stores c.args.table c.args.place c.index-tables-table.result c.as_slice.result.now c.index-as_slice-place.result c.tables.ensures c.requires.fresh c.index-tables-table.is c.as_slice.ensures c.index-as_slice-place.is in
+    of_own c.args.store.now c.root.result.now c.args.table c.args.place p (λ q. HasFour c.args.level q.containers) rooted own c.requires.four
+
+pub merge_out-requires-clause-columns : goal.merge_out-requires-clause-columns
+merge_out-requires-clause-columns g c =
+    let rooted : IsRooted c.args.store.now c.root.result.now = record { catalogue = c.root.ensures.root; entries = c.root.ensures.entries; valid = c.root.ensures.valid } in
+    let p = c.index-as_slice-place.result.stored in
+    let own : IsOwnAt c.args.store.now.stores c.args.table c.args.place p =
+    own_there c.tables.result.now c.args.store.now.stores c.args.table c.args.place c.index-tables-table.result c.as_slice.result.now c.index-as_slice-place.result c.tables.ensures c.requires.fresh c.index-tables-table.is c.as_slice.ensures c.index-as_slice-place.is in
+    own_narrow c.root.result.now p.entry (own_valid c.args.store.now c.root.result.now c.args.table c.args.place p rooted own)
+
+pub returns-in-Err-clause-made : goal.returns-in-Err-clause-made
+returns-in-Err-clause-made g c = λ d stands.
+    let rooted : IsRooted c.args.store.now c.root.result.now = record { catalogue = c.root.ensures.root; entries = c.root.ensures.entries; valid = c.root.ensures.valid } in
+    let p = c.index-as_slice-place.result.stored in
+    let own : IsOwnAt c.args.store.now.stores c.args.table c.args.place p =
+    own_there c.tables.result.now c.args.store.now.stores c.args.table c.args.place c.index-tables-table.result c.as_slice.result.now c.index-as_slice-place.result c.tables.ensures c.requires.fresh c.index-tables-table.is c.as_slice.ensures c.index-as_slice-place.is in
+    raise_fails g.D.Disk c.args.store.now c.root.result.now c.args.table c.args.place p c.in-Err.fault d rooted own (own_fresh c.args.store.now.stores c.args.table c.args.place p c.requires.fresh own) c.merge_out.ensures.moved stands
+
+pub returns-in-Err-clause-unblamed : goal.returns-in-Err-clause-unblamed
+returns-in-Err-clause-unblamed g c = λ d stands.
+    let p = c.index-as_slice-place.result.stored in
+    let own : IsOwnAt c.args.store.now.stores c.args.table c.args.place p =
+    own_there c.tables.result.now c.args.store.now.stores c.args.table c.args.place c.index-tables-table.result c.as_slice.result.now c.index-as_slice-place.result c.tables.ensures c.requires.fresh c.index-tables-table.is c.as_slice.ensures c.index-as_slice-place.is in
+    own_unblamed g.D.Disk c.args.disk.now c.args.store.now c.args.table c.args.place p c.in-Err.fault d own (own_fresh c.args.store.now.stores c.args.table c.args.place p c.requires.fresh own) c.in-Err.ensures.blamed stands
+
+pub install-requires-clause-there : goal.install-requires-clause-there
+install-requires-clause-there g c =
+    let p = c.index-as_slice-place.result.stored in
+    let own : IsOwnAt c.args.store.now.stores c.args.table c.args.place p =
+    own_there c.tables.result.now c.args.store.now.stores c.args.table c.args.place c.index-tables-table.result c.as_slice.result.now c.index-as_slice-place.result c.tables.ensures c.requires.fresh c.index-tables-table.is c.as_slice.ensures c.index-as_slice-place.is in
+    own_renewal c.args.store.now.stores c.args.table c.args.place p c.in-Ok.merged.entry c.in-Ok.ensures.entry own
+
+pub install-requires-clause-reached : goal.install-requires-clause-reached
+install-requires-clause-reached g c =
+    let rooted : IsRooted c.args.store.now c.root.result.now = record { catalogue = c.root.ensures.root; entries = c.root.ensures.entries; valid = c.root.ensures.valid } in
+    let p = c.index-as_slice-place.result.stored in
+    let own : IsOwnAt c.args.store.now.stores c.args.table c.args.place p =
+    own_there c.tables.result.now c.args.store.now.stores c.args.table c.args.place c.index-tables-table.result c.as_slice.result.now c.index-as_slice-place.result c.tables.ensures c.requires.fresh c.index-tables-table.is c.as_slice.ensures c.index-as_slice-place.is in
+    let valid = own_valid c.args.store.now c.root.result.now c.args.table c.args.place p rooted own in
+    let mark = own_reached c.root.result.now p.entry (own_fresh c.args.store.now.stores c.args.table c.args.place p c.requires.fresh own) valid in
+    let same = ap (λ (k : Catalogue). k.ahm) rooted.catalogue in
+    let later = c.in-Ok.ensures.later in
+    omega (arith, mark, same, later)
