@@ -116,7 +116,11 @@ pub fn asked(alloc: Global, rows: Vec<Stamped>) -> Result<Vec<Asked>, AllocError
 pub fn all_places(alloc: Global, count: usize) -> Result<Vec<usize>, AllocError>
     ensures { IfOk result (λ v. v.items ≡ range_with_len 0 count) }
 {
-    (0..count).collect(alloc)
+    let mut out = Vec::with_capacity(alloc, count)?;
+    for place in 0..count {
+        out.push(place)?;
+    }
+    Ok(out)
 }
 
 /// The rows where they stand.
