@@ -240,7 +240,14 @@ impl MergeJob {
             Err(fault) => return Err(fault),
         };
         let others = saved.containers.as_slice();
-        match merged_entry(alloc, p.entry(), inputs, made.container, others, saved.memory) {
+        match merged_entry(
+            alloc,
+            p.entry(),
+            inputs,
+            made.container,
+            others,
+            saved.memory,
+        ) {
             Ok(entry) => Ok(Merged {
                 entry,
                 next: saved.next,

@@ -155,7 +155,15 @@ pub fn begin<D: Disk>(
         Ok(rows) => rows,
         Err(fault) => return Err(fault),
     };
-    match drafted(alloc, shape, rows.as_slice(), via.as_slice(), mark, last, base) {
+    match drafted(
+        alloc,
+        shape,
+        rows.as_slice(),
+        via.as_slice(),
+        mark,
+        last,
+        base,
+    ) {
         Ok(draft) => Ok(RefreshJob {
             mark,
             epoch: last,

@@ -28,7 +28,11 @@ fn is_kept(row: &Stamped, mark: u64) -> bool
 fn is_on(row: &Stamped, epoch: u64, later: bool) -> bool
     ensures { result ≡ is_on epoch later row.now }
 {
-    if later { row.ins > epoch } else { row.ins <= epoch }
+    if later {
+        row.ins > epoch
+    } else {
+        row.ins <= epoch
+    }
 }
 
 fn is_wanted(row: &Stamped, mark: u64, epoch: u64, later: bool) -> bool
