@@ -38,8 +38,8 @@ use std::marker::Model;
 // Numbers are drawn below this one.
 const MOST_NUMBERS: u64 = 1 << 61;
 
-/// The rows of a source on their way into a stale projection: the mark at or before which deleted rows are dropped, the epoch up to which they
-/// were inserted, the places of their columns among the source's, and what is written.
+/// The rows of a source on their way into a stale projection: the mark at or before which deleted rows are dropped, the epoch up to
+/// which they were inserted, the places of their columns among the source's, and what is written.
 #[derive(Drop)]
 pub struct RefreshJob {
     mark: u64,
@@ -103,7 +103,8 @@ fn into_draft(found: InOrder, base: u64) -> Draft
     Draft::new(rows, places, base)
 }
 
-/// The rows up to an epoch as a draft. Where the new projection has not so many columns, that is answered as want of memory: no store has such.
+/// The rows up to an epoch as a draft. Where the new projection has not so many columns, that is answered as want of memory: no store
+/// has such.
 fn drafted(
     alloc: Global,
     shape: &Projection,
@@ -126,9 +127,9 @@ fn drafted(
     Ok(into_draft(found, base))
 }
 
-/// Begins the refresh of a stale projection out of an up-to-date one, which has its columns at these places: the rows that are retained from
-/// the mark on and were inserted up to an epoch are read, and are to be written in the order of a container, with numbers from `base` on.
-/// `Damaged` names a file of a container that holds no rows.
+/// Begins the refresh of a stale projection out of an up-to-date one, which has its columns at these places: the rows that are retained
+/// from the mark on and were inserted up to an epoch are read, and are to be written in the order of a container, with numbers from
+/// `base` on. `Damaged` names a file of a container that holds no rows.
 pub fn begin<D: Disk>(
     alloc: Global,
     source: &ProjStore,
@@ -287,9 +288,9 @@ impl RefreshJob {
         }
     }
 
-    /// The entry of the projection, up to date up to the last epoch, with numbers from `next` on: the rows that were written, deleted as the
-    /// source's are by now, and behind them those that came since. Numbers from 2^61 on are answered as want of memory. `Damaged` names a
-    /// file of a container of the source that holds no rows.
+    /// The entry of the projection, up to date up to the last epoch, with numbers from `next` on: the rows that were written, deleted
+    /// as the source's are by now, and behind them those that came since. Numbers from 2^61 on are answered as want of memory.
+    /// `Damaged` names a file of a container of the source that holds no rows.
     pub fn install<D: Disk>(
         &self,
         alloc: Global,
