@@ -74,4 +74,3 @@ kept_next mark dels i out more was is =
 pub kept_turn : (mark : ℕ) (dels : List (Option ℕ)) (i : ℕ) (out more : List ℕ) (keep : Bool) (d : Option ℕ) → keep ≡ is_kept mark d → d ≡ get_or dels i None → out ≡ filter (λ j. is_kept mark (get_or dels j None)) (range_with_len 0 i) → more ≡ out ++ listed_if keep i
     → more ≡ filter (λ j. is_kept mark (get_or dels j None)) (range_with_len 0 (i + 1))
 kept_turn mark dels i out more keep d keep_is d_is was is = kept_next mark dels i out more was (is ∙ ap (λ (b : Bool). out ++ listed_if b i) (keep_is ∙ ap (is_kept mark) d_is))
-

@@ -16,11 +16,7 @@ use proj_store::{ProjStore, deletes_of};
 use std::alloc::{AllocError, Global};
 
 /// The first deletes of a list, none behind its end.
-fn padded(
-    alloc: Global,
-    dels: &[Option<u64>],
-    count: usize,
-) -> Result<Vec<Option<u64>>, AllocError>
+fn padded(alloc: Global, dels: &[Option<u64>], count: usize) -> Result<Vec<Option<u64>>, AllocError>
     ensures { IfOk result (λ v. v.items ≡ map (λ i. get_or dels.now i None) (range_with_len 0 count)) }
 {
     let mut out = Vec::with_capacity(alloc, count)?;

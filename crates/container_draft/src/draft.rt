@@ -147,6 +147,8 @@ impl Draft {
             });
         }
         let (rows, places) = (self.rows.as_slice(), self.places.as_slice());
-        write_end(alloc, disk, shape, rows, places, self.base, dels, level, next)
+        write_end(
+            alloc, disk, shape, rows, places, self.base, dels, level, next,
+        )
     }
 }

@@ -20,7 +20,11 @@ fn is_kept(mark: u64, del: Option<u64>) -> bool
 pub fn del_at(dels: &[Option<u64>], place: usize) -> Option<u64>
     ensures { result ≡ get_or dels.now place None }
 {
-    if place < dels.len() { dels[place] } else { None }
+    if place < dels.len() {
+        dels[place]
+    } else {
+        None
+    }
 }
 
 /// A place joins others where it is kept.
@@ -35,11 +39,7 @@ fn add_if(out: &mut Vec<usize>, place: usize, keep: bool) -> Result<(), AllocErr
 }
 
 /// The places of the rows that are retained from a mark on.
-pub fn kept_places(
-    alloc: Global,
-    mark: u64,
-    dels: &[Option<u64>],
-) -> Result<Vec<usize>, AllocError>
+pub fn kept_places(alloc: Global, mark: u64, dels: &[Option<u64>]) -> Result<Vec<usize>, AllocError>
     ensures { IfOk result (λ v. v.items ≡ kept_of mark dels.now) }
 {
     let mut out = Vec::new(alloc);

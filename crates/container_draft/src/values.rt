@@ -48,12 +48,7 @@ fn value_of(alloc: Global, row: &Row, column: usize) -> Result<Value, AllocError
 }
 
 /// The value of the row at a place; a row that is not there has none.
-fn value_at(
-    alloc: Global,
-    rows: &[Asked],
-    place: usize,
-    column: usize,
-) -> Result<Value, AllocError>
+fn value_at(alloc: Global, rows: &[Asked], place: usize, column: usize) -> Result<Value, AllocError>
     ensures { IfOk result (λ v. v ≡ slice_index_or (asked_at rows.now place).row column Null) }
 {
     if place < rows.len() {

@@ -1,4 +1,5 @@
 pub mod Begun
+pub mod Growing
 pub mod Installed
 pub mod Picks
 pub mod Put

@@ -17,8 +17,8 @@ merged j made others memory = replaced j.merge.inputs (listed made) others ++ li
 abbrev pub with_containers : List Container → ℕ → Projection → Projection
 with_containers ks more old = rewritten_to (reached_by old.lge ks) (old.born + more) ks old
 
--- The entry after a mergeout: its output, of the next level, with a delete vector of number `next`, and the other containers and the rows in memory
--- with numbers behind that and up to `after`.
+-- The entry after a mergeout: its output, of the next level, with a delete vector of number `next`, and the other containers and the
+-- rows in memory with numbers behind that and up to `after`.
 pub record IsMerged (next after : ℕ) (j : Mergeout) (old new : Projection) : Type 0 where
   pub made : Option Container
   pub others : List Container

@@ -96,8 +96,8 @@ fn drafted<D: Disk>(
     }
 }
 
-/// Begins the mergeout of the four oldest containers of a level: their rows are read, and those that are retained from the mark on are to be
-/// written, in the order of a container, with numbers from `base` on. `Damaged` names a file of a container that holds no rows.
+/// Begins the mergeout of the four oldest containers of a level: their rows are read, and those that are retained from the mark on are
+/// to be written, in the order of a container, with numbers from `base` on. `Damaged` names a file of a container that holds no rows.
 pub fn begin<D: Disk>(
     alloc: Global,
     p: &ProjStore,
@@ -240,7 +240,14 @@ impl MergeJob {
             Err(fault) => return Err(fault),
         };
         let others = saved.containers.as_slice();
-        match merged_entry(alloc, p.entry(), inputs, made.container, others, saved.memory) {
+        match merged_entry(
+            alloc,
+            p.entry(),
+            inputs,
+            made.container,
+            others,
+            saved.memory,
+        ) {
             Ok(entry) => Ok(Merged {
                 entry,
                 next: saved.next,

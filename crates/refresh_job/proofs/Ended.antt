@@ -20,7 +20,7 @@ use Rattle.catalog_types.specs.declared.catalogue.Container.{Container}
 use Rattle.catalog_types.specs.declared.catalogue.ProjColumn.{ProjColumn}
 use Rattle.catalog_types.specs.declared.catalogue.Projection.{Projection}
 use Rattle.catalog_types.specs.Numbers.{file_count}
-use Rattle.ros_container.specs.Encodings.{Written, written_of}
+use Rattle.ros_container.specs.Encodings.{Written, written_as, written_of}
 use Rattle.ros_container.specs.Rows.{AreWide}
 use Rattle.container_draft.proofs.Rising.{wide_at}
 use Rattle.ros_container.specs.Readable.{HasDefaultValue, IsReadable}
@@ -48,7 +48,7 @@ use Rattle.moveout_job.proofs.Renewed.{between, rows_below, rows_join, vector_da
 use Rattle.mergeout_job.proofs.Installed.{finished_below, finished_reads, finished_rises, all_in}
 use Rattle.refresh_job.specs.Job.{AreOrdered, HoldsBoth, Refreshing, IsRefreshing, IsRefreshed, RefreshesFrom}
 use Rattle.refresh_job.specs.Rows.{wanted}
-use Rattle.refresh_job.proofs.Firsts.{first_asked, both_keep, all_placed, rows_placed, sorted_at}
+use Rattle.refresh_job.proofs.Firsts.{first_asked, both_keep, all_placed, rows_placed, sorted_at, wanted_wide}
 
 -- ---- the rows in order
 
@@ -188,11 +188,13 @@ draft_rows rows asked places base d asked_are same is =
 pub draft_sorted : (shape : Projection) (asked : List Asked) (places : List ℕ) (base : ℕ) (d : Drafted) → IsSorted (λ i j. container_cmp shape (asked_at asked i) (asked_at asked j)) places → d ≡ seen asked places base 0 → IsSorted (container_cmp shape) d.rows
 draft_sorted shape asked places base d rising is = subst (λ (x : Drafted). IsSorted (container_cmp shape) x.rows) (sym is) (sorted_at shape asked places rising)
 
-pub draft_is : (m : Contents) (shape : Projection) (asked shown : List Asked) (places : List ℕ) (columns base : ℕ) (d : Drafted) → columns ≡ length (written_of shape) → shown ≡ asked → AreWide columns shown → All (λ i. i < length asked) places → d ≡ seen asked places base 0 → IsDraft m (written_of shape) d
-draft_is m shape asked shown places columns base d long same wide within is =
+pub draft_is : (m : Contents) (shape : Projection) (rows : List Stamped) (asked : List Asked) (places via : List ℕ) (mark epoch base : ℕ) (d : Drafted) → length via ≡ length shape.columns → asked ≡ map asked_of (wanted mark epoch false via rows) → All (λ i. i < length asked) places
+    → d ≡ seen asked places base 0 → IsDraft m (written_of shape) d
+draft_is m shape rows asked places via mark epoch base d long asked_are within is =
+    let columns : length via ≡ length (written_of shape) = long ∙ sym (length-map shape.columns written_as) in
     subst (IsDraft m (written_of shape)) (sym is)
     (record {
-      wide = subst (λ (n : ℕ). AreWide n (all_at asked places)) long (wide_at columns asked places (subst (AreWide columns) same wide) within);
+      wide = wide_at (length (written_of shape)) asked places (subst (AreWide (length (written_of shape))) (sym asked_are) (wanted_wide mark epoch (length (written_of shape)) false via rows columns)) within;
       columns = λ some i lt inside. absurd (omega (arith, lt));
     })
 

@@ -1,6 +1,8 @@
 -- The rows that a refresh writes, and those that came later.
-use Rattle.std.proofs.Common.{◌≡◌, ℕ, ◌+◌, ◌<◌, ◌≤◌, ◌++◌, ◌&&◌, not, Bool, true, false, cond, List, [], ◌∷◌, length, map, filter, get_or, Option, refl, sym, ap, ap₂, ◌∙◌, arith, subst}
-use Rattle.std.specs.Prelude.{nat_le}
+use Rattle.std.proofs.Common.{◌≡◌, ℕ, zero, suc, ◌+◌, ◌<◌, ◌≤◌, ◌++◌, ◌&&◌, not, Bool, true, false, cond, List, [], ◌∷◌, length, map, filter, get_or, Option, refl, sym, ap, ap₂, ◌∙◌, arith, subst}
+use Rattle.std.specs.Prelude.{nat_le, slice_index_or}
+use Rattle.std.proofs.lemmas.List.Elements.{All-nil, All-cons}
+use Rattle.col_value.specs.declared.value.Value.TheVariants as value
 use Rattle.std.specs.Ordering.{is_lt}
 use Rattle.std.specs.List.{All, range_with_len}
 use Rattle.std.specs.List.Sorted.{IsSorted}
@@ -80,3 +82,21 @@ sorted_at shape rows (x ∷ xs) rising k d from lt =
   where
     at : (i : ℕ) → i < length (x ∷ xs) → get_or (all_at rows (x ∷ xs)) i d ≡ asked_at rows (get_or (x ∷ xs) i x)
     at i within = get_or-map (asked_at rows) (x ∷ xs) i x d within
+
+range_more : (a n : ℕ) → range_with_len a (suc n) ≡ range_with_len a n ++ (a + n) ∷ []
+range_more a zero = ap (λ (x : ℕ). x ∷ []) (omega arith)
+range_more a (suc n) = ap (λ (xs : List ℕ). a ∷ xs) (range_more (a + 1) n ∙ ap (λ (x : ℕ). range_with_len (a + 1) n ++ x ∷ []) (omega arith))
+
+pub places_more : (i : ℕ) (out more : List ℕ) → out ≡ range_with_len 0 i → more ≡ out ++ i ∷ [] → more ≡ range_with_len 0 (i + 1)
+places_more i out more was is =
+    let next : suc i ≡ i + 1 = omega arith in
+    let same : 0 + i ≡ i = omega arith in
+    is ∙ ap (λ (xs : List ℕ). xs ++ i ∷ []) was ∙ ap (λ (x : ℕ). range_with_len 0 i ++ x ∷ []) (sym same) ∙ sym (range_more 0 i) ∙ ap (range_with_len 0) next
+
+narrow_wide : (via : List ℕ) (columns : ℕ) (rows : List Stamped) → length via ≡ columns → All (λ (a : Asked). length a.row ≡ columns) (map asked_of (map (on_columns via) rows))
+narrow_wide via columns [] long = All-nil (λ (a : Asked). length a.row ≡ columns)
+narrow_wide via columns (s ∷ rows) long =
+    All-cons (λ (a : Asked). length a.row ≡ columns) (asked_of (on_columns via s)) (map asked_of (map (on_columns via) rows)) (length-map via (λ c. slice_index_or s.row c value.Null) ∙ long) (narrow_wide via columns rows long)
+
+pub wanted_wide : (mark epoch columns : ℕ) (later : Bool) (via : List ℕ) (rows : List Stamped) → length via ≡ columns → All (λ (a : Asked). length a.row ≡ columns) (map asked_of (wanted mark epoch later via rows))
+wanted_wide mark epoch columns later via rows long = narrow_wide via columns (filter (λ s. is_retained mark s && is_on epoch later s) rows) long

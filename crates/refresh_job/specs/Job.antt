@@ -20,8 +20,8 @@ use Rattle.container_draft.specs.Placed.{all_at}
 use Rattle.container_draft.specs.Reading.{del_of}
 use Rattle.container_draft.specs.Finished.{AreFinished}
 
--- The rows that a refresh writes: those of its source up to an epoch, but for rows deleted at or before its mark, with the columns of the new
--- projection, which stand at these places of the source's.
+-- The rows that a refresh writes: those of its source up to an epoch, but for rows deleted at or before its mark, with the columns of
+-- the new projection, which stand at these places of the source's.
 pub record Refreshing : Type 0 where
   pub mark : ℕ
   pub epoch : ℕ
@@ -51,8 +51,8 @@ HoldsBoth n entry first later = (xs : List Stamped) × (ys : List Stamped) × Ho
 abbrev pub RefreshesFrom : ℕ → List ℕ → Contents → Contents → Projected → Projection → Type 0
 RefreshesFrom a via m n source entry = (stored : List Stamped) → Stores m source stored → (held : List Stamped) × Holds n entry held × SameBag (retained a held) (map (on_columns via) (retained a stored))
 
--- The entry after a refresh: the rows up to the epoch of its begin, whose delete vector has the number `next`, and behind them those that came
--- later, with numbers up to `after`; it is up to date up to an epoch.
+-- The entry after a refresh: the rows up to the epoch of its begin, whose delete vector has the number `next`, and behind them those
+-- that came later, with numbers up to `after`; it is up to date up to an epoch.
 pub record IsRefreshed (last next after : ℕ) (r : Refreshing) (old new : Projection) : Type 0 where
   pub first : Option Container
   pub later : Option Container

@@ -9,7 +9,6 @@ ghost use Rattle.common_laws.specs.Maps.{Contents};
 ghost use Rattle.catalog_types.specs.Numbers.{file_count};
 ghost use Rattle.col_disk.specs.Moved.{Moved, NoName, Named, Either};
 ghost use Rattle.ros_container.specs.Encodings.{written_of};
-ghost use Rattle.ros_container.specs.Rows.{AreWide};
 ghost use Rattle.moveout_job.specs.OnDisk.{IsListedBelow};
 ghost use Rattle.ros_container.specs.Files.{body_of, index_of};
 ghost use Rattle.container_writer.specs.Ordered.{container_cmp};
@@ -19,7 +18,7 @@ ghost use Rattle.proj_store.specs.Sound.{IsLoadable};
 ghost use Rattle.merge_rows.specs.Places.{asked_of};
 ghost use Rattle.container_draft.specs.Draft.{IsDraft, one_more};
 ghost use Rattle.container_draft.specs.Keeping.{dels_at};
-ghost use Rattle.container_draft.specs.Placed.{asked_at};
+ghost use Rattle.container_draft.specs.Placed.{asked_at, seen};
 ghost use Rattle.container_draft.specs.Reading.{del_of};
 ghost use Rattle.refresh_job.specs.Job.{AreOrdered, HoldsBoth, IsRefreshing, IsRefreshed, RefreshesFrom};
 ghost use Rattle.refresh_job.specs.Rows.{wanted};
@@ -39,8 +38,8 @@ use std::marker::Model;
 // Numbers are drawn below this one.
 const MOST_NUMBERS: u64 = 1 << 61;
 
-/// The rows of a source on their way into a stale projection: the mark at or before which deleted rows are dropped, the epoch up to which they
-/// were inserted, the places of their columns among the source's, and what is written.
+/// The rows of a source on their way into a stale projection: the mark at or before which deleted rows are dropped, the epoch up to
+/// which they were inserted, the places of their columns among the source's, and what is written.
 #[derive(Drop)]
 pub struct RefreshJob {
     mark: u64,
@@ -66,7 +65,7 @@ pub struct Refreshed {
 
 /// Rows with their places in the order of a container.
 #[derive(Drop)]
-struct Ordered {
+struct InOrder {
     rows: Vec<Asked>,
     dels: Vec<Option<u64>>,
     places: Vec<usize>,
@@ -80,7 +79,7 @@ fn ordered(
     via: &[usize],
     mark: u64,
     epoch: u64,
-) -> Result<Ordered, AllocError>
+) -> Result<InOrder, AllocError>
     ensures rows { IfOk result (λ o. o.rows.items ≡ map asked_of (wanted mark epoch false via.now rows.now)) }
     ensures dels { IfOk result (λ o. o.dels.items ≡ map del_of (wanted mark epoch false via.now rows.now)) }
     ensures same { IfOk result (λ o. SameBag (range_with_len 0 (length o.rows.items)) o.places.items) }
@@ -92,22 +91,20 @@ fn ordered(
     let rows = asked(alloc, first)?;
     let all = all_places(alloc, rows.len())?;
     let places = in_order(alloc, shape, rows.as_slice(), all.as_slice())?;
-    Ok(Ordered { rows, dels, places })
+    Ok(InOrder { rows, dels, places })
 }
 
-/// Rows of so many values each, or want of memory.
-fn all_wide(rows: &[Asked], columns: usize) -> Result<(), AllocError>
-    ensures { OnOk result (AreWide columns rows.now) }
+/// What is in order as a draft.
+fn into_draft(found: InOrder, base: u64) -> Draft
+    ensures { result ≡ seen found.rows.items found.places.items base 0 }
 {
-    for asked in rows {
-        if asked.row.as_slice().len() != columns {
-            return Err(AllocError);
-        }
-    }
-    Ok(())
+    let InOrder { rows, dels, places } = found;
+    drop(dels);
+    Draft::new(rows, places, base)
 }
 
-/// The rows up to an epoch as a draft.
+/// The rows up to an epoch as a draft. Where the new projection has not so many columns, that is answered as want of memory: no store
+/// has such.
 fn drafted(
     alloc: Global,
     shape: &Projection,
@@ -123,15 +120,16 @@ fn drafted(
     ensures base { IfOk result (λ d. d.base ≡ base) }
     ensures done { IfOk result (λ d. d.done ≡ 0) }
 {
-    let Ordered { rows, dels, places } = ordered(alloc, shape, rows, via, mark, epoch)?;
-    drop(dels);
-    all_wide(rows.as_slice(), shape.columns.as_slice().len())?;
-    Ok(Draft::new(rows, places, base))
+    if via.len() != shape.columns.as_slice().len() {
+        return Err(AllocError);
+    }
+    let found = ordered(alloc, shape, rows, via, mark, epoch)?;
+    Ok(into_draft(found, base))
 }
 
-/// Begins the refresh of a stale projection out of an up-to-date one, which has its columns at these places: the rows that are retained from
-/// the mark on and were inserted up to an epoch are read, and are to be written in the order of a container, with numbers from `base` on.
-/// `Damaged` names a file of a container that holds no rows.
+/// Begins the refresh of a stale projection out of an up-to-date one, which has its columns at these places: the rows that are retained
+/// from the mark on and were inserted up to an epoch are read, and are to be written in the order of a container, with numbers from
+/// `base` on. `Damaged` names a file of a container that holds no rows.
 pub fn begin<D: Disk>(
     alloc: Global,
     source: &ProjStore,
@@ -158,7 +156,15 @@ pub fn begin<D: Disk>(
         Ok(rows) => rows,
         Err(fault) => return Err(fault),
     };
-    match drafted(alloc, shape, rows.as_slice(), via.as_slice(), mark, last, base) {
+    match drafted(
+        alloc,
+        shape,
+        rows.as_slice(),
+        via.as_slice(),
+        mark,
+        last,
+        base,
+    ) {
         Ok(draft) => Ok(RefreshJob {
             mark,
             epoch: last,
@@ -282,9 +288,9 @@ impl RefreshJob {
         }
     }
 
-    /// The entry of the projection, up to date up to the last epoch, with numbers from `next` on: the rows that were written, deleted as the
-    /// source's are by now, and behind them those that came since. Numbers from 2^61 on are answered as want of memory. `Damaged` names a
-    /// file of a container of the source that holds no rows.
+    /// The entry of the projection, up to date up to the last epoch, with numbers from `next` on: the rows that were written, deleted
+    /// as the source's are by now, and behind them those that came since. Numbers from 2^61 on are answered as want of memory.
+    /// `Damaged` names a file of a container of the source that holds no rows.
     pub fn install<D: Disk>(
         &self,
         alloc: Global,

@@ -28,7 +28,11 @@ fn is_kept(row: &Stamped, mark: u64) -> bool
 fn is_on(row: &Stamped, epoch: u64, later: bool) -> bool
     ensures { result ≡ is_on epoch later row.now }
 {
-    if later { row.ins > epoch } else { row.ins <= epoch }
+    if later {
+        row.ins > epoch
+    } else {
+        row.ins <= epoch
+    }
 }
 
 fn is_wanted(row: &Stamped, mark: u64, epoch: u64, later: bool) -> bool
@@ -116,7 +120,11 @@ pub fn asked(alloc: Global, rows: Vec<Stamped>) -> Result<Vec<Asked>, AllocError
 pub fn all_places(alloc: Global, count: usize) -> Result<Vec<usize>, AllocError>
     ensures { IfOk result (λ v. v.items ≡ range_with_len 0 count) }
 {
-    (0..count).collect(alloc)
+    let mut out = Vec::with_capacity(alloc, count)?;
+    for place in 0..count {
+        out.push(place)?;
+    }
+    Ok(out)
 }
 
 /// The rows where they stand.
