@@ -4,8 +4,8 @@ use Rattle.std.specs.Option.{option_map_or}
 use Rattle.catalog_types.specs.declared.catalogue.Container.{Container}
 use Rattle.container_draft.specs.Draft.{Drafted}
 
--- It has the rows of the draft and stores so many columns; its files have the draft's numbers, and its delete vector, if it has one, the number
--- `next`; `after` is the next one.
+-- It has the rows of the draft and stores so many columns; its files have the draft's numbers, and its delete vector, if it has one,
+-- the number `next`; `after` is the next one.
 pub record IsFinished (columns height next after : ℕ) (d : Drafted) (k : Container) : Type 0 where
   pub some : 1 ≤ k.rows
   pub rows : k.rows ≡ length d.rows

@@ -122,8 +122,9 @@ impl Draft {
         Ok(())
     }
 
-    /// The container of the rows, of which these deletes are known by now, or none where there are no rows: its delete vector is written,
-    /// with the number `next`. Numbers from 2^61 on, and a row that was deleted in epoch 0, are answered as want of memory: no store has such.
+    /// The container of the rows, of which these deletes are known by now, or none where there are no rows: its delete vector is
+    /// written, with the number `next`. Numbers from 2^61 on, and a row that was deleted in epoch 0, are answered as want of memory: no
+    /// store has such.
     pub fn finish<D: Disk>(
         &self,
         alloc: Global,

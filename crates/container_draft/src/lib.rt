@@ -1,9 +1,9 @@
 //! A container that is written one column a step.
 //!
-//! `chosen_rows` reads the rows of chosen containers, `kept_places` says which of them are retained, and `in_order` brings their places into
-//! the order of a container. A `Draft` holds the rows as they were read and those places; `advance` makes the files of the next column,
-//! and `finish` the delete vector, by the deletes that are known then. What is written holds the rows at the places, as `IsDraft` of
-//! `specs/Draft.antt` says.
+//! `chosen_rows` reads the rows of chosen containers, `kept_places` says which of them are retained, and `in_order` brings their places
+//! into the order of a container. A `Draft` holds the rows as they were read and those places; `advance` makes the files of the next
+//! column, and `finish` the delete vector, by the deletes that are known then. What is written holds the rows at the places, as
+//! `IsDraft` of `specs/Draft.antt` says.
 #![tactic(auto)]
 
 mod columns;
