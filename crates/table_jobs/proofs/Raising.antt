@@ -1,6 +1,6 @@
 -- A job over a projection that is up to date, from the files that it writes to the catalogue with its entry.
 use Rattle.std.proofs.Common.{◌≡◌, ℕ, zero, suc, ◌+◌, ◌*◌, ◌≤◌, ◌<◌, Bool, true, false, List, [], ◌∷◌, length, map, refl, sym, ◌∙◌, ap, subst, arith}
-use Rattle.std.specs.Prelude.{Option, Some, None, Result, Err, OnOk, IsSomeAnd}
+use Rattle.std.specs.Prelude.{Option, Some, None, Result, Ok, Err, IfErr, OnOk, IsSomeAnd}
 use Rattle.std.specs.Bool.{OnTrue}
 use Rattle.std.specs.List.{All, slice_get}
 use Rattle.std.proofs.lemmas.List.{length-map}
@@ -119,14 +119,16 @@ pub entry_in : (pss : List (List Projected)) (ts : List kept.Table) (i j : ℕ) 
     → IsSomeAnd (slice_get ts i) (λ t. IsSomeAnd (slice_get t.projections j) P)
 entry_in [] ts i j p P are there is = absurd there
 entry_in (ps ∷ pss) [] i j p P are there is = absurd (cc)
-entry_in (ps ∷ pss) (t ∷ ts) zero j p P are there is = of_entries ps t.projections j cc there
+entry_in (ps ∷ pss) (t ∷ ts) zero j p P are there is = let same : map (λ (r : Projected). r.entry) ps ≡ t.projections = cc in of_entries ps t.projections j same there
   where
     of_entries : (qs : List Projected) (es : List Projection) (k : ℕ) → map (λ (q : Projected). q.entry) qs ≡ es → IsSomeAnd (slice_get qs k) (λ q. q ≡ p) → IsSomeAnd (slice_get es k) P
     of_entries [] es k same here = absurd here
     of_entries (q ∷ qs) [] k same here = absurd (cc)
     of_entries (q ∷ qs) (e ∷ es) zero same here = let first : q.entry ≡ e = cc in subst P (sym (ap (λ (r : Projected). r.entry) here) ∙ first) is
-    of_entries (q ∷ qs) (e ∷ es) (suc k) same here = of_entries qs es k cc here
-entry_in (ps ∷ pss) (t ∷ ts) (suc i) j p P are there is = entry_in pss ts i j p P cc there is
+    of_entries (q ∷ qs) (e ∷ es) (suc k) same here = let rest : map (λ (r : Projected). r.entry) qs ≡ es = cc in of_entries qs es k rest here
+entry_in (ps ∷ pss) (t ∷ ts) (suc i) j p P are there is =
+    let rest : map (λ (qs : List Projected). map (λ (r : Projected). r.entry) qs) pss ≡ map (λ (u : kept.Table). u.projections) ts = cc in
+    entry_in pss ts i j p P rest there is
 
 pub own_entry : (was : Seen) (root : Catalogue) (i j : ℕ) (p : Projected) (P : Projection → Type 0) → IsRooted was root → IsOwnAt was.stores i j p → P p.entry → OfProjection i j was.catalogue P
 own_entry was root i j p P rooted there is = subst (λ (c : Catalogue). OfProjection i j c P) (sym rooted.catalogue) (entry_in was.stores root.tables i j p P rooted.entries there is)
@@ -144,7 +146,28 @@ draws_anew was is i j more next old entry same from upto count =
       count = count;
     }
 
+-- the same with two containers less
+pub draws_merged : (was is : Seen) (i j next : ℕ) (old entry : Projection) → is.catalogue ≡ with_entry_at was.catalogue.last next i j entry was.catalogue → was.catalogue.next ≤ next → next ≤ was.catalogue.next + length old.containers + 262
+    → length entry.containers + 2 ≤ length old.containers → DrawsMerged i j was.catalogue is.catalogue old
+draws_merged was is i j next old entry same from upto less =
+    let rises : is.catalogue.next ≡ next + 1 = ap (λ (c : Catalogue). c.next) same in
+    record {
+      draws = record {
+        entry = entry;
+        tables = ap (λ (c : Catalogue). c.tables) same;
+        last = ap (λ (c : Catalogue). c.last) same;
+        from = omega (arith, rises, from);
+        upto = omega (arith, rises, upto);
+        count = omega (arith, less);
+      };
+      less = less;
+    }
+
 -- ---- what is read
+
+pub err_weaker : {T E : Type 0} {P Q : E → Type 0} (r : Result T E) → ((e : E) → P e → Q e) → IfErr r P → IfErr r Q
+err_weaker (Ok x) f is = tt
+err_weaker (Err e) f is = f e is
 
 -- the entry that was written can be read
 pub raised_holds : {D : Type 0} (disk : Ghosts D) {old mid : D} (was : Seen) (root : Catalogue) (i j : ℕ) (p : Projected) (entry : Projection) (d : Database) → IsRooted was root → IsOwnAt was.stores i j p → p.entry.fresh ≡ true
