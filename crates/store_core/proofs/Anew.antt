@@ -209,7 +209,7 @@ later_at f (x ∷ xs) zero (suc j) lt = refl
 later_at f (x ∷ xs) (suc i) zero lt = absurd (omega (arith, lt))
 later_at f (x ∷ xs) (suc i) (suc j) lt = later_at f xs i j (omega (arith, lt))
 
-mapped_some : {X Y : Type 0} (f : X → Y) (o : Option X) (y : Y) → option_map f o ≡ Some y → (x : X) × (o ≡ Some x) × (f x ≡ y)
+pub mapped_some : {X Y : Type 0} (f : X → Y) (o : Option X) (y : Y) → option_map f o ≡ Some y → (x : X) × (o ≡ Some x) × (f x ≡ y)
 mapped_some f None y is = absurd (cc)
 mapped_some f (Some x) y is = (x, refl, cc)
 

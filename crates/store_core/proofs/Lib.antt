@@ -22,3 +22,6 @@ pub use Rattle.store_opening.proofs.Unblamed
 pub mod Worked
 pub mod Anew
 pub mod Raising
+pub mod Purging
+pub mod Refreshing
+pub mod Found

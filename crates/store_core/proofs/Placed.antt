@@ -44,7 +44,7 @@ StandsAt ts i j s = IsSomeAnd (slice_get ts i) (λ t. slice_get t.shapes j ≡ S
 abbrev Stands : List Table → Shape → Type 0
 Stands ts s = (i : ℕ) × (j : ℕ) × StandsAt ts i j s
 
-got : {X : Type 0} (xs : List X) (k : ℕ) (d : X) → k < length xs → slice_get xs k ≡ Some (get_or xs k d)
+pub got : {X : Type 0} (xs : List X) (k : ℕ) (d : X) → k < length xs → slice_get xs k ≡ Some (get_or xs k d)
 got [] k d lt = absurd (omega (arith, lt))
 got (x ∷ xs) zero d lt = refl
 got (x ∷ xs) (suc k) d lt = got xs k d (omega (arith, lt))

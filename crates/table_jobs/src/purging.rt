@@ -37,6 +37,6 @@ pub fn purge<D: Disk>(
     ensures same { OnErr result (store.new ≡ store.old) }
     ensures cause { HasCause StoreFault.Disk (D.faults disk.old) (D.faults disk.new) result }
 {
-    let _ = (alloc, store, table, place, disk);
+    let _ = (alloc, &store, table, place, &disk);
     Err(StoreFault::Memory)
 }
