@@ -1,31 +1,66 @@
 //! The plan of a statement.
 
-ghost use Rattle.std.specs.Prelude.{◌≡◌, true, IfErr, IfOk};
+ghost use Rattle.std.specs.Prelude.{ℕ, ◌≡◌, true, None, Some, IfErr, IfOk};
+ghost use Rattle.db_model.specs.Refusals.{unknown_table_refusal};
 ghost use Rattle.name_binder.specs.Refusing.{RefusesBy};
+ghost use Rattle.sql_tree.specs.declared.statement.Statement.{Statement as AStatement};
+ghost use Rattle.statement_plan.specs.Places.{table_place};
 ghost use Rattle.statement_plan.specs.Planned.{early_call_refusal, early_refusal, is_planned, IsPlanned};
+ghost use Rattle.statement_plan.specs.declared.plans.Plan.{Plan as APlan};
 
 use crate::adding::plan_addition;
 use crate::changing::{plan_delete, plan_update};
 use crate::creating::plan_table;
-use crate::dropping::{plan_drop, plan_projection_drop};
+use crate::dropping::{known_table, plan_drop, plan_projection_drop};
 use crate::frame::Frame;
 use crate::inserting::plan_insert;
 use crate::loading::loadable_table;
 use crate::plans::Plan;
 use crate::projecting::plan_projection;
 use crate::querying::{plan_query, plan_select};
+use col_value::Name;
 use name_binder::BindFault;
 use sql_tree::{Function, Refusal, Statement};
 use std::alloc::Global;
 
-/// Why a function is refused by what it says.
-fn refused_call(frame: &Frame<'_>, function: &Function) -> Option<Refusal>
-    ensures { result ≡ early_call_refusal frame.now function.now }
+/// The plan of a function that isn't refused for this.
+fn unless(refusal: Option<Refusal>) -> Result<Plan, BindFault>
+    ensures planned { IfOk result (λ plan. (plan ≡ APlan.Call) × (refusal ≡ None)) }
+    ensures refused { IfErr result (RefusesBy refusal) }
+{
+    match refusal {
+        Some(refusal) => Err(BindFault::Refused(refusal)),
+        None => Ok(Plan::Call),
+    }
+}
+
+/// The plan of a function of one table, by the table's name.
+fn plan_call_on(alloc: Global, frame: &Frame<'_>, table: &Name) -> Result<Plan, BindFault>
+    ensures planned { IfOk result (λ plan. (place : ℕ) × (plan ≡ APlan.CallOn place) × (table_place table.now frame.now.database.tables ≡ Some place) × (unknown_table_refusal frame.now table.now ≡ None)) }
+    ensures refused { IfErr result (RefusesBy (unknown_table_refusal frame.now table.now)) }
+{
+    match known_table(alloc, frame, table) {
+        Ok(place) => Ok(Plan::CallOn(place)),
+        Err(fault) => Err(fault),
+    }
+}
+
+/// The plan of a function, or why it is refused by what it says.
+fn plan_call(alloc: Global, frame: &Frame<'_>, function: &Function) -> Result<Plan, BindFault>
+    ensures planned { IfOk result (IsPlanned frame.now (AStatement.Call function.now)) }
+    ensures refused { IfErr result (RefusesBy (early_call_refusal frame.now function.now)) }
 {
     match function {
-        Function::MakeAhmNow => frame.marking_now(),
-        Function::SetAhm(mark) => frame.marking(*mark),
-        _ => None,
+        Function::MakeAhmNow => unless(frame.marking_now()),
+        Function::SetAhm(mark) => unless(frame.marking(*mark)),
+        Function::Purge(table) => plan_call_on(alloc, frame, table),
+        Function::Refresh(table) => plan_call_on(alloc, frame, table),
+        Function::Lge
+        | Function::Ahm
+        | Function::Current
+        | Function::Moveout
+        | Function::Mergeout
+        | Function::StartRefresh => Ok(Plan::Call),
     }
 }
 
@@ -67,10 +102,7 @@ pub fn make_plan(alloc: Global, frame: &Frame<'_>, statement: &Statement) -> Res
             Ok(bound) => Ok(Plan::Explain(bound)),
             Err(fault) => Err(fault),
         },
-        Statement::Call(function) => match refused_call(frame, function) {
-            Some(refusal) => Err(BindFault::Refused(refusal)),
-            None => Ok(Plan::Call),
-        },
+        Statement::Call(function) => plan_call(alloc, frame, function),
         Statement::Session(number) => Ok(Plan::Session(*number)),
         Statement::Step => Ok(Plan::Step),
     }

@@ -55,7 +55,7 @@ same_projection i j c t u p q one two =
     let both : Some p ≡ Some q = sym one.place ∙ ap (λ (x : kept.Table). slice_get x.projections j) same ∙ two.place in
     cc
 
-few_at : (most i j : ℕ) (c : Catalogue) (t : kept.Table) (p : Projection) → FewContainers most c → StandsIn i j c t p → length p.containers ≤ most
+pub few_at : (most i j : ℕ) (c : Catalogue) (t : kept.Table) (p : Projection) → FewContainers most c → StandsIn i j c t p → length p.containers ≤ most
 few_at most i j c t p few at =
     all_at (λ q. length q.containers ≤ most) t.projections j p (all_at (λ u. All (λ q. length q.containers ≤ most) u.projections) c.tables i t few at.table) at.place
 
@@ -163,8 +163,11 @@ most_in parts [] all = omega arith
 most_in parts (p ∷ ps) all =
     let here = All-head (λ q. length q.containers ≤ parts) p ps all in
     let rest = most_in parts ps (All-tail (λ q. length q.containers ≤ parts) p ps all) in
-    joined (length p.containers) (parts_in ps) (length ps * parts) (length (p ∷ ps) * parts) here rest (times_more 1 (length ps) parts)
+    joined (length p.containers) (parts_in ps) (length ps * parts) (length (p ∷ ps) * parts) here rest (ap (λ (n : ℕ). n * parts) one_and ∙ times_more 1 (length ps) parts)
   where
+    one_and : length (p ∷ ps) ≡ 1 + length ps
+    one_and = omega arith
+
     joined : (a b c d : ℕ) → a ≤ parts → b ≤ c → d ≡ 1 * parts + c → a + b ≤ d
     joined a b c d one two three = omega (arith, one, two, three)
 

@@ -1,7 +1,7 @@
 -- Where the jobs of a statement find their projections.
 use Rattle.std.proofs.Common.{◌≡◌, ◌<◌, ◌≤◌, ℕ, Bool, true, false, cond, List, [], ◌∷◌, length, map, get_or, refl, sym, ◌∙◌, ap, subst, arith}
 use Rattle.std.specs.Prelude.{not, nat_le, nat_lt, Option, Some, None, option_and_then, position, IfSome, MatchOption, IsSomeAnd}
-use Rattle.std.specs.Bool.{OnFalse}
+use Rattle.std.specs.Bool.{OnFalse, OnTrue}
 use Rattle.std.specs.List.{All, position_or_len, slice_get}
 use Rattle.std.proofs.lemmas.Bool.Decides.{nat_tests}
 use Rattle.std.proofs.lemmas.List.Elements.{All-weaker}
@@ -115,13 +115,11 @@ stale_empty root c valid same i o is =
 pub places_fit : (c : Catalogue) → IsValid c → All (λ t. length t.projections ≤ 16) c.tables
 places_fit c valid = All-weaker (IsTable c) (λ t. length t.projections ≤ 16) (λ t is. is.projections_most) c.tables valid.tables
 
-pub no_place : (tables : List kept.Table) (i : ℕ) → None ≡ slice_get tables i → None ≡ stale_place i tables
-no_place tables i none = ap (option_and_then (λ (t : kept.Table). position (λ p. not p.fresh) t.projections)) none
-
-pub some_place : (tables : List kept.Table) (i : ℕ) (t : kept.Table) (ps : List Projection) (o : Option ℕ) → Some t ≡ slice_get tables i → ps ≡ t.projections → o ≡ position (λ p. not p.fresh) ps → o ≡ stale_place i tables
-some_place tables i t ps o at same is =
-    is ∙ ap (λ (qs : List Projection). position (λ p. not p.fresh) qs) same ∙ ap (option_and_then (λ (u : kept.Table). position (λ p. not p.fresh) u.projections)) at
+pub stale_seen : (root c : Catalogue) → root.tables ≡ c.tables → (i : ℕ) (o : Option ℕ) → o ≡ stale_place i root.tables → o ≡ stale_place i c.tables
+stale_seen root c same i o is = is ∙ ap (stale_place i) same
 
 -- a projection that is up to date was found at a place
-pub purged_fresh : (tables : List kept.Table) (stores : List (List Projected)) (at : Place) (p : Projection) → map (λ ps. map (λ q. q.entry) ps) stores ≡ map (λ t. t.projections) tables → Some p ≡ projection_at tables at → p.fresh ≡ true → IsFreshAt stores at.table at.place
-purged_fresh tables stores at p entries there fresh = fresh_at tables stores at p entries (sym there) fresh
+pub purged_fresh : (tables : List kept.Table) (stores : List (List Projected)) (at : Place) (p : Projection) (gone : Bool) → map (λ ps. map (λ q. q.entry) ps) stores ≡ map (λ t. t.projections) tables → Some p ≡ projection_at tables at → p.fresh ≡ true
+    → OnTrue gone (IsFreshAt stores at.table at.place)
+purged_fresh tables stores at p true entries there fresh = fresh_at tables stores at p entries (sym there) fresh
+purged_fresh tables stores at p false entries there fresh = tt

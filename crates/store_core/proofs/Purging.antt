@@ -10,7 +10,8 @@ use Rattle.col_disk.specs.declared.disk.Disk.{Ghosts}
 use Rattle.col_disk.specs.declared.disk.StoreFault.{StoreFault}
 use Rattle.col_disk.specs.declared.disk.StoreFault.TheVariants as fault
 use Rattle.catalog_types.specs.declared.catalogue.Table as kept
-use Rattle.db_model.specs.Database.{table_found, table_named, Database, Shape, Table}
+use Rattle.db_model.specs.Database.{table_named, Database, Shape, Table}
+use Rattle.db_model.specs.Views.{table_found}
 use Rattle.db_model.specs.Mover.{reached_to, RaisesOne, RaisesAll}
 use Rattle.db_model.specs.Sound.{IsSoundDatabase}
 use Rattle.db_model.specs.State.{State}

@@ -33,6 +33,6 @@ pub fn merge<D: Disk>(
     ensures same { OnErr result (store.new ≡ store.old) }
     ensures cause { HasCause StoreFault.Disk (D.faults disk.old) (D.faults disk.new) result }
 {
-    let _ = (alloc, &store, table, place, level, &disk);
+    let _ = (table, place, level);
     Err(StoreFault::Memory)
 }

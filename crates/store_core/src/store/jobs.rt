@@ -15,6 +15,7 @@ ghost use Rattle.store_core.specs.Events.{Does};
 ghost use Rattle.store_core.specs.Running.{IsState};
 
 use super::Store;
+use catalog_types::Table;
 use col_disk::{Disk, StoreFault};
 use mover_policy::{Merge, Place, next_merge, next_stale, projection_at};
 use state_laws::{refreshed_states_are_sound, risen_states_are_sound};
@@ -23,6 +24,16 @@ use table_jobs::{has_gone, merge, purge, refresh};
 
 // A table has no more projections.
 const MOST_OF_TABLE: usize = 16;
+
+/// The place of the first projection of a table that isn't up to date.
+fn stale_in(tables: &[Table], table: usize) -> Option<usize>
+    ensures { result ≡ stale_place table tables.now }
+{
+    match tables.get(table) {
+        Some(t) => next_stale(t.projections.as_slice()),
+        None => None,
+    }
+}
 
 impl Store {
     /// No table has more projections than a catalogue's may have.
@@ -56,10 +67,7 @@ impl Store {
         ensures stale { IfSome result (λ j. OfProjection table j self.now.seen.catalogue (λ p. p.fresh ≡ false)) }
         ensures empty { IfSome result (λ j. OfProjection table j self.now.seen.catalogue (λ p. length p.containers ≡ 0)) }
     {
-        match self.tables.root().tables.as_slice().get(table) {
-            Some(t) => next_stale(t.projections.as_slice()),
-            None => None,
-        }
+        stale_in(self.tables.root().tables.as_slice(), table)
     }
 
     /// One merge: what it makes is there after a stop once this has answered Ok.
