@@ -17,7 +17,7 @@ use table_store::TableStore;
 
 /// Whether some row of the projection at a place was deleted up to the ancient history mark. It takes no memory, and the disk isn't called.
 pub fn has_gone(store: &TableStore, table: usize, place: usize) -> bool {
-    let _ = (table, place);
+    let _ = (store, table, place);
     false
 }
 
@@ -37,6 +37,6 @@ pub fn purge<D: Disk>(
     ensures same { OnErr result (store.new ≡ store.old) }
     ensures cause { HasCause StoreFault.Disk (D.faults disk.old) (D.faults disk.new) result }
 {
-    let _ = (table, place);
+    let _ = (alloc, store, table, place, disk);
     Err(StoreFault::Memory)
 }

@@ -31,6 +31,6 @@ pub fn refresh<D: Disk>(
     ensures same { OnErr result (store.new ≡ store.old) }
     ensures cause { HasCause StoreFault.Disk (D.faults disk.old) (D.faults disk.new) result }
 {
-    let _ = (table, place);
+    let _ = (alloc, store, table, place, disk);
     Err(StoreFault::Memory)
 }
