@@ -70,13 +70,13 @@ class Table:
         names = ", ".join(n for n, _, _ in self.columns)
         self.db.executemany(f"INSERT INTO parts ({names}, ins) VALUES ({marks})", [tuple(row) + (self.epoch + 1,) for row in rows])
 
-    def load(self, count):
+    def load(self, count, name="parts"):
         rows = [(k, self.value("t", False)) for k in range(count)]
-        with open("tests/load_files/parts.tbl", "w", encoding="utf-8") as it:
+        with open(f"tests/load_files/{name}.tbl", "w", encoding="utf-8") as it:
             for row in rows:
                 it.write(line((row[0], row[1] or None), "nt") + "\n")
         self.put([(k, s or None) for k, s in rows])
-        self.closes((f"COPY parts FROM 'load_files/parts.tbl'", f"COPY {count} EPOCH {self.epoch + 1}"))
+        self.closes((f"COPY parts FROM 'load_files/{name}.tbl'", f"COPY {count} EPOCH {self.epoch + 1}"))
 
     def insert(self):
         rows = [[self.value(kind, strict) for _, kind, strict in self.columns] for _ in range(self.chance.randint(1, 4))]

@@ -25,13 +25,13 @@ use Rattle.container_writer.specs.Writing.{listed, HoldsBag, DataFrom, IsNumbere
 use Rattle.moveout_job.specs.OnDisk.{IsBelow, IsDrawn, IsListedBelow, IsRemarked, RemarksEach, MovesOut, moved_to}
 use Rattle.moveout_job.proofs.Renewed.{between, rows_below, rows_join, wider_below}
 
-zip_all : {A B : Type 0} (R : A → B → Type 0) (P : A → Type 0) (Q : B → Type 0) → ((x : A) (y : B) → R x y → P x → Q y) → (xs : List A) (ys : List B) → AllZip R xs ys → All P xs → All Q ys
+pub zip_all : {A B : Type 0} (R : A → B → Type 0) (P : A → Type 0) (Q : B → Type 0) → ((x : A) (y : B) → R x y → P x → Q y) → (xs : List A) (ys : List B) → AllZip R xs ys → All P xs → All Q ys
 zip_all R P Q f [] [] zipped all = λ j d lt. absurd (omega (arith, lt))
 zip_all R P Q f [] (y ∷ ys) zipped all = absurd zipped
 zip_all R P Q f (x ∷ xs) [] zipped all = absurd zipped
 zip_all R P Q f (x ∷ xs) (y ∷ ys) zipped all = All-cons Q y ys (f x y zipped.0 (All-head P x xs all)) (zip_all R P Q f xs ys zipped.1 (All-tail P x xs all))
 
-all_listed : (Q : Container → Type 0) (js : List Container) (made : Option Container) → All Q js → IfSome made Q → All Q (js ++ listed made)
+pub all_listed : (Q : Container → Type 0) (js : List Container) (made : Option Container) → All Q js → IfSome made Q → All Q (js ++ listed made)
 all_listed Q js None all one = subst (All Q) (sym (append-nil js)) all
 all_listed Q js (Some k) all one = All-push Q js k all one
 
@@ -40,7 +40,7 @@ of_entry last js made shown old new is same = is ∙ ap (moved_to last js made) 
 
 -- ---- numbers
 
-vector_low : (next mid : ℕ) (k j : Container) → IsRemarked next mid k j → HasVectorNumber k → HasVectorNumber j
+pub vector_low : (next mid : ℕ) (k j : Container) → IsRemarked next mid k j → HasVectorNumber k → HasVectorNumber j
 vector_low next mid k j is low = by is.marks
   where
     of : (o : Option ℕ) → IfSome o (IsDrawn next mid) → IfSome o (λ n. n < 2 ^ 62)
@@ -51,7 +51,7 @@ vector_low next mid k j is low = by is.marks
     by (inl same) = subst (λ (o : Option ℕ). IfSome o (λ n. n < 2 ^ 62)) (sym same) low
     by (inr drawn) = of j.marks drawn
 
-files_low : (columns : List ProjColumn) (next mid : ℕ) (k j : Container) → IsRemarked next mid k j → IsReadable columns k → IsReadable columns j
+pub files_low : (columns : List ProjColumn) (next mid : ℕ) (k j : Container) → IsRemarked next mid k j → IsReadable columns k → IsReadable columns j
 files_low columns next mid k j is low = record {
   of_columns = record {
     rows = let some = of.rows in let same = is.rows in omega (arith, some, same);
@@ -81,7 +81,7 @@ made_low columns mid after k is = (record { of_columns = of_columns; numbers = b
     of None v e = tt
     of (Some v) is_v e = let below = is.below in let stored = is.stored in omega (arith, is_v, e, below, stored)
 
-made_each : (columns : List ProjColumn) (mid after : ℕ) (made : Option Container) → AreNumbered (length columns) mid after made → IfSome made (IsReadable columns) × IfSome made HasVectorNumber
+pub made_each : (columns : List ProjColumn) (mid after : ℕ) (made : Option Container) → AreNumbered (length columns) mid after made → IfSome made (IsReadable columns) × IfSome made HasVectorNumber
 made_each columns mid after None are = (tt, tt)
 made_each columns mid after (Some k) are = made_low columns mid after k are
 
@@ -96,7 +96,7 @@ loads last next mid after old new js made is loadable each numbers =
       sort = loadable.sort;
     })
 
-remarked_below : (next mid : ℕ) (k j : Container) → next ≤ mid → IsRemarked next mid k j → IsBelow next k → IsBelow mid j
+pub remarked_below : (next mid : ℕ) (k j : Container) → next ≤ mid → IsRemarked next mid k j → IsBelow next k → IsBelow mid j
 remarked_below next mid k j le is low = record { files = let same = is.base in let stored = is.stored in let files = low.files in omega (arith, same, stored, files, le); vector = by is.marks }
   where
     up : (o : Option ℕ) → IfSome o (λ n. n < next) → IfSome o (λ n. n < mid)
@@ -126,7 +126,7 @@ pub numbers_rise : (columns mid after : ℕ) (made : Option Container) → AreNu
 numbers_rise columns mid after None are = omega (arith, are)
 numbers_rise columns mid after (Some k) are = let e = are.ends in omega (arith, e)
 
-made_all_below : (columns mid after : ℕ) (made : Option Container) → AreNumbered columns mid after made → IfSome made (IsBelow after)
+pub made_all_below : (columns mid after : ℕ) (made : Option Container) → AreNumbered columns mid after made → IfSome made (IsBelow after)
 made_all_below columns mid after None are = tt
 made_all_below columns mid after (Some k) are = made_below columns mid after k are
 
@@ -158,7 +158,7 @@ moves_out disk last next after p entry js made rows is each second bag are m n t
 
 -- ---- how many containers
 
-short : (made : Option Container) → length (listed made) ≤ 1
+pub short : (made : Option Container) → length (listed made) ≤ 1
 short None = omega arith
 short (Some k) = omega arith
 

@@ -1,3 +1,4 @@
 pub mod Joined
 pub mod Renewed
 pub mod Assembled
+pub mod Remaining

@@ -77,11 +77,11 @@ wider_below next after k le below = record { files = let files = below.files in 
 
 -- ---- one container
 
-stamped_same : (i : ℕ) (one other : ℕ → Option ℕ) (rows : List Asked) → ((j : ℕ) → one j ≡ other j) → stamped_from i one rows ≡ stamped_from i other rows
+pub stamped_same : (i : ℕ) (one other : ℕ → Option ℕ) (rows : List Asked) → ((j : ℕ) → one j ≡ other j) → stamped_from i one rows ≡ stamped_from i other rows
 stamped_same i one other [] same = refl
 stamped_same i one other (a ∷ rows) same = ap₂ (λ (d : Option ℕ) (ss : List Stamped). stamped d a ∷ ss) (same i) (stamped_same (i + 1) one other rows same)
 
-or_none : (o : Option ℕ) → option_or o None ≡ o
+pub or_none : (o : Option ℕ) → option_or o None ≡ o
 or_none None = refl
 or_none (Some e) = refl
 
@@ -126,24 +126,24 @@ new_entry next k j marks low is = subst (IsRemarked next (next + 1) k) (sym is) 
 -- ---- one container more
 
 -- of a list the front, and the last
-all_front : {X : Type 0} (P : X → Type 0) (xs : List X) (y : X) → All P (xs ++ y ∷ []) → All P xs
+pub all_front : {X : Type 0} (P : X → Type 0) (xs : List X) (y : X) → All P (xs ++ y ∷ []) → All P xs
 all_front P [] y all = λ j d lt. absurd (omega (arith, lt))
 all_front P (x ∷ xs) y all = All-cons P x xs (All-head P x (xs ++ y ∷ []) all) (all_front P xs y (All-tail P x (xs ++ y ∷ []) all))
 
-all_last : {X : Type 0} (P : X → Type 0) (xs : List X) (y : X) → All P (xs ++ y ∷ []) → P y
+pub all_last : {X : Type 0} (P : X → Type 0) (xs : List X) (y : X) → All P (xs ++ y ∷ []) → P y
 all_last P [] y all = All-head P y [] all
 all_last P (x ∷ xs) y all = all_last P xs y (All-tail P x (xs ++ y ∷ []) all)
 
 -- the rows of some containers, and those of the last one
-record Parts (m : Contents) (es : List Written) (ks : List Container) (bs : List Beside) (k : Container) (b : Beside) (rows : List Stamped) : Type 0 where
-  front : List Stamped
-  last : List Stamped
-  before : StoresRows m es ks bs front
-  vector : HoldsVector m k b.held
-  marked : HoldsMarked m es k (mark_in b) last
-  are : rows ≡ front ++ last
+pub record Parts (m : Contents) (es : List Written) (ks : List Container) (bs : List Beside) (k : Container) (b : Beside) (rows : List Stamped) : Type 0 where
+  pub front : List Stamped
+  pub last : List Stamped
+  pub before : StoresRows m es ks bs front
+  pub vector : HoldsVector m k b.held
+  pub marked : HoldsMarked m es k (mark_in b) last
+  pub are : rows ≡ front ++ last
 
-parted : (m : Contents) (es : List Written) (ks : List Container) (bs : List Beside) (k : Container) (b : Beside) (rows : List Stamped) → StoresRows m es (ks ++ k ∷ []) (bs ++ b ∷ []) rows → Parts m es ks bs k b rows
+pub parted : (m : Contents) (es : List Written) (ks : List Container) (bs : List Beside) (k : Container) (b : Beside) (rows : List Stamped) → StoresRows m es (ks ++ k ∷ []) (bs ++ b ∷ []) rows → Parts m es ks bs k b rows
 parted m es [] [] k b rows (here, more, vector, marked, rest, is) = record {
   front = [];
   last = here;
@@ -219,7 +219,7 @@ remarked_wider next after low end k j le lt is = record { base = is.base; rows =
 pub beside_within : (p : Projected) (shown : List Container) (i : ℕ) → shown ≡ p.entry.containers → IsSound p.entry p.beside → i < length shown → i < length p.beside
 beside_within p shown i same sound lt = omega (arith, lt, ap length same, AllZip-long IsKept p.entry.containers p.beside sound.kept)
 
-at_slice : {X : Type 0} (P : X → Type 0) (xs : List X) (i : ℕ) (d : X) → IsSomeAnd (slice_get xs i) P → P (get_or xs i d)
+pub at_slice : {X : Type 0} (P : X → Type 0) (xs : List X) (i : ℕ) (d : X) → IsSomeAnd (slice_get xs i) P → P (get_or xs i d)
 at_slice P [] i d is = absurd is
 at_slice P (x ∷ xs) zero d is = is
 at_slice P (x ∷ xs) (suc i) d is = at_slice P xs i d is

@@ -1,5 +1,5 @@
 -- A projection all of whose rows and marks are on disk.
-use Rattle.std.specs.Prelude.{ℕ, ◌≡◌, ◌⊎◌, ◌≤◌, ◌<◌, ◌+◌, ◌^◌, ◌++◌, true, List, length, Option, Some, IfSome}
+use Rattle.std.specs.Prelude.{ℕ, ◌≡◌, ◌⊎◌, ◌≤◌, ◌<◌, ◌+◌, ◌^◌, ◌++◌, Bool, true, false, List, length, Option, Some, IfSome}
 use Rattle.std.specs.List.{All, AllZip}
 use Rattle.common_laws.specs.Bags.{SameBag}
 use Rattle.common_laws.specs.Maps.{Contents}
@@ -11,7 +11,8 @@ use Rattle.del_vector.specs.declared.mark.Mark.{Mark}
 use Rattle.stored_rows.specs.Held.{HoldsVector, HoldsMarked, HoldsRows, Holds}
 use Rattle.stored_rows.specs.Stored.{Beside, Projected, mark_in, StoresRows, Stores}
 use Rattle.container_writer.specs.Writing.{listed, HoldsOne, AreNumbered}
-use Rattle.ros_container.specs.Encodings.{Written}
+use Rattle.ros_container.specs.Encodings.{Written, written_of}
+use Rattle.merge_rows.specs.Inputs.{others}
 
 -- the numbers of a container are below this one
 pub record IsBelow (next : ℕ) (k : Container) : Type 0 where
@@ -63,6 +64,11 @@ Remarks next after k b j found left =
     (m : Contents) (written : List Written) (rows : List Stamped) → found ≡ Some m → IsBelow next k → HoldsVector m k b.held → HoldsMarked m written k (mark_in b) rows
     → (n : Contents) × (left ≡ Some n) × HoldsOne n written j rows × IsBelow after j
 
+-- the same where the container isn't left out; one that is left out stays, and nothing else changes
+abbrev pub RemarksIf : Bool → ℕ → ℕ → Container → Beside → Container → Option Contents → Option Contents → Type 0
+RemarksIf true next after k b j found left = (after ≡ next) × (left ≡ found)
+RemarksIf false next after k b j found left = Remarks next after k b j found left
+
 -- the same of some containers
 abbrev pub RemarksEach : List Written → ℕ → ℕ → List Container → List Beside → List Container → Option Contents → Option Contents → Type 0
 RemarksEach written next after ks bs js found left =
@@ -78,3 +84,17 @@ MovesOut next p entry found left =
 -- marks of two lists, those of the first before those of the second
 abbrev pub beside : List Mark → List Mark → Beside
 beside held fresh = record { held = held; fresh = fresh }
+
+-- what containers stored that aren't left out, their new entries hold
+abbrev pub SavesOthers : ℕ → List Bool → Projected → List Container → Option Contents → Option Contents → Type 0
+SavesOthers next left_out p js found left =
+    (m n : Contents) → found ≡ Some m → left ≡ Some n → All (IsBelow next) (others left_out p.entry.containers) → (rows : List Stamped)
+    → StoresRows m (written_of p.entry) (others left_out p.entry.containers) (others left_out p.beside) rows → HoldsRows n (written_of p.entry) (others left_out js) rows
+
+-- Containers with their delete vectors, and one more, where there were rows in memory, with numbers from `next` up to `after`.
+pub record AreSaved (next after columns : ℕ) (old js : List Container) (memory : Option Container) : Type 0 where
+  pub mid : ℕ
+  pub later : next ≤ mid
+  pub each : AllZip (IsRemarked next mid) old js
+  pub numbers : AreNumbered columns mid after memory
+  pub level : IfSome memory (λ k. k.level ≡ 0)

@@ -26,7 +26,7 @@ pub struct MovedOut {
 }
 
 /// The rows in memory where they stand.
-fn refs(alloc: Global, rows: &[Held]) -> Result<Vec<StampedRef<'_>>, AllocError>
+pub fn refs(alloc: Global, rows: &[Held]) -> Result<Vec<StampedRef<'_>>, AllocError>
     ensures { IfOk result (λ v. map stamped_of v.items ≡ map stamp rows.now) }
 {
     let mut out = Vec::with_capacity(alloc, rows.len())?;

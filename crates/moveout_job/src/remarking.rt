@@ -27,7 +27,7 @@ pub struct Remarked {
 }
 
 /// Makes a delete vector of all marks of a container, where some came since its own was made.
-fn mark_one<D: Disk>(
+pub fn mark_one<D: Disk>(
     alloc: Global,
     disk: &mut D,
     container: &Container,
@@ -71,7 +71,7 @@ pub struct AllRemarked {
     pub next: u64,
 }
 
-fn add(containers: &mut Vec<Container>, container: Container) -> Result<(), AllocError>
+pub fn add(containers: &mut Vec<Container>, container: Container) -> Result<(), AllocError>
     ensures { OnOk result (containers.new.items ≡ containers.old.items ++ container ∷ []) }
 {
     containers.push(container)?;

@@ -1,18 +1,16 @@
 -- A column that joins the others, in containers that don't store it and in memory.
-use Rattle.std.proofs.Common.{◌≡◌, ◌+◌, ◌<◌, ◌≤◌, ℕ, zero, suc, Bool, true, false, List, [], ◌∷◌, ◌++◌, length, map, drop, get_or, replicate, refl, sym, ◌∙◌, ap, ap₂, subst, arith, length-append}
-use Rattle.std.specs.Prelude.{Option, Some, None, nat_lt, slice_index_or, unwrap_or}
+use Rattle.std.proofs.Common.{◌≡◌, ◌+◌, ◌<◌, ◌≤◌, ℕ, suc, Bool, true, false, List, [], ◌∷◌, ◌++◌, length, map, replicate, refl, sym, ◌∙◌, ap, subst, arith, length-append}
+use Rattle.std.specs.Prelude.{Option, Some, nat_lt, slice_index_or, unwrap_or}
 use Rattle.std.specs.List.{All}
 use Rattle.std.proofs.lemmas.Bool.Decides.{nat_tests}
-use Rattle.std.proofs.lemmas.List.{length-map, drop-append-le}
-use Rattle.std.proofs.lemmas.List.Elements.{All-nil, All-cons, All-head, All-tail, All-push}
+use Rattle.std.proofs.lemmas.List.{length-map}
+use Rattle.std.proofs.lemmas.List.Elements.{All-nil, All-cons, All-head, All-tail}
 use Rattle.std.proofs.Math.ListN.{get_or-append}
 use Rattle.std.proofs.Math.Seq.{get_or-append_seam}
 use Rattle.common_laws.specs.Maps.{Contents}
 use Rattle.catalog_types.specs.declared.catalogue.Container.{Container}
 use Rattle.catalog_types.specs.declared.catalogue.ProjColumn.{ProjColumn}
-use Rattle.catalog_types.specs.declared.catalogue.Projection.{Projection}
 use Rattle.col_file.specs.Held.{HoldsColumn}
-use Rattle.col_value.specs.declared.kinds.Encoding.{Encoding}
 use Rattle.col_value.specs.declared.kinds.Encoding.TheVariants.{Auto}
 use Rattle.col_value.specs.declared.row.Asked.{Asked}
 use Rattle.col_value.specs.declared.row.Stamped.{Stamped}
@@ -21,16 +19,14 @@ use Rattle.col_value.specs.declared.value.Value.TheVariants as value
 use Rattle.ros_container.specs.Encodings.{Written, written_as, written_of, as_epochs, encoding_at, default_at}
 use Rattle.ros_container.specs.Files.{body_of, index_of}
 use Rattle.ros_container.specs.Held.{HoldsContainer}
-use Rattle.ros_container.specs.Parts.{with_value as asked_with, with_values}
-use Rattle.ros_container.specs.Readable.{HasDefaultValue, IsReadable}
-use Rattle.ros_container.specs.Rows.{column_values, epoch_values, AreWide}
+use Rattle.ros_container.specs.Parts.{with_values}
+use Rattle.ros_container.specs.Rows.{column_values, AreWide}
 use Rattle.ros_container.proofs.Columns.{with_epochs, with_within, with_wide, with_before, with_here}
 use Rattle.ros_container.proofs.Long.{container_long}
 use Rattle.stored_rows.specs.Held.{HoldsMarked, stamped_from}
 use Rattle.stored_rows.specs.Stored.{Beside, Projected, StoresRows, Stores, IsMemoryAbove, mark_in}
 use Rattle.write_store.specs.Memory.{with_value}
-use Rattle.proj_store.specs.Sound.{IsSound}
-use Rattle.proj_store.specs.Widening.{new_column, with_columns, with_column}
+use Rattle.proj_store.specs.Widening.{new_column, with_column}
 
 -- ---- lists
 
@@ -110,20 +106,26 @@ saved_wide : (m : Contents) (es : List Written) (ks : List Container) (bs : List
 saved_wide m es [] [] rows w v most default is = ap (map (with_value v)) is
 saved_wide m es [] (b ∷ bs) rows w v most default held = absurd held
 saved_wide m es (k ∷ ks) [] rows w v most default held = absurd held
-saved_wide m es (k ∷ ks) (b ∷ bs) rows w v most default (here, more, vector, marked, rest, is) =
-    (map (with_value v) here, map (with_value v) more, vector, marked_wide m es k (mark_in b) here w v (All-head (λ (x : Container). x.stored ≤ length es) k ks most) default marked,
-    saved_wide m es ks bs more w v (All-tail (λ (x : Container). x.stored ≤ length es) k ks most) default rest, ap (map (with_value v)) is ∙ map_join (with_value v) here more)
+saved_wide m es (k ∷ ks) (b ∷ bs) rows w v most default (here, more, vector, marked, rest, is) = (
+  map (with_value v) here,
+  map (with_value v) more,
+  vector,
+  marked_wide m es k (mark_in b) here w v (All-head (λ (x : Container). x.stored ≤ length es) k ks most) default marked,
+  saved_wide m es ks bs more w v (All-tail (λ (x : Container). x.stored ≤ length es) k ks most) default rest,
+  ap (map (with_value v)) is ∙ map_join (with_value v) here more,
+)
 
 pub stores_wide : (m : Contents) (ordinal : ℕ) (v : Value) (p : Projected) (rows : List Stamped) → All (λ k. k.stored ≤ length p.entry.columns) p.entry.containers
     → Stores m p rows → Stores m (with_column ordinal v p) (map (with_value v) rows)
 stores_wide m ordinal v p rows most (saved, stores, is) =
     let c : ProjColumn = new_column ordinal v in
     let inside : All (λ k. k.stored ≤ length (written_of p.entry)) p.entry.containers =
-    subst (λ (n : ℕ). All (λ k. k.stored ≤ n) p.entry.containers) (sym (length-map p.entry.columns written_as)) most in
-    (map (with_value v) saved,
-    subst (λ (es : List Written). StoresRows m es p.entry.containers p.beside (map (with_value v) saved)) (sym (map_join written_as p.entry.columns (c ∷ [])))
-    (saved_wide m (written_of p.entry) p.entry.containers p.beside saved (written_as c) v inside refl stores),
-    ap (map (with_value v)) is ∙ map_join (with_value v) saved p.unsaved)
+    subst (λ (n : ℕ). All (λ k. k.stored ≤ n) p.entry.containers) (sym (length-map p.entry.columns written_as)) most in (
+      map (with_value v) saved,
+      subst (λ (es : List Written). StoresRows m es p.entry.containers p.beside (map (with_value v) saved)) (sym (map_join written_as p.entry.columns (c ∷ [])))
+          (saved_wide m (written_of p.entry) p.entry.containers p.beside saved (written_as c) v inside refl stores),
+      ap (map (with_value v)) is ∙ map_join (with_value v) saved p.unsaved,
+    )
 
 -- ---- what is in memory
 

@@ -1,12 +1,9 @@
 //! The plan of a statement.
 
-ghost use Rattle.std.specs.Prelude.{ℕ, ◌≡◌, true, None, Some, IfErr, IfOk};
-ghost use Rattle.db_model.specs.Refusals.{unknown_table_refusal};
+ghost use Rattle.std.specs.Prelude.{◌≡◌, true, IfErr, IfOk};
 ghost use Rattle.name_binder.specs.Refusing.{RefusesBy};
 ghost use Rattle.sql_tree.specs.declared.statement.Statement.{Statement as AStatement};
-ghost use Rattle.statement_plan.specs.Places.{table_place};
 ghost use Rattle.statement_plan.specs.Planned.{early_call_refusal, early_refusal, is_planned, IsPlanned};
-ghost use Rattle.statement_plan.specs.declared.plans.Plan.{Plan as APlan};
 
 use crate::adding::plan_addition;
 use crate::changing::{plan_delete, plan_update};
@@ -18,32 +15,9 @@ use crate::loading::loadable_table;
 use crate::plans::Plan;
 use crate::projecting::plan_projection;
 use crate::querying::{plan_query, plan_select};
-use col_value::Name;
 use name_binder::BindFault;
-use sql_tree::{Function, Refusal, Statement};
+use sql_tree::{Function, Statement};
 use std::alloc::Global;
-
-/// The plan of a function that isn't refused for this.
-fn unless(refusal: Option<Refusal>) -> Result<Plan, BindFault>
-    ensures planned { IfOk result (λ plan. (plan ≡ APlan.Call) × (refusal ≡ None)) }
-    ensures refused { IfErr result (RefusesBy refusal) }
-{
-    match refusal {
-        Some(refusal) => Err(BindFault::Refused(refusal)),
-        None => Ok(Plan::Call),
-    }
-}
-
-/// The plan of a function of one table, by the table's name.
-fn plan_call_on(alloc: Global, frame: &Frame<'_>, table: &Name) -> Result<Plan, BindFault>
-    ensures planned { IfOk result (λ plan. (place : ℕ) × (plan ≡ APlan.CallOn place) × (table_place table.now frame.now.database.tables ≡ Some place) × (unknown_table_refusal frame.now table.now ≡ None)) }
-    ensures refused { IfErr result (RefusesBy (unknown_table_refusal frame.now table.now)) }
-{
-    match known_table(alloc, frame, table) {
-        Ok(place) => Ok(Plan::CallOn(place)),
-        Err(fault) => Err(fault),
-    }
-}
 
 /// The plan of a function, or why it is refused by what it says.
 fn plan_call(alloc: Global, frame: &Frame<'_>, function: &Function) -> Result<Plan, BindFault>
@@ -51,10 +25,22 @@ fn plan_call(alloc: Global, frame: &Frame<'_>, function: &Function) -> Result<Pl
     ensures refused { IfErr result (RefusesBy (early_call_refusal frame.now function.now)) }
 {
     match function {
-        Function::MakeAhmNow => unless(frame.marking_now()),
-        Function::SetAhm(mark) => unless(frame.marking(*mark)),
-        Function::Purge(table) => plan_call_on(alloc, frame, table),
-        Function::Refresh(table) => plan_call_on(alloc, frame, table),
+        Function::MakeAhmNow => match frame.marking_now() {
+            Some(refusal) => Err(BindFault::Refused(refusal)),
+            None => Ok(Plan::Call),
+        },
+        Function::SetAhm(mark) => match frame.marking(*mark) {
+            Some(refusal) => Err(BindFault::Refused(refusal)),
+            None => Ok(Plan::Call),
+        },
+        Function::Purge(table) => match known_table(alloc, frame, table) {
+            Ok(place) => Ok(Plan::CallOn(place)),
+            Err(fault) => Err(fault),
+        },
+        Function::Refresh(table) => match known_table(alloc, frame, table) {
+            Ok(place) => Ok(Plan::CallOn(place)),
+            Err(fault) => Err(fault),
+        },
         Function::Lge
         | Function::Ahm
         | Function::Current

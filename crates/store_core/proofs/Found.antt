@@ -16,7 +16,8 @@ use Rattle.mover_policy.specs.declared.merging.Merge.{Merge}
 use Rattle.mover_policy.specs.First.{all_projections, projection_at}
 use Rattle.mover_policy.specs.Merging.{has_four, IsBest, IsNext}
 use Rattle.stored_rows.specs.Stored.{Projected}
-use Rattle.table_jobs.specs.Jobs.{HasFour, OfProjection}
+use Rattle.table_jobs.specs.Jobs.{OfProjection}
+use Rattle.table_jobs.specs.Oldest.{HasFour}
 use Rattle.table_store.specs.Moving.{IsFreshAt}
 use Rattle.store_core.specs.Jobs.{stale_place}
 use Rattle.store_core.proofs.Anew.{all_at, is_some_and}

@@ -41,10 +41,6 @@ pub record DrawsMerged (i j : ℕ) (old new : Catalogue) (p : Projection) : Type
 abbrev pub OfProjection : ℕ → ℕ → Catalogue → (Projection → Type 0) → Type 0
 OfProjection i j c P = IsSomeAnd (slice_get c.tables i) (λ t. IsSomeAnd (slice_get t.projections j) P)
 
--- four of these containers are of a level
-abbrev pub HasFour : ℕ → List Container → Type 0
-HasFour level ks = 4 ≤ length (filter (λ k. k.level == level) ks)
-
 -- the projection at a place of the table at a place isn't up to date
 abbrev pub IsStaleAt : ℕ → ℕ → Database → Type 0
 IsStaleAt i j d = IsSomeAnd (slice_get d.tables i) (λ t. IsSomeAnd (slice_get t.shapes j) (λ s. s.fresh ≡ false))

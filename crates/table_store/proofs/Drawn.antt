@@ -88,7 +88,7 @@ columns_below columns (k ∷ ks) all q found = by (eqb q k.ordinal) refl (column
         omega arith
     by false is behind there = behind there
 
-columns_most : (c : Catalogue) (t : kept.Table) (p : Projection) → IsProjection c t p → length p.columns ≤ length t.columns
+pub columns_most : (c : Catalogue) (t : kept.Table) (p : Projection) → IsProjection c t p → length p.columns ≤ length t.columns
 columns_most c t p is =
     let most : length (map (λ (k : ProjColumn). k.ordinal) p.columns) ≤ length t.columns =
     length-le_from_distinct_below (map (λ k. k.ordinal) p.columns) (length t.columns) (ordinals_distinct p.columns is.columns_once) (columns_below t.columns p.columns is.columns) in
@@ -115,7 +115,7 @@ drawn_few columns containers most next version narrow few upto =
     omega arith
 
 -- what stands at a place of the catalogue
-entry_small : (root : Catalogue) (stores : List (List Projected)) (i j : ℕ) (parts : List Projected) (old : Projected) → IsValid root → map (λ ps. map (λ p. p.entry) ps) stores ≡ map (λ t. t.projections) root.tables
+pub entry_small : (root : Catalogue) (stores : List (List Projected)) (i j : ℕ) (parts : List Projected) (old : Projected) → IsValid root → map (λ ps. map (λ p. p.entry) ps) stores ≡ map (λ t. t.projections) root.tables
     → i < length stores → parts ≡ get_or stores i parts → j < length parts → old ≡ get_or parts j old
     → (length old.entry.columns ≤ 64) × ((most : ℕ) → FewContainers most root → length old.entry.containers ≤ most)
 entry_small root stores i j parts old valid entries lt parts_are below old_is =

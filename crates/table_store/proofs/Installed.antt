@@ -142,7 +142,7 @@ install_made read {D} disk {old} {mid} {new} root c last stores now i j version 
     (subst (λ (n : ℕ). AreDatabase then.files (with_entry_at last version i j one.entry root) (change_at i (change_at j (λ x. one)) stores) (reached_at n i j d)) epoch
     (installed_are read then.files (at_epoch last root) stores d version i j one read_in renewal rows here)) in
     let next : now.catalogue.next ≤ version = subst (λ (s : Seen). s.catalogue.next ≤ version) view drawn in
-    move_makes disk now (seen c (change_at i (change_at j (λ x. one)) stores)) result d (reached_at entry.lge i j d) stands {W = NoName} (no_file stands.root) moved
+    move_makes disk disk_fault.Memory now (seen c (change_at i (change_at j (λ x. one)) stores)) result d (reached_at entry.lge i j d) stands {W = NoName} (no_file stands.root) moved
     (made now (change_at i (change_at j (λ x. one)) stores) d (reached_at entry.lge i j d) then next are
     (reached_sound d entry.lge i j (omega (arith, mark, here.ahm)) (omega (arith, closed, here.last)) stands.sound))
 

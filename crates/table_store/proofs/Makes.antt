@@ -139,9 +139,9 @@ rewritten_are read {D} disk {old} {mid} root c last stores d version i j parts p
     (moved_are read stands.files then.files (at_epoch last root) stores d version root.next version i j parts p new lt parts_are below p_is fresh is.entry (is.loaded then.files then.quiet.told_is)
     (is.rows stands.files then.files stands.quiet.told_is then.quiet.told_is (entry_below root stores i j parts p valid entries lt parts_are below p_is)) stands.are then.are)
 
-pub move_makes : {D : Type 0} (disk : Ghosts D) {old mid new : D} (was is : Seen) (result : Result (Unit {0}) DiskFault) (d e : Database) → (stands : Stands disk was old d) → {W : ℕ → Type 0} → ((q : ℕ) → W q → IsSpare stands.root q)
-    → Moved disk W NoName old mid → Makes disk disk_fault.Memory was is mid new result d e → Makes disk disk_fault.Memory was is old new result d e
-move_makes disk {old} {mid} {new} was is result d e stands {W} spare moved made = record {
+pub move_makes : {D F : Type 0} (disk : Ghosts D) (short : F) {old mid new : D} (was is : Seen) (result : Result (Unit {0}) F) (d e : Database) → (stands : Stands disk was old d) → {W : ℕ → Type 0} → ((q : ℕ) → W q → IsSpare stands.root q)
+    → Moved disk W NoName old mid → Makes disk short was is mid new result d e → Makes disk short was is old new result d e
+move_makes disk short {old} {mid} {new} was is result d e stands {W} spare moved made = record {
   done = made.done;
   undone = made.undone;
   any_moment = leaves_join disk (leaves_wider disk (λ x reopens. inl reopens) (moved_reopens disk {W = W} {R = NoName} was.catalogue was.stores d stands spare (λ q no. absurd no) moved)) made.any_moment;
@@ -175,7 +175,7 @@ move_made read {D} disk {old} {mid} {new} root c last tables now i j version one
     let then : Stands disk (seen_of root last tables) mid d = stands_moved disk {W = DataFrom root.next} {R = NoName} (at_epoch last root) stores d here spare (λ q no. absurd no) moved in
     let are = rewritten_are read disk root c last stores d version i j parts p one lt parts_are below p_is up_to_date held.entries held.valid here then from in
     subst (λ (s : Seen). Makes disk disk_fault.Memory s (seen c (change_at i (change_at j (λ x. one)) stores)) old new result d (moved_at i j d)) view
-    (move_makes disk (seen_of root last tables) (seen c (change_at i (change_at j (λ x. one)) stores)) result d (moved_at i j d) here {W = DataFrom root.next} spare moved
+    (move_makes disk disk_fault.Memory (seen_of root last tables) (seen c (change_at i (change_at j (λ x. one)) stores)) result d (moved_at i j d) here {W = DataFrom root.next} spare moved
     (made (seen_of root last tables) (change_at i (change_at j (λ x. one)) stores) d (moved_at i j d) then from.drawn are (moved_sound d i j here.sound)))
   where
     stores : List (List Projected)

@@ -191,7 +191,7 @@ container_below next columns lge k is = record { files = is.files.1; vector = lo
     lower None h = tt
     lower (Some n) (some, lt) = lt
 
-projection_below : (c : Catalogue) (t : kept.Table) (p : Projection) → IsProjection c t p → IsListedBelow c.next p
+pub projection_below : (c : Catalogue) (t : kept.Table) (p : Projection) → IsProjection c t p → IsListedBelow c.next p
 projection_below c t p is = All-weaker (IsContainer c.next (length p.columns) p.lge) (IsBelow c.next) (λ k h. container_below c.next (length p.columns) p.lge k h) p.containers is.containers
 
 pub entry_below : (root : Catalogue) (stores : List (List Projected)) (i j : ℕ) (parts : List Projected) (old : Projected) → IsValid root → map (λ ps. map (λ p. p.entry) ps) stores ≡ map (λ t. t.projections) root.tables

@@ -1,10 +1,10 @@
 -- A table with one column more, and what the store stands for with it.
-use Rattle.std.proofs.Common.{◌≡◌, ℕ, zero, suc, ◌+◌, ◌<◌, ◌≤◌, Bool, true, false, cond, List, [], ◌∷◌, ◌++◌, length, map, set, get_or, refl, sym, ◌∙◌, ap, ap₂, subst, arith}
-use Rattle.std.specs.Prelude.{Result, Option, Some, None, IsSomeAnd, IfSome, filter, slice_index_or}
+use Rattle.std.proofs.Common.{◌≡◌, ℕ, zero, suc, ◌+◌, ◌<◌, ◌≤◌, Bool, true, false, cond, List, [], ◌∷◌, ◌++◌, length, map, set, take, drop, get_or, refl, sym, ◌∙◌, ap, ap₂, subst, arith}
+use Rattle.std.specs.Prelude.{Result, Option, IsSomeAnd, IfSome, slice_index_or}
 use Rattle.std.specs.Bool.{OnTrue, OnFalse}
-use Rattle.std.specs.List.{All, AllZip, slice_get, enumerate_from}
-use Rattle.std.proofs.lemmas.List.{get_or-map, length-map, map-set}
-use Rattle.std.proofs.lemmas.List.Elements.{All-cons, All-filter, All-head, All-map, All-nil, All-tail, All-weaker}
+use Rattle.std.specs.List.{All, AllZip, slice_get}
+use Rattle.std.proofs.lemmas.List.{get_or-map, get_or_default, length-map, map-set, take_more}
+use Rattle.std.proofs.lemmas.List.Elements.{All-cons, All-filter, All-head, All-nil, All-tail, All-weaker}
 use Rattle.std.proofs.Math.ListN.{get_or-append}
 use Rattle.std.proofs.Math.Seq.{get_or-append_seam}
 use Rattle.common_laws.specs.Bags.{SameBag}
@@ -20,24 +20,22 @@ use Rattle.col_value.specs.declared.row.Stamped.{Stamped}
 use Rattle.col_value.specs.declared.value.Value.{Value}
 use Rattle.col_value.specs.declared.value.Value.TheVariants as value
 use Rattle.row_history.specs.History.{is_retained, retained, on_columns}
-use Rattle.row_history.proofs.Histories.{filter_mapped, map_mapped}
-use Rattle.catalog_types.specs.declared.catalogue.Container.{Container}
+use Rattle.row_history.proofs.Histories.{filter_mapped}
 use Rattle.catalog_types.specs.declared.catalogue.ProjColumn.{ProjColumn}
 use Rattle.catalog_types.specs.declared.catalogue.Projection.{Projection}
 use Rattle.catalog_types.specs.declared.catalogue.Table as kept
 use Rattle.catalog_types.specs.declared.catalogue.Catalogue.{Catalogue}
 use Rattle.catalog_types.specs.Parts.{FitsColumn, IsContainer, IsProjColumn, IsProjection, IsTable, takes_kind}
 use Rattle.catalog_types.specs.Valid.{IsValid}
-use Rattle.db_model.specs.Database.{Database, Shape, Table, has_columns}
-use Rattle.db_model.specs.Database as model
+use Rattle.db_model.specs.Database.{Database, Shape, Table}
 use Rattle.db_model.specs.Events.{widened, with_value}
 use Rattle.db_model.specs.Events as event
 use Rattle.db_model.specs.Sound.{IsSoundDatabase, IsSoundTable, RowFits, ValueFits}
-use Rattle.stored_rows.specs.Stored.{Beside, Projected, Stores, IsMemoryAbove}
+use Rattle.stored_rows.specs.Stored.{Projected}
 use Rattle.proj_store.specs.Loaded.{Loaded}
 use Rattle.proj_store.specs.Widening.{Wider, new_column, with_column, with_columns}
 use Rattle.proj_store.proofs.Wider.{stores_wide, wide_above}
-use Rattle.folder_model.specs.Projections.{shape_of, ordinals, IsHistoryOf, HasHistory, IsBare, HasRows}
+use Rattle.folder_model.specs.Projections.{shape_of, ordinals, HasHistory, IsBare, HasRows}
 use Rattle.folder_model.specs.Tables.{StandsForTable, StandForTables, AreDatabase}
 use Rattle.folder_model.proofs.CutTables.{of_entries}
 use Rattle.store_commit.specs.Seen.{Seen, Stands, seen}
@@ -47,8 +45,9 @@ use Rattle.table_store.specs.Changing.{zipped}
 use Rattle.table_store.specs.Held.{at_epoch, projections_of, seen_of, IsHeld}
 use Rattle.table_store.specs.Drawing.{DrawsOne}
 use Rattle.table_store.specs.Widening.{CanTake, IsWidening, has_all, wide_entry, wide_part, wide_parts, wide_table, widened_at, widened_by, with_column_at}
+use Rattle.table_store.proofs.Loops.{zip_push}
 use Rattle.table_store.proofs.Makes.{at_own}
-use Rattle.table_store.proofs.Moved.{at_place, change_set}
+use Rattle.table_store.proofs.Moved.{at_place, change_set, is_at}
 
 -- ---- rows
 
@@ -69,18 +68,16 @@ map_join : {X Y : Type 0} (f : X → Y) (xs ys : List X) → map f (xs ++ ys) �
 map_join f [] ys = refl
 map_join {X} {Y} f (x ∷ xs) ys = ap (λ (zs : List Y). f x ∷ zs) (map_join f xs ys)
 
-with_row : Stamped → List Value → Stamped
+abbrev with_row : Stamped → List Value → Stamped
 with_row s row = record s { row = row }
 
 -- a projection that doesn't get the column has the same rows
 same_row : (n : ℕ) (columns : List ℕ) (v : Value) (s : Stamped) → length s.row ≡ n → AreBelow n columns → on_columns columns (with_value v s) ≡ on_columns columns s
-  unfolding with_row
 same_row n columns v s long below =
     ap (with_row s) (same_values s.row v columns (subst (λ (k : ℕ). AreBelow k columns) (sym long) below))
 
 -- and one that gets it has the value in each
 wide_row : (n : ℕ) (columns : List ℕ) (v : Value) (s : Stamped) → length s.row ≡ n → AreBelow n columns → on_columns (columns ++ n ∷ []) (with_value v s) ≡ with_value v (on_columns columns s)
-  unfolding with_row
 wide_row n columns v s long below =
     ap (with_row s)
     (map_join (λ (c : ℕ). slice_index_or (s.row ++ v ∷ []) c value.Null) columns (n ∷ [])
@@ -173,19 +170,17 @@ parts_have m mark columns v rows (p ∷ ps) long of has =
 
 -- ---- the table
 
-with_shape_columns : Shape → List (ℕ × Encoding) → Shape
+abbrev with_shape_columns : Shape → List (ℕ × Encoding) → Shape
 with_shape_columns s columns = record s { columns = columns }
 
 shapes_wide : (u : Table) (v : Value) (ps : List Projection) → map (event.with_column u) (map shape_of ps) ≡ map shape_of (map (wide_entry u.columns v) ps)
 shapes_wide u v [] = refl
 shapes_wide u v (p ∷ ps) = ap₂ (λ (s : Shape) (ss : List Shape). s ∷ ss) (by (has_all u.columns p)) (shapes_wide u v ps)
   where
-    n : ℕ
-    n = length u.columns
-
     by : (b : Bool) → cond b (record (shape_of p) { columns = (shape_of p).columns ++ (length u.columns, Encoding.Auto) ∷ [] }) (shape_of p) ≡ shape_of (cond b (with_columns (p.columns ++ new_column (length u.columns) v ∷ []) p) p)
-      unfolding with_shape_columns
-    by true = ap (with_shape_columns (shape_of p)) (sym (map_join {ProjColumn} {ℕ × Encoding} (λ c. (c.ordinal, c.encoding)) p.columns (new_column (length u.columns) v ∷ [])))
+    by true =
+        let f : ProjColumn → ℕ × Encoding = λ c. (c.ordinal, c.encoding) in
+        ap (with_shape_columns (shape_of p)) (sym (map_join f p.columns (new_column (length u.columns) v ∷ [])))
     by false = refl
 
 pub entries_wide : (columns : List Column) (v : Value) (ps : List Projected) → map (λ p. p.entry) (wide_parts columns v ps) ≡ map (wide_entry columns v) (map (λ p. p.entry) ps)
@@ -237,7 +232,6 @@ table_wide m mark k d c v t ps u is sound stands = record {
 
 -- ---- the catalogue
 
-
 stand_wide : (m : Contents) (mark : ℕ) (k : Catalogue) (d : Database) (c : Column) (v : Value) (columns : List Column) (ts : List kept.Table) (pss : List (List Projected)) (us : List Table) (i : ℕ)
     → All (IsTable k) ts → All (IsSoundTable d) us → IsSomeAnd (slice_get ts i) (λ t. t.columns ≡ columns) → StandForTables m mark ts pss us
     → StandForTables m mark (change_at i (wide_table c v) ts) (change_at i (wide_parts columns v) pss) (change_at i (widened c v) us)
@@ -246,9 +240,11 @@ stand_wide m mark k d c v columns [] [] (u ∷ us) i valid sound there stand = a
 stand_wide m mark k d c v columns [] (ps ∷ pss) us i valid sound there stand = absurd stand
 stand_wide m mark k d c v columns (t ∷ ts) [] us i valid sound there stand = absurd stand
 stand_wide m mark k d c v columns (t ∷ ts) (ps ∷ pss) [] i valid sound there stand = absurd stand
-stand_wide m mark k d c v columns (t ∷ ts) (ps ∷ pss) (u ∷ us) zero valid sound there (here, more) =
-    (subst (λ (cs : List Column). StandsForTable m mark (wide_table c v t) (wide_parts cs v ps) (widened c v u)) there
-    (table_wide m mark k d c v t ps u (All-head (IsTable k) t ts valid) (All-head (IsSoundTable d) u us sound) here), more)
+stand_wide m mark k d c v columns (t ∷ ts) (ps ∷ pss) (u ∷ us) zero valid sound there (here, more) = (
+  subst (λ (cs : List Column). StandsForTable m mark (wide_table c v t) (wide_parts cs v ps) (widened c v u)) there
+      (table_wide m mark k d c v t ps u (All-head (IsTable k) t ts valid) (All-head (IsSoundTable d) u us sound) here),
+  more,
+)
 stand_wide m mark k d c v columns (t ∷ ts) (ps ∷ pss) (u ∷ us) (suc i) valid sound there (here, more) =
     (here, stand_wide m mark k d c v columns ts pss us i (All-tail (IsTable k) t ts valid) (All-tail (IsSoundTable d) u us sound) there more)
 
@@ -343,3 +339,63 @@ all_widened columns v [] [] all = refl
 all_widened columns v [] (o ∷ os) all = absurd all
 all_widened columns v (p ∷ ps) [] all = absurd all
 all_widened columns v (p ∷ ps) (o ∷ os) all = ap₂ (λ (q : Projected) (qs : List Projected). q ∷ qs) all.0 (all_widened columns v ps os all.1)
+
+-- what was lent is what is put back
+same_there : {X : Type 0} (xs : List X) (i : ℕ) (x y : X) → i < length xs → x ≡ get_or xs i x → y ≡ get_or xs i y → x ≡ y
+same_there xs i x y lt x_is y_is = x_is ∙ get_or_default xs i x y lt ∙ sym y_is
+
+pub can_still : (tables : List (List Loaded)) (i : ℕ) (lent old : List Loaded) (os : List (Option Wider)) → i < length tables → lent ≡ get_or tables i lent → old ≡ get_or tables i old
+    → AllZip CanTake os lent → AllZip CanTake os old
+can_still tables i lent old os lt lent_is old_is can = subst (AllZip CanTake os) (same_there tables i lent old lt lent_is old_is) can
+
+pub parts_applied : (tables : List (List Loaded)) (i : ℕ) (columns : List Column) (v : Value) (lent old new : List Loaded) (os : List (Option Wider)) → i < length tables → lent ≡ get_or tables i lent → old ≡ get_or tables i old
+    → zipped widened_by os (projections_of lent) ≡ wide_parts columns v (projections_of lent) → projections_of new ≡ zipped widened_by os (projections_of old)
+    → map projections_of (set tables i new) ≡ change_at i (wide_parts columns v) (map projections_of tables)
+parts_applied tables i columns v lent old new os lt lent_is old_is made applied =
+    let one : zipped widened_by os (projections_of old) ≡ wide_parts columns v (projections_of old) =
+    subst (λ (ps : List Loaded). zipped widened_by os (projections_of ps) ≡ wide_parts columns v (projections_of ps)) (same_there tables i lent old lt lent_is old_is) made in
+    stores_wider tables (set tables i new) i columns v old new lt old_is refl (applied ∙ one)
+
+pub widened_all : (columns : List Column) (v : Value) (lent now : List Loaded) (os : List (Option Wider)) → lent ≡ now → AllZip (IsWidening columns v) (projections_of lent) os
+    → zipped widened_by os (projections_of now) ≡ wide_parts columns v (projections_of now)
+widened_all columns v lent now os same all = subst (λ (ps : List Loaded). zipped widened_by os (projections_of ps) ≡ wide_parts columns v (projections_of ps)) same (all_widened columns v (projections_of lent) os all)
+
+-- ---- loops
+
+pub made_next : (columns : List Column) (v : Value) (stores : List Loaded) (i : ℕ) (x : Loaded) (os after : List (Option Wider)) (o : Option Wider) → i < length stores → x ≡ get_or stores i x → after ≡ os ++ o ∷ []
+    → AllZip (IsWidening columns v) (projections_of (take i stores)) os → IsWidening columns v x.stored o → AllZip (IsWidening columns v) (projections_of (take (i + 1) stores)) after
+made_next columns v stores i x os after o lt is after_is all one =
+    let next : take (i + 1) stores ≡ take i stores ++ x ∷ [] = take_more stores i x lt ∙ ap (λ (y : Loaded). take i stores ++ y ∷ []) (sym is) in
+    let stored : projections_of (take (i + 1) stores) ≡ projections_of (take i stores) ++ x.stored ∷ [] = ap projections_of next ∙ map_join (λ (p : Loaded). p.stored) (take i stores) (x ∷ []) in
+    subst (λ (ps : List Projected). AllZip (IsWidening columns v) ps after) (sym stored)
+    (subst (λ (ys : List (Option Wider)). AllZip (IsWidening columns v) (projections_of (take i stores) ++ x.stored ∷ []) ys) (sym after_is)
+    (zip_push (IsWidening columns v) (projections_of (take i stores)) os x.stored o all one))
+
+pub ready_next : (stores : List Loaded) (i : ℕ) (x : Loaded) (os after : List (Option Wider)) (o : Option Wider) → i < length stores → x ≡ get_or stores i x → after ≡ os ++ o ∷ []
+    → AllZip CanTake os (take i stores) → CanTake o x → AllZip CanTake after (take (i + 1) stores)
+ready_next stores i x os after o lt is after_is all one =
+    let next : take (i + 1) stores ≡ take i stores ++ x ∷ [] = take_more stores i x lt ∙ ap (λ (y : Loaded). take i stores ++ y ∷ []) (sym is) in
+    subst (λ (ps : List Loaded). AllZip CanTake after ps) (sym next)
+    (subst (λ (ys : List (Option Wider)). AllZip CanTake ys (take i stores ++ x ∷ [])) (sym after_is) (zip_push CanTake os (take i stores) o x all one))
+
+next_changed : {X : Type 0} (f : X → X) (es : List X) (i : ℕ) (x : X) → i < length es
+    → set (map f (take i es) ++ drop i es) i (f (get_or (map f (take i es) ++ drop i es) i x)) ≡ map f (take (suc i) es) ++ drop (suc i) es
+next_changed f [] i x lt = absurd (omega (arith, lt))
+next_changed f (e ∷ es) zero x lt = refl
+next_changed {X} f (e ∷ es) (suc i) x lt = ap (λ (ys : List X). f e ∷ ys) (next_changed f es i x (omega (arith, lt)))
+
+pub changed_next : {X : Type 0} (f : X → X) (es now : List X) (i : ℕ) (old new : X) → i < length es → now ≡ map f (take i es) ++ drop i es → new ≡ f (get_or now i old)
+    → set now i new ≡ map f (take (i + 1) es) ++ drop (i + 1) es
+changed_next {X} f es now i old new lt is one =
+    let more : suc i ≡ i + 1 = omega arith in
+    ap₂ (λ (xs : List X) (x : X). set xs i x) is (one ∙ ap (λ (xs : List X). f (get_or xs i old)) is) ∙ next_changed f es i old lt
+    ∙ ap (λ (n : ℕ). map f (take n es) ++ drop n es) more
+
+-- ---- the columns that are lent
+
+pub columns_there : (root : Catalogue) (last : ℕ) (tables : List (List Loaded)) (now : Seen) (i : ℕ) (listed : List kept.Table) (d : kept.Table) (columns : List Column) → seen_of root last tables ≡ now → i < length now.catalogue.tables
+    → listed ≡ root.tables → columns ≡ (get_or listed i d).columns → IsSomeAnd (slice_get root.tables i) (λ u. u.columns ≡ columns)
+columns_there root last tables now i listed d columns view lt same columns_are =
+    let within : i < length root.tables = subst (λ (s : Seen). i < length s.catalogue.tables) (sym view) lt in
+    let t : kept.Table = get_or root.tables i d in
+    is_at root.tables i t (λ u. u.columns ≡ columns) within (get_or_default root.tables i d t within) (sym (columns_are ∙ ap (λ (ts : List kept.Table). (get_or ts i d).columns) same))

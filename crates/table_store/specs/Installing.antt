@@ -1,22 +1,18 @@
 -- A projection that gets another entry.
-use Rattle.std.specs.Prelude.{ℕ, ◌≡◌, true, List, IsSomeAnd}
+use Rattle.std.specs.Prelude.{ℕ, ◌≡◌, List, IsSomeAnd}
 use Rattle.std.specs.List.{slice_get}
 use Rattle.common_laws.specs.Maps.{Contents}
 use Rattle.col_value.specs.declared.row.Stamped.{Stamped}
-use Rattle.catalog_types.specs.declared.catalogue.Container.{Container}
 use Rattle.catalog_types.specs.declared.catalogue.Projection.{Projection}
 use Rattle.db_model.specs.Database.{Database}
 use Rattle.stored_rows.specs.Held.{Holds}
 use Rattle.stored_rows.specs.Stored.{Projected}
+use Rattle.merge_rows.specs.Rewritten.{rewritten_to}
 use Rattle.folder_model.specs.Projections.{IsHistoryOf}
-
--- the entry with other containers, up to date with all its rows on disk up to an epoch
-abbrev pub renewed_to : ℕ → ℕ → List Container → Projection → Projection
-renewed_to epoch born containers old = record old { fresh = true; lge = epoch; born = born; containers = containers }
 
 -- an entry is one of the same projection, and up to date
 abbrev pub IsRenewal : Projection → Projection → Type 0
-IsRenewal old new = new ≡ renewed_to new.lge new.born new.containers old
+IsRenewal old new = new ≡ rewritten_to new.lge new.born new.containers old
 
 abbrev pub IsRenewalAt : List (List Projected) → ℕ → ℕ → Projection → Type 0
 IsRenewalAt stores i j entry = IsSomeAnd (slice_get stores i) (λ ps. IsSomeAnd (slice_get ps j) (λ p. IsRenewal p.entry entry))

@@ -80,7 +80,12 @@ fn widen_table(
         projections,
     } = table;
     let (mut columns, mut projections) = (columns.into_vec(), projections.into_vec());
-    widen_entries(alloc, projections.as_mut_slice(), columns.as_slice(), default)?;
+    widen_entries(
+        alloc,
+        projections.as_mut_slice(),
+        columns.as_slice(),
+        default,
+    )?;
     columns.push(column.copy(alloc)?)?;
     Ok(Table {
         name,

@@ -5,7 +5,7 @@ ghost use Rattle.std.specs.List.{AllZip};
 ghost use Rattle.col_value.specs.Order.{IsValue};
 ghost use Rattle.table_store.specs.Changing.{zipped};
 ghost use Rattle.table_store.specs.Held.{projections_of};
-ghost use Rattle.table_store.specs.Widening.{CanTake, IsWidening, wide_part, wide_parts, widened_by};
+ghost use Rattle.table_store.specs.Widening.{CanTake, IsWidening, wide_parts, widened_by};
 
 use super::Parts;
 use crate::widening::has_all;

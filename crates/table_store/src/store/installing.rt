@@ -48,8 +48,8 @@ fn read_again<D: Disk>(
 
 impl TableStore {
     /// The projection at a place has another entry from now on, whose files were written under numbers below `next`: a catalogue with it
-    /// becomes the one that the disk opens to. An entry whose epoch lies before the ancient history mark or isn't closed, and numbers from
-    /// 2^61 on, are answered as want of memory. `Damaged` names a delete vector that reads otherwise than the entry says.
+    /// becomes the one that the disk opens to. Numbers from 2^61 on are answered as want of memory. `Damaged` names a delete vector that
+    /// reads otherwise than the entry says.
     pub fn install<D: Disk>(
         &mut self,
         alloc: Global,
@@ -62,16 +62,17 @@ impl TableStore {
         requires there { IsRenewalAt self.old.stores table place entry }
         requires loadable { IsLoadable entry }
         requires drawn { self.old.catalogue.next ≤ next }
+        requires reached { self.old.catalogue.ahm ≤ entry.lge }
+        requires closed { entry.lge ≤ self.old.catalogue.last }
         ensures made { (d : Database) → (stands : Stands ⟦<D as Disk>⟧ self.old disk.old d) → HoldsTable stands.files table entry d
             → Makes ⟦<D as Disk>⟧ no_memory self.old self.new disk.old disk.new result d (reached_at entry.lge table place d) }
         ensures catalogue { OnOk result (self.new.catalogue ≡ with_entry_at self.old.catalogue.last next table place entry self.old.catalogue) }
-        ensures closed { OnOk result (entry.lge ≤ self.old.catalogue.last) }
         ensures unblamed { IfErr result (λ fault. (m : Contents) (held : Items Stamped) → D.holds disk.old ≡ Some m → Holds m entry held → IsUnblamed fault) }
         ensures same { OnErr result (self.new ≡ self.old) }
         ensures cause { HasCause StoreFault.Disk (D.faults disk.old) (D.faults disk.new) result }
     {
         what_is_read_is_stored();
-        if entry.lge < self.root.ahm || entry.lge > self.last || next >= MOST_NUMBERS {
+        if next >= MOST_NUMBERS {
             return Err(StoreFault::Memory);
         }
         let store = match read_again(alloc, &entry, disk) {

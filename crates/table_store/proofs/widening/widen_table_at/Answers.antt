@@ -1,4 +1,4 @@
-use Rattle.std.proofs.Common.{◌<◌, length, set, sym, ◌∙◌, ap}
+use Rattle.std.proofs.Common.{set, sym, ◌∙◌, ap}
 use Rattle.table_store.specs.Widening.{wide_table}
 use Rattle.table_store.proofs.Moved.{change_set, set_again}
 use Rattle.table_store.proofs.widening.widen_table_at.Goals as goal

@@ -22,8 +22,8 @@ loop-place-preserved g c = record {
   count = omega (arith, c.loop-place.invariant.count, c.purge_one.ensures.cause.later);
 }
 
-pub loop-place-preserved-continue : goal.loop-place-preserved-continue
-loop-place-preserved-continue g c = record {
+pub loop-place-preserved-then-not-is_purged : goal.loop-place-preserved-then-not-is_purged
+loop-place-preserved-then-not-is_purged g c = record {
   chain = λ state name here named. purging_on g.D.Disk name state c.args.table c.loop-place.place c.loop-place.self (c.loop-place.invariant.chain state name here named);
   count = c.loop-place.invariant.count;
 }

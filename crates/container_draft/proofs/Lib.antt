@@ -1,0 +1,9 @@
+pub mod Chosen
+pub mod Joining
+pub mod Drafted
+pub mod Ended
+pub mod Flags
+pub mod Joined
+pub mod Marks
+pub mod Rising
+pub mod OneOrder

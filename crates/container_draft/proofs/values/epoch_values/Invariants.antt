@@ -1,0 +1,12 @@
+use Rattle.std.proofs.Common.{◌≡◌, take}
+use Rattle.std.specs.List.{All}
+use Rattle.col_value.specs.Order.{IsValue}
+use Rattle.ros_container.specs.Rows.{epoch_values}
+use Rattle.container_draft.specs.Placed.{all_at}
+use Rattle.container_draft.proofs.values.epoch_values.Given as goal
+
+abbrev pub invariant-loop-place : goal.invariant-loop-place
+invariant-loop-place l = record {
+  same : l.out.items ≡ epoch_values (all_at l.rows (take l.place-index l.places));
+  values : All IsValue l.out.items;
+}

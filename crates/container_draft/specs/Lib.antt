@@ -1,0 +1,6 @@
+pub mod Draft
+pub mod Finished
+pub mod Keeping
+pub mod Ordering
+pub mod Placed
+pub mod Reading

@@ -1,0 +1,90 @@
+//! The rows of chosen containers.
+
+ghost use Rattle.std.specs.Prelude.{◌≡◌, ◌++◌, Some, slice_index_or, false, IfOk, IfErr, OnOk};
+ghost use Rattle.common_laws.specs.Causes.{HasCause};
+ghost use Rattle.common_laws.specs.Maps.{Contents};
+ghost use Rattle.col_disk.specs.Moved.{Moved, NoName};
+ghost use Rattle.ros_container.specs.Encodings.{written_of};
+ghost use Rattle.ros_container.specs.Held.{BlamesContainer};
+ghost use Rattle.ros_container.specs.Readable.{IsReadable};
+ghost use Rattle.proj_store.specs.Reading.{BlamesRows};
+ghost use Rattle.merge_rows.specs.Inputs.{chosen};
+ghost use Rattle.container_draft.specs.Reading.{JoinsIf, HoldEach};
+
+use catalog_types::{Container, Projection};
+use col_disk::{Disk, StoreFault};
+use col_value::Asked;
+use proj_store::ProjStore;
+use std::alloc::{AllocError, Global};
+
+fn add_rows(rows: &mut Vec<Asked>, more: Vec<Asked>) -> Result<(), AllocError>
+    ensures { OnOk result (rows.new.items ≡ rows.old.items ++ more.items) }
+{
+    let mut more = more;
+    rows.append(&mut more)
+}
+
+/// Whether the container at a place is chosen.
+pub fn is_chosen(inputs: &[bool], place: usize) -> bool
+    ensures { result ≡ slice_index_or inputs.now place false }
+{
+    match inputs.get(place) {
+        Some(chosen) => *chosen,
+        None => false,
+    }
+}
+
+/// The rows of a container join others where they are wanted.
+fn read_if<D: Disk>(
+    alloc: Global,
+    disk: &mut D,
+    shape: &Projection,
+    container: &Container,
+    wanted: bool,
+    rows: &mut Vec<Asked>,
+) -> Result<(), StoreFault>
+    requires readable { IsReadable shape.now.columns container.now }
+    ensures read { OnOk result ((m : Contents) → D.holds disk.old ≡ Some m → JoinsIf wanted m (written_of shape.now) container.now rows.old.items rows.new.items) }
+    ensures blamed { IfErr result (BlamesContainer (written_of shape.now) container.now (D.holds disk.old)) }
+    ensures kept { D.holds disk.new ≡ D.holds disk.old }
+    ensures moved { Moved ⟦<D as Disk>⟧ NoName NoName disk.old disk.new }
+    ensures cause { HasCause StoreFault.Disk (D.faults disk.old) (D.faults disk.new) result }
+{
+    if !wanted {
+        return Ok(());
+    }
+    let read = match ros_container::rows(alloc, disk, container, shape) {
+        Ok(read) => read,
+        Err(fault) => return Err(fault),
+    };
+    match add_rows(rows, read) {
+        Ok(()) => Ok(()),
+        Err(AllocError) => Err(StoreFault::Memory),
+    }
+}
+
+/// The rows of the chosen containers, one container after the other. `Damaged` names a file of one that holds no rows.
+pub fn chosen_rows<D: Disk>(
+    alloc: Global,
+    disk: &mut D,
+    p: &ProjStore,
+    inputs: &[bool],
+) -> Result<Vec<Asked>, StoreFault>
+    ensures read { IfOk result (λ v. (m : Contents) → D.holds disk.old ≡ Some m → HoldEach m (written_of p.now.stored.entry) (chosen inputs.now p.now.stored.entry.containers) v.items) }
+    ensures blamed { IfErr result (BlamesRows p.now.stored.entry (D.holds disk.old)) }
+    ensures kept { D.holds disk.new ≡ D.holds disk.old }
+    ensures moved { Moved ⟦<D as Disk>⟧ NoName NoName disk.old disk.new }
+    ensures cause { HasCause StoreFault.Disk (D.faults disk.old) (D.faults disk.new) result }
+{
+    let shape = p.entry();
+    let containers = shape.containers.as_slice();
+    let mut rows = Vec::new(alloc);
+    for (i, container) in containers.iter().enumerate() {
+        let wanted = is_chosen(inputs, i);
+        match read_if(alloc, disk, shape, container, wanted, &mut rows) {
+            Ok(()) => {}
+            Err(fault) => return Err(fault),
+        }
+    }
+    Ok(rows)
+}

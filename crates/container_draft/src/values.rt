@@ -1,0 +1,134 @@
+//! What a column of a container holds.
+
+ghost use Rattle.std.specs.Prelude.{◌≡◌, map, pos, slice_index_or, IfOk};
+ghost use Rattle.std.specs.List.{All};
+ghost use Rattle.block_choice.specs.Choice.{TakesAll};
+ghost use Rattle.col_value.specs.Order.{IsValue};
+ghost use Rattle.col_value.specs.declared.value.Value.TheVariants.{Int, Null};
+ghost use Rattle.ros_container.specs.Rows.{column_values, epoch_values, stored_values};
+ghost use Rattle.container_draft.specs.Placed.{asked_at, all_at};
+
+use block_choice::takes_all;
+use col_value::{Asked, Encoding, Row, Value};
+use std::alloc::{AllocError, Global};
+use value_bytes::is_value;
+
+/// The value, where a table may have it.
+fn fitting(value: Value) -> Result<Value, AllocError>
+    ensures same { IfOk result (λ v. v ≡ value) }
+    ensures value { IfOk result IsValue }
+{
+    if is_value(&value) {
+        Ok(value)
+    } else {
+        Err(AllocError)
+    }
+}
+
+/// The values, where a column of this encoding takes them.
+fn taken(values: Vec<Value>, encoding: Encoding) -> Result<Vec<Value>, AllocError>
+    ensures same { IfOk result (λ v. v ≡ values) }
+    ensures taken { IfOk result (λ v. TakesAll encoding v.items) }
+{
+    if takes_all(encoding, values.as_slice()) {
+        Ok(values)
+    } else {
+        Err(AllocError)
+    }
+}
+
+/// The value of a row in a column; one that is not there is NULL.
+fn value_of(alloc: Global, row: &Row, column: usize) -> Result<Value, AllocError>
+    ensures { IfOk result (λ v. v ≡ slice_index_or row.now column Null) }
+{
+    match row.as_slice().get(column) {
+        Some(value) => value.copy(alloc),
+        None => Ok(Value::Null),
+    }
+}
+
+/// The value of the row at a place; a row that is not there has none.
+fn value_at(
+    alloc: Global,
+    rows: &[Asked],
+    place: usize,
+    column: usize,
+) -> Result<Value, AllocError>
+    ensures { IfOk result (λ v. v ≡ slice_index_or (asked_at rows.now place).row column Null) }
+{
+    if place < rows.len() {
+        value_of(alloc, &rows[place].row, column)
+    } else {
+        Ok(Value::Null)
+    }
+}
+
+/// The epoch of the row at a place.
+pub fn epoch_at(rows: &[Asked], place: usize) -> u64
+    ensures { result ≡ (asked_at rows.now place).ins }
+{
+    if place < rows.len() {
+        rows[place].ins
+    } else {
+        0
+    }
+}
+
+/// An epoch as a number.
+fn number_of(epoch: u64) -> Result<Value, AllocError>
+    ensures { IfOk result (λ v. v ≡ Int (pos epoch)) }
+{
+    if epoch > i64::MAX as u64 {
+        return Err(AllocError);
+    }
+    Ok(Value::Int(epoch as i64))
+}
+
+fn column_values(
+    alloc: Global,
+    rows: &[Asked],
+    places: &[usize],
+    column: usize,
+) -> Result<Vec<Value>, AllocError>
+    ensures same { IfOk result (λ v. v.items ≡ column_values column (all_at rows.now places.now)) }
+    ensures values { IfOk result (λ v. All IsValue v.items) }
+{
+    let mut out = Vec::with_capacity(alloc, places.len())?;
+    for place in places {
+        let value = value_at(alloc, rows, *place, column)?;
+        out.push(fitting(value)?)?;
+    }
+    Ok(out)
+}
+
+fn epoch_values(alloc: Global, rows: &[Asked], places: &[usize]) -> Result<Vec<Value>, AllocError>
+    ensures same { IfOk result (λ v. v.items ≡ epoch_values (all_at rows.now places.now)) }
+    ensures values { IfOk result (λ v. All IsValue v.items) }
+{
+    let mut out = Vec::with_capacity(alloc, places.len())?;
+    for place in places {
+        out.push(fitting(number_of(epoch_at(rows, *place))?)?)?;
+    }
+    Ok(out)
+}
+
+/// What a column of a container of these rows holds; the epochs stand behind the others. Where it can't have these values, that is
+/// answered as want of memory.
+pub fn stored_values(
+    alloc: Global,
+    columns: usize,
+    rows: &[Asked],
+    places: &[usize],
+    column: usize,
+    encoding: Encoding,
+) -> Result<Vec<Value>, AllocError>
+    ensures same { IfOk result (λ v. v.items ≡ stored_values columns column (all_at rows.now places.now)) }
+    ensures values { IfOk result (λ v. All IsValue v.items) }
+    ensures taken { IfOk result (λ v. TakesAll encoding v.items) }
+{
+    if column == columns {
+        taken(epoch_values(alloc, rows, places)?, encoding)
+    } else {
+        taken(column_values(alloc, rows, places, column)?, encoding)
+    }
+}

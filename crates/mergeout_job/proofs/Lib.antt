@@ -1,0 +1,4 @@
+pub mod Begun
+pub mod Installed
+pub mod Picks
+pub mod Put

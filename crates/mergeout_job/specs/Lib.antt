@@ -1,0 +1,4 @@
+pub mod Job
+pub mod Merged
+pub mod Oldest
+pub mod Putting
