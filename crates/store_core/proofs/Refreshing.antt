@@ -45,7 +45,6 @@ use Rattle.store_core.proofs.Worked.{answered, drawn_with, failed, few_sixteen, 
 
 -- ---- the first projection that isn't up to date
 
-
 walk : (epoch : ℕ) (ps : List Projection) (j : ℕ) (d : Projection) → j < length ps → not (get_or ps j d).fresh ≡ true → ((k : ℕ) → k < j → not (get_or ps k d).fresh ≡ false)
     → (p : Projection) × (slice_get ps j ≡ Some p) × (stale_names (map shape_of ps) ≡ p.name ∷ stale_names (change_at j (reached_to epoch) (map shape_of ps)))
 walk epoch [] j d lt here before = absurd (omega (arith, lt))
@@ -228,13 +227,15 @@ refreshed_turns disk was now name start jobs i j place = record {
         let stale_after : stale_of name after ≡ stale_names (change_at j (reached_to d.last) (map shape_of own.own.projections)) =
         ap (λ (o : Option Table). stale_names (option_map_or (λ t. t.shapes) o [])) found ∙ ap (λ (ss : List Shape). stale_names (change_at j (reached_to d.last) ss)) own.shapes in
         let left : length (stale_of name after) + suc jobs ≡ length (stale_of name start.database) =
-        one_less (length (stale_of name d)) (length (stale_names (change_at j (reached_to d.last) (map shape_of own.own.projections)))) (length (stale_of name after)) (length (stale_of name start.database)) (ap length stale) (ap length stale_after) kept.left in
-        (job, subst (RefreshedTo name start i (suc jobs)) (sym (ap (λ (x : State). x.database) at.same)) (record {
-          sound = sound;
-          good = good_reached (last_good start.database) d.last d i j kept.good.closed kept.good;
-          named = is_some_and (slice_get after.tables i) (λ u. u.name ≡ name) (reached_in d.last j own.table) after_at own.named;
-          left = left;
-        }))
+        one_less (length (stale_of name d)) (length (stale_names (change_at j (reached_to d.last) (map shape_of own.own.projections)))) (length (stale_of name after)) (length (stale_of name start.database)) (ap length stale) (ap length stale_after) kept.left in (
+          job,
+          subst (RefreshedTo name start i (suc jobs)) (sym (ap (λ (x : State). x.database) at.same)) (record {
+            sound = sound;
+            good = good_reached (last_good start.database) d.last d i j kept.good.closed kept.good;
+            named = is_some_and (slice_get after.tables i) (λ u. u.name ≡ name) (reached_in d.last j own.table) after_at own.named;
+            left = left;
+          }),
+        )
       where
         mapped : (xs : List Projection) (k : ℕ) (q : Projection) → slice_get xs k ≡ Some q → slice_get (map shape_of xs) k ≡ Some (shape_of q)
         mapped [] k q none = absurd (cc)

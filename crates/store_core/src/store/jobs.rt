@@ -72,7 +72,12 @@ impl Store {
     }
 
     /// One merge: what it makes is there after a stop once this has answered Ok.
-    fn merge_one<D: Disk>(&mut self, alloc: Global, next: Merge, disk: &mut D) -> Result<(), StoreFault>
+    fn merge_one<D: Disk>(
+        &mut self,
+        alloc: Global,
+        next: Merge,
+        disk: &mut D,
+    ) -> Result<(), StoreFault>
         requires fresh { IsFreshAt self.old.seen.stores next.at.table next.at.place }
         requires four { OfProjection next.at.table next.at.place self.old.seen.catalogue (λ p. HasFour next.level p.containers) }
         ensures does { (state : State) → IsState ⟦<D as Disk>⟧ self.old disk.old state → Does ⟦<D as Disk>⟧ no_memory self.old self.new disk.old disk.new result state (RisesAt next.at.table next.at.place state) }
@@ -82,11 +87,24 @@ impl Store {
         ensures cause { HasCause StoreFault.Disk (D.faults disk.old) (D.faults disk.new) result }
     {
         risen_states_are_sound();
-        merge(alloc, &mut self.tables, next.at.table, next.at.place, next.level, disk)
+        merge(
+            alloc,
+            &mut self.tables,
+            next.at.table,
+            next.at.place,
+            next.level,
+            disk,
+        )
     }
 
     /// The purge of one projection.
-    fn purge_one<D: Disk>(&mut self, alloc: Global, table: usize, place: usize, disk: &mut D) -> Result<(), StoreFault>
+    fn purge_one<D: Disk>(
+        &mut self,
+        alloc: Global,
+        table: usize,
+        place: usize,
+        disk: &mut D,
+    ) -> Result<(), StoreFault>
         requires { IsFreshAt self.old.seen.stores table place }
         ensures does { (state : State) → IsState ⟦<D as Disk>⟧ self.old disk.old state → Does ⟦<D as Disk>⟧ no_memory self.old self.new disk.old disk.new result state (RisesAt table place state) }
         ensures drawn { OnOk result (OfProjection table place self.old.seen.catalogue (DrawsAnew table place 1 self.old.seen.catalogue self.new.seen.catalogue)) }
@@ -99,7 +117,13 @@ impl Store {
     }
 
     /// The refresh of one projection.
-    fn refresh_one<D: Disk>(&mut self, alloc: Global, table: usize, place: usize, disk: &mut D) -> Result<(), StoreFault>
+    fn refresh_one<D: Disk>(
+        &mut self,
+        alloc: Global,
+        table: usize,
+        place: usize,
+        disk: &mut D,
+    ) -> Result<(), StoreFault>
         requires { OfProjection table place self.old.seen.catalogue (λ p. p.fresh ≡ false) }
         ensures does { (state : State) → IsState ⟦<D as Disk>⟧ self.old disk.old state → Does ⟦<D as Disk>⟧ no_memory self.old self.new disk.old disk.new result state (RefreshesAt table place state) }
         ensures drawn { OnOk result (OfProjection table place self.old.seen.catalogue (DrawsAnew table place 2 self.old.seen.catalogue self.new.seen.catalogue)) }
@@ -137,7 +161,12 @@ impl Store {
 
     /// PURGE_TABLE of the table at a place, which has this name: each of its up-to-date projections that has rows deleted up to the ancient
     /// history mark is written without these.
-    pub fn purge<D: Disk>(&mut self, alloc: Global, table: usize, disk: &mut D) -> Result<bool, StoreFault>
+    pub fn purge<D: Disk>(
+        &mut self,
+        alloc: Global,
+        table: usize,
+        disk: &mut D,
+    ) -> Result<bool, StoreFault>
         ensures jobs { (state : State) (name : List ℕ) → IsState ⟦<D as Disk>⟧ self.old disk.old state → IsSomeAnd (slice_get self.old.seen.catalogue.tables table) (λ t. t.name ≡ name)
             → RaisesAllOf ⟦<D as Disk>⟧ (is_of name state) self.new disk.old disk.new result state }
         ensures cause { HasCause StoreFault.Disk (D.faults disk.old) (D.faults disk.new) result }
@@ -158,7 +187,12 @@ impl Store {
     }
 
     /// REFRESH of the table at a place, which has this name: each of its projections that isn't up to date gets the table's rows.
-    pub fn refresh<D: Disk>(&mut self, alloc: Global, table: usize, disk: &mut D) -> Result<bool, StoreFault>
+    pub fn refresh<D: Disk>(
+        &mut self,
+        alloc: Global,
+        table: usize,
+        disk: &mut D,
+    ) -> Result<bool, StoreFault>
         ensures jobs { (state : State) (name : List ℕ) → IsState ⟦<D as Disk>⟧ self.old disk.old state → IsSomeAnd (slice_get self.old.seen.catalogue.tables table) (λ t. t.name ≡ name)
             → RefreshesAllOf ⟦<D as Disk>⟧ name self.new disk.old disk.new result state }
         ensures cause { HasCause StoreFault.Disk (D.faults disk.old) (D.faults disk.new) result }
