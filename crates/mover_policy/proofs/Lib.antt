@@ -2,3 +2,4 @@ pub mod ByName
 pub mod Least
 pub mod Taken
 pub mod Shapes
+pub mod Next

@@ -334,8 +334,8 @@ call_same bare state Function.MakeAhmNow is = ap (λ (mark : ℕ). raise_refusal
 call_same bare state (Function.SetAhm n) is = ap₂ (λ (o p : Option Refusal). first_of o p) (mark_same bare state n is) (raise_same bare state n is)
 call_same bare state Function.Moveout is = refl
 call_same bare state Function.Mergeout is = refl
-call_same bare state (Function.Purge table) is = refl
-call_same bare state (Function.Refresh table) is = refl
+call_same bare state (Function.Purge table) is = unknown_same table bare state is
+call_same bare state (Function.Refresh table) is = unknown_same table bare state is
 call_same bare state Function.StartRefresh is = refl
 
 pub early_same : (bare state : State) (s : Statement) → IsBare bare state → early_refusal bare s ≡ early_refusal state s

@@ -11,7 +11,8 @@ use Rattle.db_model.specs.State.{State}
 use Rattle.db_model.specs.Views.{table_found}
 use Rattle.statement_plan.specs.Bare.{IsBare, IsBareTable}
 use Rattle.statement_plan.specs.Places.{has_projection, places_in, projection_places, table_place}
-use Rattle.statement_plan.specs.Planned.{IsPlanned, IsPlanOf}
+use Rattle.statement_plan.specs.Planned.{IsCallOn, IsPlanned, IsPlanOf}
+use Rattle.sql_tree.specs.declared.statement.Function.{Function}
 use Rattle.statement_plan.specs.declared.plans.Plan.{Plan}
 use Rattle.statement_plan.proofs.Alike.{early_same, found_same, one_said, pair, tree_same}
 use Rattle.statement_plan.proofs.Marked.{at_place}
@@ -61,6 +62,11 @@ shapes_same name n b t is =
 places_same : (name : List ℕ) (bs ts : List Table) → AllZip IsBareTable bs ts → projection_places name bs ≡ projection_places name ts
 places_same name bs ts z = owned_from (places_in name) (shapes_same name) name 0 bs ts z
 
+call_on_same : (bare state : State) (f : Function) (place : ℕ) → IsBare bare state → IsCallOn bare f place → IsCallOn state f place
+call_on_same bare state (Function.Purge table) place is of = sym (place_same table bare.database.tables state.database.tables is.tables) ∙ of
+call_on_same bare state (Function.Refresh table) place is of = sym (place_same table bare.database.tables state.database.tables is.tables) ∙ of
+call_on_same bare state f place is of = absurd of
+
 -- a plan over the one state is one over the other
 plan_same : (bare state : State) (s : Statement) (plan : Plan) → IsBare bare state → IsPlanOf bare s plan → IsPlanOf state s plan
 plan_same bare state (Statement.CreateTable name columns) Plan.CreateTable is of = of
@@ -86,6 +92,7 @@ plan_same bare state Statement.Rollback Plan.Rollback is of = of
 plan_same bare state (Statement.Select at q) (Plan.Select b) is of = record { tree = of.tree ∙ tree_same bare state q is; bounded = of.bounded }
 plan_same bare state (Statement.Explain q) (Plan.Explain b) is of = record { tree = of.tree ∙ tree_same bare state q is; bounded = of.bounded }
 plan_same bare state (Statement.Call f) Plan.Call is of = of
+plan_same bare state (Statement.Call f) (Plan.CallOn place) is of = call_on_same bare state f place is of
 plan_same bare state (Statement.Session n) (Plan.Session m) is of = of
 plan_same bare state Statement.Step Plan.Step is of = of
 plan_same bare state s plan is of = absurd of

@@ -1,5 +1,5 @@
 -- A refusal before a row is looked at is the statement's.
-use Rattle.std.proofs.Common.{◌≡◌, ℕ, List, false, true, refl, sym, ap}
+use Rattle.std.proofs.Common.{◌≡◌, ℕ, Bool, List, false, true, refl, sym, ap}
 use Rattle.std.specs.Prelude.{Option, Some, None, option_and_then}
 use Rattle.std.specs.Option.{option_map_or}
 use Rattle.col_value.specs.declared.value.Value.{Value}
@@ -11,7 +11,9 @@ use Rattle.sql_binding.specs.Firsts.{first_of}
 use Rattle.db_model.specs.Database.{Table}
 use Rattle.db_model.specs.Loading.{Files}
 use Rattle.db_model.specs.State.{State}
-use Rattle.db_model.specs.Refusals.{CopyRefuses, Refuses, SumRefuses, UnlockedRefuses, locked, update_refusal_over}
+use Rattle.db_model.specs.Refusals.{CopyRefuses, Refuses, SumRefuses, TableJobsRefuse, UnlockedRefuses, locked, unknown_table_refusal, update_refusal_over}
+use Rattle.db_model.specs.Events.{is_of_table}
+use Rattle.db_model.specs.Mover.{RaisesAll, RefreshesAll}
 use Rattle.db_model.specs.Views.{bound_in, inputs, table_found}
 use Rattle.statement_plan.specs.Planned.{early_call_refusal, early_refusal, is_settled, is_settled_call, select_refusal}
 
@@ -28,6 +30,10 @@ sum_refused : (o : Option Refusal) (b : BoundQuery) (rows : List (List (List Val
 sum_refused None b rows r is = absurd (cc)
 sum_refused (Some x) b rows r is = sym is
 
+table_refused : (o : Option Refusal) (Run : Bool → State → Type 0) (r : Refusal) → o ≡ Some r → TableJobsRefuse o Run (Some r)
+table_refused None Run r is = absurd (cc)
+table_refused (Some x) Run r is = sym is
+
 call_refused : (state : State) (files : Files) (f : Function) (r : Refusal) → early_call_refusal state f ≡ Some r → Refuses state files (Statement.Call f) (Some r)
 call_refused state files Function.Lge r is = absurd (cc)
 call_refused state files Function.Ahm r is = absurd (cc)
@@ -36,8 +42,8 @@ call_refused state files Function.MakeAhmNow r is = sym is
 call_refused state files (Function.SetAhm n) r is = sym is
 call_refused state files Function.Moveout r is = absurd (cc)
 call_refused state files Function.Mergeout r is = absurd (cc)
-call_refused state files (Function.Purge table) r is = absurd (cc)
-call_refused state files (Function.Refresh table) r is = absurd (cc)
+call_refused state files (Function.Purge table) r is = table_refused (unknown_table_refusal state table) (RaisesAll (λ s. is_of_table table state.database.tables s.name) state) r is
+call_refused state files (Function.Refresh table) r is = table_refused (unknown_table_refusal state table) (RefreshesAll table state) r is
 call_refused state files Function.StartRefresh r is = absurd (cc)
 
 pub refused_early : (state : State) (files : Files) (s : Statement) (r : Refusal) → early_refusal state s ≡ Some r → Refuses state files s (Some r)

@@ -16,7 +16,7 @@ use Rattle.db_model.specs.State.{State}
 use Rattle.db_model.specs.Epochs.{last_good}
 use Rattle.db_model.specs.Views.{bound_in, columns_found}
 use Rattle.db_model.specs.Refusing.{commit_refusal, epoch_refusal}
-use Rattle.db_model.specs.Refusals.{column_added_refusal, copy_table_refusal, mark_refusal, projection_created_refusal, projection_dropped_refusal, query_refusal_in, raise_refusal, rows_deleted_refusal, rows_inserted_refusal, table_created_refusal, table_dropped_refusal}
+use Rattle.db_model.specs.Refusals.{column_added_refusal, copy_table_refusal, mark_refusal, projection_created_refusal, projection_dropped_refusal, query_refusal_in, raise_refusal, rows_deleted_refusal, rows_inserted_refusal, table_created_refusal, table_dropped_refusal, unknown_table_refusal}
 use Rattle.query_laws.specs.Bounded.{IsBoundedQuery}
 use Rattle.statement_plan.specs.Places.{IsDeleteOf, IsProjectionOf, IsUpdateOf, projection_places, table_place}
 use Rattle.statement_plan.specs.declared.plans.Plan.{Plan}
@@ -29,9 +29,9 @@ is_planned_call Function.Current = true
 is_planned_call Function.MakeAhmNow = true
 is_planned_call (Function.SetAhm n) = true
 is_planned_call Function.Moveout = true
-is_planned_call Function.Mergeout = false
-is_planned_call (Function.Purge table) = false
-is_planned_call (Function.Refresh table) = false
+is_planned_call Function.Mergeout = true
+is_planned_call (Function.Purge table) = true
+is_planned_call (Function.Refresh table) = true
 is_planned_call Function.StartRefresh = false
 
 -- the forms that are planned
@@ -61,10 +61,12 @@ select_refusal state at q = first_of (query_refusal_in state q) (epoch_refusal s
 abbrev pub early_call_refusal : State → Function → Option Refusal
 early_call_refusal state Function.MakeAhmNow = raise_refusal (last_good state.database) state
 early_call_refusal state (Function.SetAhm n) = first_of (mark_refusal n state.database) (raise_refusal n state)
+early_call_refusal state (Function.Purge table) = unknown_table_refusal state table
+early_call_refusal state (Function.Refresh table) = unknown_table_refusal state table
 early_call_refusal state f = None
 
 -- Why a statement is refused, whatever the rows are. Behind this are looked at the rows that an UPDATE matches, the file of a COPY, a sum
--- that is too great, and the numbers that a moveout draws.
+-- that is too great, and the numbers that moveouts and other jobs draw.
 abbrev pub early_refusal : State → Statement → Option Refusal
 early_refusal state (Statement.CreateTable name columns) = table_created_refusal state name columns
 early_refusal state (Statement.CreateProjection p) = projection_created_refusal state p
@@ -102,6 +104,17 @@ pub record IsBoundIn (state : State) (q : Query) (b : BoundQuery) : Type 0 where
   pub tree : b ≡ bound_in state q
   pub bounded : IsBoundedQuery b
 
+-- a function of one table has its place, and the others need none
+abbrev pub IsCallOn : State → Function → ℕ → Type 0
+IsCallOn state (Function.Purge table) place = table_place table state.database.tables ≡ Some place
+IsCallOn state (Function.Refresh table) place = table_place table state.database.tables ≡ Some place
+IsCallOn state f place = ⊥
+
+abbrev pub IsPlainCall : Function → Type 0
+IsPlainCall (Function.Purge table) = ⊥
+IsPlainCall (Function.Refresh table) = ⊥
+IsPlainCall f = Unit {0}
+
 -- a plan has what the statement needs
 abbrev pub IsPlanOf : State → Statement → Plan → Type 0
 IsPlanOf state (Statement.CreateTable name columns) Plan.CreateTable = Unit {0}
@@ -117,7 +130,8 @@ IsPlanOf state Statement.Commit Plan.Commit = Unit {0}
 IsPlanOf state Statement.Rollback Plan.Rollback = Unit {0}
 IsPlanOf state (Statement.Select at q) (Plan.Select b) = IsBoundIn state q b
 IsPlanOf state (Statement.Explain q) (Plan.Explain b) = IsBoundIn state q b
-IsPlanOf state (Statement.Call f) Plan.Call = Unit {0}
+IsPlanOf state (Statement.Call f) Plan.Call = IsPlainCall f
+IsPlanOf state (Statement.Call f) (Plan.CallOn place) = IsCallOn state f place
 IsPlanOf state (Statement.Session n) (Plan.Session m) = m ≡ n
 IsPlanOf state Statement.Step Plan.Step = Unit {0}
 IsPlanOf state s plan = ⊥

@@ -2,12 +2,13 @@
 
 ghost use Rattle.std.specs.Prelude.{◌≡◌, true, IfErr, IfOk};
 ghost use Rattle.name_binder.specs.Refusing.{RefusesBy};
+ghost use Rattle.sql_tree.specs.declared.statement.Statement.{Statement as AStatement};
 ghost use Rattle.statement_plan.specs.Planned.{early_call_refusal, early_refusal, is_planned, IsPlanned};
 
 use crate::adding::plan_addition;
 use crate::changing::{plan_delete, plan_update};
 use crate::creating::plan_table;
-use crate::dropping::{plan_drop, plan_projection_drop};
+use crate::dropping::{known_table, plan_drop, plan_projection_drop};
 use crate::frame::Frame;
 use crate::inserting::plan_insert;
 use crate::loading::loadable_table;
@@ -15,17 +16,37 @@ use crate::plans::Plan;
 use crate::projecting::plan_projection;
 use crate::querying::{plan_query, plan_select};
 use name_binder::BindFault;
-use sql_tree::{Function, Refusal, Statement};
+use sql_tree::{Function, Statement};
 use std::alloc::Global;
 
-/// Why a function is refused by what it says.
-fn refused_call(frame: &Frame<'_>, function: &Function) -> Option<Refusal>
-    ensures { result ≡ early_call_refusal frame.now function.now }
+/// The plan of a function, or why it is refused by what it says.
+fn plan_call(alloc: Global, frame: &Frame<'_>, function: &Function) -> Result<Plan, BindFault>
+    ensures planned { IfOk result (IsPlanned frame.now (AStatement.Call function.now)) }
+    ensures refused { IfErr result (RefusesBy (early_call_refusal frame.now function.now)) }
 {
     match function {
-        Function::MakeAhmNow => frame.marking_now(),
-        Function::SetAhm(mark) => frame.marking(*mark),
-        _ => None,
+        Function::MakeAhmNow => match frame.marking_now() {
+            Some(refusal) => Err(BindFault::Refused(refusal)),
+            None => Ok(Plan::Call),
+        },
+        Function::SetAhm(mark) => match frame.marking(*mark) {
+            Some(refusal) => Err(BindFault::Refused(refusal)),
+            None => Ok(Plan::Call),
+        },
+        Function::Purge(table) => match known_table(alloc, frame, table) {
+            Ok(place) => Ok(Plan::CallOn(place)),
+            Err(fault) => Err(fault),
+        },
+        Function::Refresh(table) => match known_table(alloc, frame, table) {
+            Ok(place) => Ok(Plan::CallOn(place)),
+            Err(fault) => Err(fault),
+        },
+        Function::Lge
+        | Function::Ahm
+        | Function::Current
+        | Function::Moveout
+        | Function::Mergeout
+        | Function::StartRefresh => Ok(Plan::Call),
     }
 }
 
@@ -67,10 +88,7 @@ pub fn make_plan(alloc: Global, frame: &Frame<'_>, statement: &Statement) -> Res
             Ok(bound) => Ok(Plan::Explain(bound)),
             Err(fault) => Err(fault),
         },
-        Statement::Call(function) => match refused_call(frame, function) {
-            Some(refusal) => Err(BindFault::Refused(refusal)),
-            None => Ok(Plan::Call),
-        },
+        Statement::Call(function) => plan_call(alloc, frame, function),
         Statement::Session(number) => Ok(Plan::Session(*number)),
         Statement::Step => Ok(Plan::Step),
     }

@@ -23,6 +23,8 @@ pub enum Plan {
     Select(BoundQuery),
     Explain(BoundQuery),
     Call,
+    /// A function of one table.
+    CallOn(usize),
     Session(u8),
     Step,
 }

@@ -17,6 +17,7 @@ pub use lines::{
 };
 pub use printing::listing;
 pub use words::{
-    column_added_text, moveout_text, projection_created_text, projection_dropped_text,
-    rollback_text, table_created_text, table_dropped_text,
+    column_added_text, mergeout_text, moveout_text, projection_created_text,
+    projection_dropped_text, purge_text, refresh_text, rollback_text, table_created_text,
+    table_dropped_text,
 };

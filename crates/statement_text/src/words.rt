@@ -52,3 +52,24 @@ pub fn moveout_text(alloc: Global) -> Result<Vec<u8>, AllocError>
 {
     Vec::from_slice(alloc, b"MOVEOUT\n")
 }
+
+/// `MERGEOUT`
+pub fn mergeout_text(alloc: Global) -> Result<Vec<u8>, AllocError>
+    ensures { IfOk result (λ v. v.items ≡ codes "MERGEOUT\n") }
+{
+    Vec::from_slice(alloc, b"MERGEOUT\n")
+}
+
+/// `PURGE`
+pub fn purge_text(alloc: Global) -> Result<Vec<u8>, AllocError>
+    ensures { IfOk result (λ v. v.items ≡ codes "PURGE\n") }
+{
+    Vec::from_slice(alloc, b"PURGE\n")
+}
+
+/// `REFRESH`
+pub fn refresh_text(alloc: Global) -> Result<Vec<u8>, AllocError>
+    ensures { IfOk result (λ v. v.items ≡ codes "REFRESH\n") }
+{
+    Vec::from_slice(alloc, b"REFRESH\n")
+}

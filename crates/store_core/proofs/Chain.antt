@@ -53,6 +53,9 @@ pub record Still (start : State) (d : Database) : Type 0 where
   pub good : IsGood (last_good start.database) d
   pub sound : IsSoundDatabase d
 
+pub still_itself : (start : State) → IsSoundDatabase start.database → Still start start.database
+still_itself start sound = record { cuts = λ epoch. refl; last = refl; good = good_itself start.database sound; sound = sound }
+
 still_moved : (start : State) (d e : Database) → MovedAt d e → Still start d → Still start e
 still_moved start d e moved still = record {
   cuts = λ epoch. cut_moved epoch d e moved ∙ still.cuts epoch;
@@ -61,7 +64,7 @@ still_moved start d e moved still = record {
   sound = sound_moved d e moved still.sound;
 }
 
-reopens_still : (start : State) (d : Database) (x : Contents) → Still start d → Reopens x (cut (last_good d) d) → ReopensFrom (last_good start.database) start x
+pub reopens_still : (start : State) (d : Database) (x : Contents) → Still start d → Reopens x (cut (last_good d) d) → ReopensFrom (last_good start.database) start x
 reopens_still start d x still reopens = record {
   epoch = last_good d;
   from = good_least (last_good start.database) d still.good;
@@ -105,7 +108,7 @@ chain_begins {D} disk r now start here = record {
     busy_with n = record start { busy = n }
 
     same : Still start start.database
-    same = record { cuts = λ epoch. refl; last = refl; good = good_itself start.database here.sound.database; sound = here.sound.database }
+    same = still_itself start here.sound.database
 
     quiet : Makes disk fault.Memory r.seen r.seen now now short_of start.database start.database
     quiet = reads_only disk r.seen r.seen fault.Memory start.database start.database here.database (moved_none disk now)

@@ -173,7 +173,7 @@ named_at (u ∷ us) (suc i) t name lt is same = named_at us i t name (omega (ari
 
 -- ---- what the search found, over the store as it is seen
 
-tables_at : (tables : List kept.Table) (s : Seen) (sessions : List (List Changes)) (current : ℕ) (now : Running) → s.catalogue.tables ≡ tables → running s sessions current ≡ now → tables ≡ now.seen.catalogue.tables
+pub tables_at : (tables : List kept.Table) (s : Seen) (sessions : List (List Changes)) (current : ℕ) (now : Running) → s.catalogue.tables ≡ tables → running s sessions current ≡ now → tables ≡ now.seen.catalogue.tables
 tables_at tables s sessions current now same view = sym same ∙ ap (λ (r : Running). r.seen.catalogue.tables) view
 
 pub found_at : (tables : List kept.Table) (last : ℕ) (found : Option Place) (s : Seen) (sessions : List (List Changes)) (current : ℕ) (now : Running) → s.catalogue.tables ≡ tables → last ≡ s.catalogue.last → running s sessions current ≡ now

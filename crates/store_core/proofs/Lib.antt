@@ -19,3 +19,9 @@ pub mod Unshaped
 pub mod Planned
 pub mod Loaded
 pub use Rattle.store_opening.proofs.Unblamed
+pub mod Worked
+pub mod Anew
+pub mod Raising
+pub mod Purging
+pub mod Refreshing
+pub mod Found

@@ -1,5 +1,5 @@
 -- A moveout of the first projection that is behind, by its place: what it leaves of a database.
-use Rattle.std.proofs.Common.{◌≡◌, ◌<◌, ◌+◌, ◌++◌, ℕ, zero, suc, Bool, true, false, cond, List, [], ◌∷◌, length, map, filter, get_or, refl, sym, ◌∙◌, ap, subst, arith}
+use Rattle.std.proofs.Common.{◌≡◌, ◌<◌, ◌≤◌, ◌+◌, ◌++◌, ℕ, zero, suc, Bool, true, false, cond, List, [], ◌∷◌, length, map, filter, get_or, refl, sym, ◌∙◌, ap, subst, arith}
 use Rattle.std.specs.Prelude.{nat_lt, Option, Some, None, IsSomeAnd}
 use Rattle.std.specs.List.{All, slice_get}
 use Rattle.std.specs.declared.cmp.Ordering.{Ordering}
@@ -16,7 +16,7 @@ use Rattle.db_model.specs.Sound.{IsSoundDatabase}
 use Rattle.db_model.specs.State.{State}
 use Rattle.db_laws.proofs.Goods.{IsGood, Reaches, TableReaches}
 use Rattle.row_history.specs.History.{cut_rows}
-use Rattle.sound_laws.specs.Moves.{change_at, moved_at, reached_in}
+use Rattle.sound_laws.specs.Moves.{change_at, moved_at, reached_at, reached_in}
 use Rattle.sound_laws.proofs.Moved.{moved_sound}
 use Rattle.mover_policy.specs.First.{first_in}
 use Rattle.mover_policy.proofs.ByName.{moved_by_name}
@@ -44,7 +44,7 @@ StandsAt ts i j s = IsSomeAnd (slice_get ts i) (λ t. slice_get t.shapes j ≡ S
 abbrev Stands : List Table → Shape → Type 0
 Stands ts s = (i : ℕ) × (j : ℕ) × StandsAt ts i j s
 
-got : {X : Type 0} (xs : List X) (k : ℕ) (d : X) → k < length xs → slice_get xs k ≡ Some (get_or xs k d)
+pub got : {X : Type 0} (xs : List X) (k : ℕ) (d : X) → k < length xs → slice_get xs k ≡ Some (get_or xs k d)
 got [] k d lt = absurd (omega (arith, lt))
 got (x ∷ xs) zero d lt = refl
 got (x ∷ xs) (suc k) d lt = got xs k d (omega (arith, lt))
@@ -102,18 +102,21 @@ shapes_cut epoch last (x ∷ ss) (suc j) s at is = ap (λ (ys : List Shape). mov
 abbrev cut_with : ℕ → Table → List Shape → Table
 cut_with epoch t ss = record t { rows = cut_rows epoch t.rows; shapes = ss }
 
-tables_cut : (epoch last : ℕ) (ts : List Table) (i j : ℕ) (s : Shape) → StandsAt ts i j s → s.fresh ≡ true → map (cut_table epoch) (change_at i (reached_in last j) ts) ≡ map (cut_table epoch) ts
+pub tables_cut : (epoch last : ℕ) (ts : List Table) (i j : ℕ) (s : Shape) → StandsAt ts i j s → s.fresh ≡ true → map (cut_table epoch) (change_at i (reached_in last j) ts) ≡ map (cut_table epoch) ts
 tables_cut epoch last [] i j s at is = absurd at
 tables_cut epoch last (t ∷ ts) zero j s at is = ap (λ (ss : List Shape). cut_with epoch t ss ∷ map (cut_table epoch) ts) (shapes_cut epoch last t.shapes j s at is)
 tables_cut epoch last (t ∷ ts) (suc i) j s at is = ap (λ (us : List Table). cut_table epoch t ∷ us) (tables_cut epoch last ts i j s at is)
 
-pub cut_moved : (epoch : ℕ) (d e : Database) → MovedAt d e → cut epoch e ≡ cut epoch d
-cut_moved epoch d e moved =
-    ap (cut epoch) moved.is
-    ∙ ap (λ (ts : List Table). cut_tables ts) (tables_cut epoch d.last d.tables moved.table moved.place moved.shape moved.there (and_left moved.shape.fresh (nat_lt moved.shape.lge d.last) moved.behind))
+-- the projection at a place is on disk up to another epoch
+pub cut_reached : (epoch upto : ℕ) (d : Database) (i j : ℕ) (s : Shape) → StandsAt d.tables i j s → s.fresh ≡ true → cut epoch (reached_at upto i j d) ≡ cut epoch d
+cut_reached epoch upto d i j s at is = ap (λ (ts : List Table). cut_tables ts) (tables_cut epoch upto d.tables i j s at is)
   where
     cut_tables : List Table → Database
     cut_tables ts = record d { tables = ts; last = epoch }
+
+pub cut_moved : (epoch : ℕ) (d e : Database) → MovedAt d e → cut epoch e ≡ cut epoch d
+cut_moved epoch d e moved =
+    ap (cut epoch) moved.is ∙ cut_reached epoch d.last d moved.table moved.place moved.shape moved.there (and_left moved.shape.fresh (nat_lt moved.shape.lge d.last) moved.behind)
 
 -- ---- it reaches no less
 
@@ -122,11 +125,14 @@ all_change P i f [] keeps all = All-nil P
 all_change P zero f (x ∷ xs) keeps all = All-cons P (f x) xs (keeps x (All-head P x xs all)) (All-tail P x xs all)
 all_change P (suc i) f (x ∷ xs) keeps all = All-cons P x (change_at i f xs) (All-head P x xs all) (all_change P i f xs keeps (All-tail P x xs all))
 
-pub good_moved : (n : ℕ) (d e : Database) → MovedAt d e → IsGood n d → IsGood n e
-good_moved n d e moved good = subst (IsGood n) (sym moved.is) (record {
+pub good_reached : (n epoch : ℕ) (d : Database) (i j : ℕ) → n ≤ epoch → IsGood n d → IsGood n (reached_at epoch i j d)
+good_reached n epoch d i j le good = record {
   closed = good.closed;
-  tables = all_change (TableReaches n) moved.table (reached_in d.last moved.place) d.tables (λ t here. all_change (Reaches n) moved.place (reached_to d.last) t.shapes (λ s told. λ fresh. good.closed) here) good.tables;
-})
+  tables = all_change (TableReaches n) i (reached_in epoch j) d.tables (λ t here. all_change (Reaches n) j (reached_to epoch) t.shapes (λ s told. λ fresh. le) here) good.tables;
+}
+
+pub good_moved : (n : ℕ) (d e : Database) → MovedAt d e → IsGood n d → IsGood n e
+good_moved n d e moved good = subst (IsGood n) (sym moved.is) (good_reached n d.last d moved.table moved.place good.closed good)
 
 -- ---- one less is behind
 

@@ -5,6 +5,7 @@ pub mod Asking
 pub mod Cuts
 pub mod Moving
 pub mod Shaping
+pub mod Jobs
 pub use Rattle.row_matching.specs.Matching
 pub use Rattle.store_commit.specs.Seen
 pub use Rattle.store_opening.specs.Opening

@@ -3,7 +3,8 @@
 //! A `Store` is seen as its tables with what its sessions have changed (`Running` of `specs/Running.antt`); over a disk it is a state of
 //! db_model (`IsState`). Each event says which states it may make of that, that where memory was short the store is the state as before,
 //! and that whatever a crash left at any moment of it reopens to the database before the event or to one after it, cut at its last good
-//! epoch (`Does` of `specs/Events.antt`). Whether a statement is refused is looked at above, before its event.
+//! epoch (`Does` of `specs/Events.antt`). A statement of several jobs may have done some of them then (`JobsOf` of `specs/Jobs.antt`).
+//! Whether a statement is refused is looked at above, before its event.
 #![tactic(auto)]
 
 mod laws;

@@ -23,7 +23,7 @@ use Rattle.store_core.specs.Running.{Running, IsState}
 use Rattle.store_core.specs.Cuts.{ReopensFrom, CutBeforeOrAfter}
 use Rattle.store_core.specs.Events.{BeforeOrAfter, Does}
 use Rattle.store_step.specs.declared.answer.Answer.{Answer}
-use Rattle.store_step.specs.Arms.{IsAnswer, AnsweredTo, Answers, Holds, of_memory, told}
+use Rattle.store_step.specs.Arms.{of_memory, told, Answers, Holds, IsAnswer, MayLeave}
 use Rattle.col_disk.specs.Faults.{IsUnblamed as IsUnblamedStore}
 use Rattle.store_step.specs.Forms.{is_served}
 use Rattle.store_step.specs.Texts.{Refused, Says}
@@ -118,13 +118,13 @@ held_answers disk files s is now (Ok a) state sound images holds = record {
   done = holds.done;
   undone = λ wants. absurd (cc);
   unblamed = tt;
-  any_moment = still_leaves disk now state (AnsweredTo files s state) sound images;
+  any_moment = still_leaves disk now state (MayLeave files s state) sound images;
 }
 held_answers disk files s is now (Err e) state sound images holds = record {
   done = tt;
   undone = λ wants. (state, inl refl, holds.undone);
   unblamed = tt;
-  any_moment = still_leaves disk now state (AnsweredTo files s state) sound images;
+  any_moment = still_leaves disk now state (MayLeave files s state) sound images;
 }
 
 abbrev none_made : Result Answer StoreFault
@@ -136,7 +136,7 @@ unmade disk files s is now state here images = record {
   done = tt;
   undone = λ wants. (state, inl refl, here);
   unblamed = tt;
-  any_moment = still_leaves disk now state (AnsweredTo files s state) here.sound.database images;
+  any_moment = still_leaves disk now state (MayLeave files s state) here.sound.database images;
 }
 
 -- ---- statements that call the disk
@@ -148,14 +148,14 @@ pub record Event (state : State) (files : Files) (s : Statement) (printed : List
   pub good : (new : State) → After new → IsGood (last_good state.database) new.database
 
 event_leaves : {D : Type 0} (disk : Ghosts D) {old new : D} (state : State) (files : Files) (s : Statement) (printed : List ℕ) (After : State → Type 0) → IsSoundDatabase state.database → Event state files s printed After
-    → Leaves disk (BeforeOrAfter state After) old new → Leaves disk (CutBeforeOrAfter state (AnsweredTo files s state)) old new
+    → Leaves disk (BeforeOrAfter state After) old new → Leaves disk (CutBeforeOrAfter state (MayLeave files s state)) old new
 event_leaves disk state files s printed After sound event leaves = leaves_wider disk (λ x either. by x either) leaves
   where
-    by : (x : Contents) → BeforeOrAfter state After x → CutBeforeOrAfter state (AnsweredTo files s state) x
+    by : (x : Contents) → BeforeOrAfter state After x → CutBeforeOrAfter state (MayLeave files s state) x
     by x (inl before) = inl (from_good state x sound before)
     by x (inr (made, is, reopens)) = inr (
       made,
-      (printed, None, event.answer made is),
+      inl (printed, None, event.answer made is),
       record {
         epoch = last_good made.database;
         from = good_least (last_good state.database) made.database (event.good made is);

@@ -46,7 +46,7 @@ use Rattle.store_step.specs.declared.answer.StepFault.TheVariants as step
 use Rattle.store_step.specs.Arms.{of_memory, of_text}
 use Rattle.store_step.specs.Forms.{is_served}
 use Rattle.store_step.specs.Loading.{IsLoadable}
-use Rattle.store_step.specs.Steps.{Steps, SteppedTo}
+use Rattle.store_step.specs.Steps.{Steps, TextMayLeave}
 use Rattle.store_step.specs.Texts.{Refused, Says}
 use Rattle.store_step.proofs.Answered.{memory_answers, refused_holds, still_leaves, Event, Images}
 use Rattle.store_step.proofs.Held.{named_from, second}
@@ -277,5 +277,5 @@ failed_steps disk files text table file is now state spelled here images = recor
   undone = λ wants. absurd (cc);
   unread = λ failed. ((table, file, spelled), here);
   unblamed = tt;
-  any_moment = still_leaves disk now state (SteppedTo files text state) here.sound.database images;
+  any_moment = still_leaves disk now state (TextMayLeave files text state) here.sound.database images;
 }

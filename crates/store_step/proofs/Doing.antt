@@ -53,7 +53,7 @@ use Rattle.store_core.specs.SelectFault.{SelectFault}
 use Rattle.store_core.specs.SelectFault.TheVariants as select
 use Rattle.store_core.specs.Faults.{IsUnblamed}
 use Rattle.store_step.specs.declared.answer.Answer.{Answer}
-use Rattle.store_step.specs.Arms.{IsAnswer, AnsweredTo, Answers, told}
+use Rattle.store_step.specs.Arms.{told, Answers, IsAnswer, MayLeave}
 use Rattle.col_disk.specs.Faults.{IsUnblamed as IsUnblamedStore}
 use Rattle.store_step.specs.Texts.{IsMade, IsMissed, Refused, Says}
 use Rattle.store_step.proofs.Moved.{unblamed_here}
@@ -159,12 +159,12 @@ refuses : (state : State) (at : At) (q : Query) (why : Option Refusal) → selec
 refuses state at q why accepted is = subst (λ (o : Option Refusal). SumRefuses o (bound_in state q) (inputs at state q) why) (sym accepted) is
 
 -- the disk was looked at, and no answer was made
-failed_answers : {D : Type 0} (disk : Ghosts D) (files : Files) (s : Statement) (is : Running) {old new : D} (f : StoreFault) (state : State) → IsUnblamedStore f → IsState disk is new state → Leaves disk (CutBeforeOrAfter state (AnsweredTo files s state)) old new
+failed_answers : {D : Type 0} (disk : Ghosts D) (files : Files) (s : Statement) (is : Running) {old new : D} (f : StoreFault) (state : State) → IsUnblamedStore f → IsState disk is new state → Leaves disk (CutBeforeOrAfter state (MayLeave files s state)) old new
     → Answers disk files s is old new (Err f) state
 failed_answers disk files s is f state unblamed there moments = record { done = tt; undone = λ wants. (state, inl refl, there); unblamed = unblamed; any_moment = moments }
 
 made_answers : {D : Type 0} (disk : Ghosts D) (files : Files) (s : Statement) (is : Running) {old new : D} (result : Result Answer StoreFault) (state : State) (Is : Answer → Type 0) → IsMade Is result → ((a : Answer) → Is a → IsAnswer state files s a.text.items a.refusal state)
-    → IsState disk is new state → Leaves disk (CutBeforeOrAfter state (AnsweredTo files s state)) old new → Answers disk files s is old new result state
+    → IsState disk is new state → Leaves disk (CutBeforeOrAfter state (MayLeave files s state)) old new → Answers disk files s is old new result state
 made_answers disk files s is (Ok a) state Is made answer there moments = record { done = (state, answer a made, there); undone = λ wants. absurd (cc); unblamed = tt; any_moment = moments }
 made_answers disk files s is (Err f) state Is made answer there moments = failed_answers disk files s is f state (subst IsUnblamedStore (sym made) tt) there moments
 
@@ -177,7 +177,7 @@ select_answers {D} {V} disk is {old} {new} of r result state files at q accepted
     s : Statement
     s = Statement.Select at q
 
-    moments : Leaves disk (CutBeforeOrAfter state (AnsweredTo files s state)) old new
+    moments : Leaves disk (CutBeforeOrAfter state (MayLeave files s state)) old new
     moments = leaves_wider disk (λ x reopens. inl (from_good state x sound reopens)) leaves
 
     by : (o : Result V SelectFault) → IfOk o (λ v. IsListed state at q (of v)) → OnOk o (IsSumTooGreat (bound_in state q) (inputs at state q) → ⊥) → (IsErrOf o select.SumOutOfRange → IsSumTooGreat (bound_in state q) (inputs at state q)) → IfErr o IsUnblamed

@@ -4,6 +4,7 @@ mod Stepped
 mod Doing
 mod Held
 mod Moved
+mod Worked
 mod Marked
 mod Served
 mod Rows

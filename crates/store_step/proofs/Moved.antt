@@ -26,7 +26,7 @@ use Rattle.store_core.specs.Events.{BeforeOrAfter, MovesIf, MovesFirstOf}
 use Rattle.store_core.specs.Moving.{MovesAllOf}
 use Rattle.store_core.proofs.Placed.{first_moved, sound_moved}
 use Rattle.store_step.specs.declared.answer.Answer.{Answer}
-use Rattle.store_step.specs.Arms.{IsAnswer, AnsweredTo, Answers, moved, stopped_or, told}
+use Rattle.store_step.specs.Arms.{moved, stopped_or, told, Answers, IsAnswer, MayLeave}
 use Rattle.col_disk.specs.Faults.{IsUnblamed as IsUnblamedStore}
 use Rattle.store_step.specs.Steps.{EndedAs, Ends, MoverStepped}
 use Rattle.store_step.specs.Texts.{Refused, Says}
@@ -117,9 +117,9 @@ first_stepped disk was is {old} {new} (Err f) state here left same unblamed firs
 
 -- ---- \step
 
-stepped_wider : (files : Files) (state : State) (x : Contents) → CutBeforeOrAfter state (MoverSteps state) x → CutBeforeOrAfter state (AnsweredTo files Statement.Step state) x
+stepped_wider : (files : Files) (state : State) (x : Contents) → CutBeforeOrAfter state (MoverSteps state) x → CutBeforeOrAfter state (MayLeave files Statement.Step state) x
 stepped_wider files state x (inl before) = inl before
-stepped_wider files state x (inr (new, steps, reopens)) = inr (new, ([], None, record { decided = refl; effect = (refl, steps) }), reopens)
+stepped_wider files state x (inr (new, steps, reopens)) = inr (new, inl ([], None, record { decided = refl; effect = (refl, steps) }), reopens)
 
 pub step_answers : {D : Type 0} (disk : Ghosts D) (files : Files) (is : Running) {old new : D} (a : Answer) (r : Result (Unit {0}) StoreFault) (state : State) → Says [] a → MoverStepped disk is old new r state
     → Answers disk files Statement.Step is old new (told (λ fault. fault) a r) state
@@ -160,7 +160,7 @@ moveout_answers disk files is {old} {new} a stopped (Ok true) state says refused
       done = (after, stopped_answer files state after stopped refused moves, there);
       undone = λ wants. absurd (cc);
       unblamed = tt;
-      any_moment = all_leaves disk state (AnsweredTo files moveout state) all.any_moment;
+      any_moment = all_leaves disk state (MayLeave files moveout state) all.any_moment;
     }
 moveout_answers disk files is {old} {new} a stopped (Ok false) state says refused all =
     let (after, moves, there) = all.done in
@@ -168,13 +168,13 @@ moveout_answers disk files is {old} {new} a stopped (Ok false) state says refuse
       done = (after, moved_answer files state after a says moves, there);
       undone = λ wants. absurd (cc);
       unblamed = tt;
-      any_moment = all_leaves disk state (AnsweredTo files moveout state) all.any_moment;
+      any_moment = all_leaves disk state (MayLeave files moveout state) all.any_moment;
     }
 moveout_answers disk files is {old} {new} a stopped (Err f) state says refused all = record {
   done = tt;
   undone = λ wants. all.undone (ap (λ (e : StoreFault). Err e) (err_same {X = Answer} f store.Memory wants));
   unblamed = unblamed_here f all.unblamed;
-  any_moment = all_leaves disk state (AnsweredTo files moveout state) all.any_moment;
+  any_moment = all_leaves disk state (MayLeave files moveout state) all.any_moment;
 }
 
 -- ---- the end of a script

@@ -52,7 +52,7 @@ use Rattle.store_core.specs.Running.{Running, IsState, frame_of}
 use Rattle.store_core.specs.Sessions.{own_of, with_marked}
 use Rattle.store_core.proofs.Sessions.{own_alike}
 use Rattle.store_step.specs.declared.answer.Answer.{Answer}
-use Rattle.store_step.specs.Arms.{Answers, AnsweredTo, Holds, of_memory}
+use Rattle.store_step.specs.Arms.{of_memory, Answers, Holds, MayLeave}
 use Rattle.store_step.specs.Matches.{DeleteMatches, UpdateMatches}
 use Rattle.col_disk.specs.Faults.{IsUnblamed as IsUnblamedStore}
 use Rattle.store_step.specs.Texts.{Says}
@@ -104,7 +104,7 @@ pub read_answers : {D E : Type 0} (disk : Ghosts D) (files : Files) (s : Stateme
     → Holds disk files s is new r state → Answers disk files s is old new (of_memory r) state
 read_answers {D} {E} disk files s is {old} {new} r state sound leaves = by r
   where
-    moments : Leaves disk (CutBeforeOrAfter state (AnsweredTo files s state)) old new
+    moments : Leaves disk (CutBeforeOrAfter state (MayLeave files s state)) old new
     moments = leaves_wider disk (λ x reopens. inl (from_good state x sound reopens)) leaves
 
     by : (o : Result Answer E) → Holds disk files s is new o state → Answers disk files s is old new (of_memory o) state

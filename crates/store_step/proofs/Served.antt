@@ -26,9 +26,9 @@ planned_call Function.Current is = refl
 planned_call Function.MakeAhmNow is = refl
 planned_call (Function.SetAhm n) is = refl
 planned_call Function.Moveout is = refl
-planned_call Function.Mergeout is = is
-planned_call (Function.Purge table) is = is
-planned_call (Function.Refresh table) is = is
+planned_call Function.Mergeout is = refl
+planned_call (Function.Purge table) is = refl
+planned_call (Function.Refresh table) is = refl
 planned_call Function.StartRefresh is = is
 
 -- a form that is served is planned

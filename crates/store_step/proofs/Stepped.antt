@@ -20,11 +20,11 @@ use Rattle.store_core.specs.Cuts.{CutBeforeOrAfter}
 use Rattle.store_step.specs.declared.answer.Answer.{Answer}
 use Rattle.store_step.specs.declared.answer.StepFault.{StepFault}
 use Rattle.store_step.specs.declared.answer.StepFault.TheVariants as step
-use Rattle.store_step.specs.Arms.{IsAnswer, AnsweredTo, Answers, of_memory, of_text}
+use Rattle.store_step.specs.Arms.{IsKeptBy, of_memory, of_text, Answers, IsAnswer, MayLeave}
 use Rattle.col_disk.specs.Faults.{IsUnblamed as IsUnblamedStore}
 use Rattle.store_step.specs.Faults.{of_store, IsUnblamed}
 use Rattle.store_step.specs.Forms.{is_served}
-use Rattle.store_step.specs.Steps.{Steps, SteppedTo}
+use Rattle.store_step.specs.Steps.{IsKeptIn, Steps, TextMayLeave}
 use Rattle.store_step.specs.Texts.{Refused}
 use Rattle.store_step.proofs.Answered.{Images, still_leaves}
 
@@ -59,9 +59,14 @@ fault_as f = Err f
 err_same : {X : Type 0} (e f : StepFault) → fault_as {X = X} e ≡ fault_as {X = X} f → e ≡ f
 err_same e f is = cc
 
-stepped_wider : (text : List ℕ) (files : Files) (s : Statement) (state : State) (x : Contents) → Spells (symbols_of text) s → CutBeforeOrAfter state (AnsweredTo files s state) x → CutBeforeOrAfter state (SteppedTo files text state) x
+stepped_wider : (text : List ℕ) (files : Files) (s : Statement) (state : State) (x : Contents) → Spells (symbols_of text) s → CutBeforeOrAfter state (MayLeave files s state) x → CutBeforeOrAfter state (TextMayLeave files text state) x
 stepped_wider text files s state x spelled (inl before) = inl before
-stepped_wider text files s state x spelled (inr (new, (printed, why, is), reopens)) = inr (new, (printed, why, step_of text state files s printed why new spelled is), reopens)
+stepped_wider text files s state x spelled (inr (new, inl (printed, why, is), reopens)) = inr (new, inl (printed, why, step_of text state files s printed why new spelled is), reopens)
+stepped_wider text files s state x spelled (inr (new, inr partly, reopens)) = inr (new, inr (s, spelled, partly), reopens)
+
+left_by : (text : List ℕ) (s : Statement) (state after : State) → Spells (symbols_of text) s → IsKeptBy s state after → IsKeptIn text state after
+left_by text s state after spelled (inl same) = inl same
+left_by text s state after spelled (inr partly) = inr (s, spelled, partly)
 
 pub steps_of : {D : Type 0} (disk : Ghosts D) (files : Files) (text : List ℕ) (s : Statement) (is : Running) {old new : D} (result : Result Answer StoreFault) (state : State) → Spells (symbols_of text) s → Answers disk files s is old new result state
     → Steps disk files text is old new (of_text result) state
@@ -76,7 +81,9 @@ steps_of disk files text s is {old} {new} (Ok a) state spelled answers =
     }
 steps_of disk files text s is {old} {new} (Err f) state spelled answers = record {
   done = tt;
-  undone = λ wants. answers.undone (ap (λ (e : StoreFault). Err e) (memory_of f (err_same {X = Answer} (of_store f) step.Memory wants)));
+  undone = λ wants.
+      let (after, kept, there) = answers.undone (ap (λ (e : StoreFault). Err e) (memory_of f (err_same {X = Answer} (of_store f) step.Memory wants))) in
+      (after, left_by text s state after spelled kept, there);
   unread = λ wants. absurd (never_read f (err_same {X = Answer} (of_store f) step.Read wants));
   unblamed = unblamed_of f answers.unblamed;
   any_moment = leaves_wider disk (λ x either. stepped_wider text files s state x spelled either) answers.any_moment;
@@ -89,14 +96,14 @@ wrong_steps disk files text is now place (Ok a) state wrong refused here images 
   undone = λ wants. absurd (cc);
   unread = λ wants. absurd (cc);
   unblamed = tt;
-  any_moment = still_leaves disk now state (SteppedTo files text state) here.sound.database images;
+  any_moment = still_leaves disk now state (TextMayLeave files text state) here.sound.database images;
 }
 wrong_steps disk files text is now place (Err e) state wrong refused here images = record {
   done = tt;
   undone = λ wants. (state, inl refl, here);
   unread = λ wants. absurd (cc);
   unblamed = tt;
-  any_moment = still_leaves disk now state (SteppedTo files text state) here.sound.database images;
+  any_moment = still_leaves disk now state (TextMayLeave files text state) here.sound.database images;
 }
 
 abbrev short : Result Answer StoreFault
@@ -108,5 +115,5 @@ unread_steps disk files text is now state here images = record {
   undone = λ wants. (state, inl refl, here);
   unread = λ wants. absurd (cc);
   unblamed = tt;
-  any_moment = still_leaves disk now state (SteppedTo files text state) here.sound.database images;
+  any_moment = still_leaves disk now state (TextMayLeave files text state) here.sound.database images;
 }

@@ -1,5 +1,5 @@
 -- What a statement comes to, form by form.
-use Rattle.std.specs.Prelude.{ℕ, if◌then◌else◌, Bool, List, Option, Some, Result, Ok, Err, IfOk, IfErr, OnErr, IsErrOf}
+use Rattle.std.specs.Prelude.{ℕ, ◌≡◌, ◌⊎◌, if◌then◌else◌, Bool, true, List, Option, Some, Result, Ok, Err, IfOk, IfErr, OnErr, IsErrOf}
 use Rattle.col_disk.specs.Moved.{Leaves}
 use Rattle.col_disk.specs.declared.disk.Disk.{Ghosts}
 use Rattle.col_disk.specs.declared.disk.StoreFault.{StoreFault}
@@ -10,7 +10,10 @@ use Rattle.db_model.specs.State.{State}
 use Rattle.db_model.specs.Loading.{Files}
 use Rattle.db_model.specs.Step.{Effect, RefusesForm}
 use Rattle.store_core.specs.Running.{Running, IsState}
-use Rattle.store_core.specs.Cuts.{CutBeforeOrAfter, IsKept}
+use Rattle.store_core.specs.Cuts.{CutBeforeOrAfter}
+use Rattle.store_core.specs.Jobs.{is_of, AreDone, RefreshesOne}
+use Rattle.db_model.specs.Mover.{given_up, MovesOut, RaisesOne}
+use Rattle.sql_tree.specs.declared.statement.Function.{Function}
 use Rattle.store_step.specs.declared.answer.Answer.{Answer}
 use Rattle.store_step.specs.declared.answer.StepFault.{StepFault}
 use Rattle.store_step.specs.Forms.{is_served}
@@ -26,12 +29,28 @@ pub record IsAnswer (state : State) (files : Files) (s : Statement) (printed : L
 abbrev pub AnsweredTo : Files → Statement → State → State → Type 0
 AnsweredTo files s state new = (printed : List ℕ) × (why : Option Refusal) × IsAnswer state files s printed why new
 
+-- some jobs of a statement that has several were done, each of them as a whole
+abbrev pub PartlyDone : Statement → State → State → Type 0
+PartlyDone (Statement.Call Function.Moveout) old new = (jobs : ℕ) × (stopped : Bool) × MovesOut jobs (given_up old) stopped new
+PartlyDone (Statement.Call Function.Mergeout) old new = AreDone (RaisesOne (λ s. true)) old new
+PartlyDone (Statement.Call (Function.Purge table)) old new = AreDone (RaisesOne (is_of table old)) old new
+PartlyDone (Statement.Call (Function.Refresh table)) old new = AreDone (RefreshesOne table) old new
+PartlyDone s old new = ⊥
+
+-- where memory was short: nothing changed, but for such jobs
+abbrev pub IsKeptBy : Statement → State → State → Type 0
+IsKeptBy s old new = (new ≡ old) ⊎ PartlyDone s old new
+
+-- what a crash may leave of a state
+abbrev pub MayLeave : Files → Statement → State → State → Type 0
+MayLeave files s state new = AnsweredTo files s state new ⊎ PartlyDone s state new
+
 -- A statement over a state.
 pub record Answers {D : Type 0} (disk : Ghosts D) (files : Files) (s : Statement) (is : Running) (old new : D) (result : Result Answer StoreFault) (state : State) : Type 0 where
   pub done : IfOk result (λ a. (after : State) × IsAnswer state files s a.text.items a.refusal after × IsState disk is new after)
-  pub undone : IsErrOf result store.Memory → (after : State) × IsKept state after × IsState disk is new after
+  pub undone : IsErrOf result store.Memory → (after : State) × IsKeptBy s state after × IsState disk is new after
   pub unblamed : IfErr result IsUnblamedStore
-  pub any_moment : Leaves disk (CutBeforeOrAfter state (AnsweredTo files s state)) old new
+  pub any_moment : Leaves disk (CutBeforeOrAfter state (MayLeave files s state)) old new
 
 -- A statement that calls no disk, over a state: where memory was short the store is the state as before.
 pub record Holds {D E : Type 0} (disk : Ghosts D) (files : Files) (s : Statement) (is : Running) (now : D) (result : Result Answer E) (state : State) : Type 0 where
@@ -53,7 +72,7 @@ abbrev pub of_text : Result Answer StoreFault → Result Answer StepFault
 of_text (Ok a) = Ok a
 of_text (Err f) = Err (of_store f)
 
--- the answers that were made before a moveout of all: for one that moved all, and for one that stopped
+-- the answers that were made before the jobs of a statement: for all of them, and for where they stopped
 abbrev pub stopped_or : Answer → Answer → Result Bool StoreFault → Result Answer StoreFault
 stopped_or moved stopped (Ok b) = Ok (if b then stopped else moved)
 stopped_or moved stopped (Err f) = Err f

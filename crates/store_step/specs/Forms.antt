@@ -10,9 +10,9 @@ is_served_call Function.Current = true
 is_served_call Function.MakeAhmNow = true
 is_served_call (Function.SetAhm n) = true
 is_served_call Function.Moveout = true
-is_served_call Function.Mergeout = false
-is_served_call (Function.Purge table) = false
-is_served_call (Function.Refresh table) = false
+is_served_call Function.Mergeout = true
+is_served_call (Function.Purge table) = true
+is_served_call (Function.Refresh table) = true
 is_served_call Function.StartRefresh = false
 
 abbrev pub is_served : Statement → Bool

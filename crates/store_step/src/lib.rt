@@ -12,6 +12,7 @@ mod answering;
 mod changing;
 mod events;
 mod holding;
+mod jobs;
 mod loading;
 mod marking;
 mod moving;

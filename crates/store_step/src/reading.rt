@@ -37,9 +37,11 @@ fn is_served_call(function: &Function) -> bool
         | Function::Current
         | Function::MakeAhmNow
         | Function::SetAhm(_)
-        | Function::Moveout => true,
-        Function::Mergeout | Function::Purge(_) | Function::Refresh(_) | Function::StartRefresh =>
-            false,
+        | Function::Moveout
+        | Function::Mergeout
+        | Function::Purge(_)
+        | Function::Refresh(_) => true,
+        Function::StartRefresh => false,
     }
 }
 

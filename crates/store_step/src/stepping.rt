@@ -8,7 +8,7 @@ ghost use Rattle.name_binder.specs.Refusing.{RefusesBy};
 ghost use Rattle.sql_tree.specs.Spells.{Spells};
 ghost use Rattle.sql_words.specs.Symbols.{symbols_of};
 ghost use Rattle.sql_tree.specs.declared.statement.Statement.{Statement as AStatement};
-ghost use Rattle.statement_plan.specs.Planned.{early_call_refusal, early_refusal, IsPlanned};
+ghost use Rattle.statement_plan.specs.Planned.{early_call_refusal, early_refusal, IsCallOn, IsPlainCall, IsPlanned};
 ghost use Rattle.store_core.specs.Running.{frame_of, IsState};
 ghost use Rattle.store_step.specs.Arms.{Answers};
 ghost use Rattle.store_step.specs.Forms.{is_copy, is_served, is_served_call};
@@ -22,6 +22,7 @@ use crate::events::{commit, create_table, drop_table, select};
 use crate::holding::{
     ahm_epoch, current_epoch, explain_query, insert_rows, last_good_epoch, roll_back, use_session,
 };
+use crate::jobs::{mergeout, purge_table, refresh_table};
 use crate::loading::copy;
 use crate::marking::set_mark;
 use crate::moving::{moveout, step_mover};
@@ -36,14 +37,15 @@ use statement_plan::{Plan, early_refusals_stand, make_plan};
 use std::alloc::{AllocError, Global};
 use store_core::{Store, frames_are_of_the_state};
 
-/// A function that is served and isn't refused for what it says.
+/// A function that is served, is of no table, and isn't refused for what it says.
 fn call<D: Disk>(
     alloc: Global,
     store: &mut Store,
     function: &Function,
     disk: &mut D,
 ) -> Result<Answer, StoreFault>
-    requires { is_served_call function.now ≡ true }
+    requires served { is_served_call function.now ≡ true }
+    requires plain { IsPlainCall function.now }
     ensures answers { (files : LoadFiles) (state : State) → IsState ⟦<D as Disk>⟧ store.old disk.old state → early_call_refusal state function.now ≡ None
         → Answers ⟦<D as Disk>⟧ files (AStatement.Call function.now) store.new disk.old disk.new result state }
     ensures cause { HasCause StoreFault.Disk (D.faults disk.old) (D.faults disk.new) result }
@@ -60,6 +62,27 @@ fn call<D: Disk>(
         }
         Function::SetAhm(mark) => set_mark(alloc, store, *mark, disk),
         Function::Moveout => moveout(alloc, store, disk),
+        Function::Mergeout => mergeout(alloc, store, disk),
+        _ => unreachable!(),
+    }
+}
+
+/// A function of the table at a place that isn't refused for what it says.
+fn call_on<D: Disk>(
+    alloc: Global,
+    store: &mut Store,
+    function: &Function,
+    place: usize,
+    disk: &mut D,
+) -> Result<Answer, StoreFault>
+    requires { IsCallOn (frame_of store.old) function.now place }
+    ensures answers { (files : LoadFiles) (state : State) → IsState ⟦<D as Disk>⟧ store.old disk.old state → early_call_refusal state function.now ≡ None
+        → Answers ⟦<D as Disk>⟧ files (AStatement.Call function.now) store.new disk.old disk.new result state }
+    ensures cause { HasCause StoreFault.Disk (D.faults disk.old) (D.faults disk.new) result }
+{
+    match function {
+        Function::Purge(name) => purge_table(alloc, store, name.as_slice(), place, disk),
+        Function::Refresh(name) => refresh_table(alloc, store, name.as_slice(), place, disk),
         _ => unreachable!(),
     }
 }
@@ -115,7 +138,10 @@ fn perform<D: Disk>(
         (Statement::Explain(query), Plan::Explain(bound)) => {
             in_memory(explain_query::<D>(alloc, store, &query, &bound))
         }
-        (Statement::Call(function), _) => call(alloc, store, &function, disk),
+        (Statement::Call(function), Plan::CallOn(place)) => {
+            call_on(alloc, store, &function, place, disk)
+        }
+        (Statement::Call(function), Plan::Call) => call(alloc, store, &function, disk),
         (Statement::Session(number), _) => in_memory(use_session::<D>(alloc, store, number)),
         (Statement::Step, _) => step_mover(alloc, store, disk),
         _ => unreachable!(),

@@ -1,1 +1,2 @@
 pub mod Jobs
+pub use Rattle.mergeout_job.specs.Oldest

@@ -9,7 +9,7 @@ ghost use Rattle.sound_laws.specs.Moves.{reached_at};
 ghost use Rattle.store_commit.specs.Making.{Makes};
 ghost use Rattle.store_commit.specs.Seen.{Stands};
 ghost use Rattle.table_store.specs.Moving.{IsFreshAt};
-ghost use Rattle.table_jobs.specs.Jobs.{DrawsAnew, DrawsMerged, HasFour, IsStaleAt, MakesRise, OfProjection};
+ghost use Rattle.table_jobs.specs.Jobs.{DrawsAnew, DrawsMerged, IsStaleAt, MakesRise, OfProjection};
 
 use col_disk::{Disk, StoreFault};
 use std::alloc::Global;
@@ -31,6 +31,6 @@ pub fn refresh<D: Disk>(
     ensures same { OnErr result (store.new ≡ store.old) }
     ensures cause { HasCause StoreFault.Disk (D.faults disk.old) (D.faults disk.new) result }
 {
-    let _ = (alloc, store, table, place, disk);
+    let _ = (table, place);
     Err(StoreFault::Memory)
 }

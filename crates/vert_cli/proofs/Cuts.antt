@@ -55,7 +55,7 @@ stepped_falls files text state answered sound (printed, why, step) = step_never_
 pub in_text : (files : Files) (steps : ℕ) (halts : Bool) (text : List ℕ) (state answered : State) → IsSoundDatabase state.database → SteppedTo files text state answered
     → (x : Contents) → CutInMover steps answered x → CutInText (setting_of files steps halts) state text x
 in_text files steps halts text state answered sound stepped x (inl from) =
-    inl (inr (answered, stepped, from_earlier (last_good state.database) (last_good answered.database) answered x (stepped_falls files text state answered sound stepped) from))
+    inl (inr (answered, inl stepped, from_earlier (last_good state.database) (last_good answered.database) answered x (stepped_falls files text state answered sound stepped) from))
 in_text files steps halts text state answered sound stepped x (inr (moves, below, mid, runs, left)) = inr (answered, stepped, moves, below, mid, runs, left)
 
 -- ---- the mover

@@ -14,7 +14,7 @@ use Rattle.store_step.specs.Running.{Running, IsState}
 use Rattle.store_step.specs.Cuts.{CutBeforeOrAfter}
 use Rattle.store_step.specs.declared.answer.Answer.{Answer}
 use Rattle.store_step.specs.declared.answer.StepFault.{StepFault}
-use Rattle.store_step.specs.Steps.{Steps, SteppedTo, MoverStepped}
+use Rattle.store_step.specs.Steps.{Steps, SteppedTo, TextMayLeave, MoverStepped}
 use Rattle.vert_cli.specs.declared.faults.Outcome.{Outcome}
 use Rattle.vert_cli.specs.declared.faults.RunFault.{RunFault}
 use Rattle.vert_cli.specs.Sessions.{Sitting, sitting}
@@ -163,7 +163,7 @@ mover_failed_at disk steps is now old new fault noted state noted_is same moved 
 -- ---- a text and the mover's steps behind it
 
 took : {D : Type 0} (disk : Ghosts D) (files : Files) (steps : ℕ) (halts : Bool) (text : List ℕ) (is : Running) (old new : D) (state : State) (before after : Option (List ℕ)) (fault : RunFault)
-    → Leaves disk (CutBeforeOrAfter state (SteppedTo files text state)) old new → StoppedIn disk files text is new state before after fault
+    → Leaves disk (CutBeforeOrAfter state (TextMayLeave files text state)) old new → StoppedIn disk files text is new state before after fault
     → StopsInText disk (setting_of files steps halts) state text new before after fault × TakesMore before after
 took disk files steps halts text is old new state before after RunFault.Sink moments (next, part, here) =
     (record { new = next; part = part; left = images_reopen disk new is next here }, more_front before after part.printed part.taken)
@@ -190,7 +190,7 @@ text_stopped disk files steps halts text is old new fault state before after exe
     }
 
 text_leaves : {D : Type 0} (disk : Ghosts D) (files : Files) (steps : ℕ) (halts : Bool) (text : List ℕ) (is : Running) (old mid new : D) (state answered : State)
-    → IsState disk is old state → SteppedTo files text state answered → Leaves disk (CutBeforeOrAfter state (SteppedTo files text state)) old mid → Leaves disk (CutInMover steps answered) mid new
+    → IsState disk is old state → SteppedTo files text state answered → Leaves disk (CutBeforeOrAfter state (TextMayLeave files text state)) old mid → Leaves disk (CutInMover steps answered) mid new
     → Leaves disk (CutInText (setting_of files steps halts) state text) old new
 text_leaves disk files steps halts text is old mid new state answered here stepped first second =
     leaves_join disk (leaves_wider disk (λ x left. inl left) first) (leaves_wider disk (in_text files steps halts text state answered here.sound.database stepped) second)

@@ -13,7 +13,7 @@ use Rattle.store_step.specs.Running.{Running, IsState}
 use Rattle.store_step.specs.Events.{ReopensTo}
 use Rattle.store_step.specs.Cuts.{CutBeforeOrAfter, IsKept}
 use Rattle.store_step.specs.Forms.{is_served}
-use Rattle.store_step.specs.Steps.{EndedAs, SaysCopy, SteppedTo}
+use Rattle.store_step.specs.Steps.{EndedAs, IsKeptIn, SaysCopy, SteppedTo, TextMayLeave}
 use Rattle.vert_cli.specs.declared.faults.RunFault.{RunFault}
 use Rattle.vert_cli.specs.Statements.{Answered, AnsweredPart, CutInMover, MovedPart}
 
@@ -43,11 +43,11 @@ pub record StopsWriting {D : Type 0} (disk : Ghosts D) (files : Files) (old : St
   pub part : AnsweredPart files old text new before after
   pub left : IsLeft disk now new
 
--- the sink took nothing, and the state is as before, but for moveouts that were done
-pub record StopsUnanswered {D : Type 0} (disk : Ghosts D) (old : State) (now : D) (before after : Option (List ℕ)) : Type 0 where
+-- the sink took nothing, and the state is as before, but for jobs that were done
+pub record StopsUnanswered {D : Type 0} (disk : Ghosts D) (Kept : State → State → Type 0) (old : State) (now : D) (before after : Option (List ℕ)) : Type 0 where
   pub untaken : after ≡ before
   pub new : State
-  pub kept : IsKept old new
+  pub kept : Kept old new
   pub left : IsLeft disk now new
 
 -- the sink took the whole answer, and some of the mover's steps behind it were made
@@ -62,7 +62,7 @@ pub record StopsMoving {D : Type 0} (disk : Ghosts D) (setting : Setting) (old :
 -- the disk failed in the statement, and the sink took nothing
 pub record FailsUnanswered {D : Type 0} (disk : Ghosts D) (files : Files) (old : State) (text : List ℕ) (now : D) (before after : Option (List ℕ)) : Type 0 where
   pub untaken : after ≡ before
-  pub left : LeavesNow disk (CutBeforeOrAfter old (SteppedTo files text old)) now
+  pub left : LeavesNow disk (CutBeforeOrAfter old (TextMayLeave files text old)) now
 
 -- the disk failed in the mover's steps, and the sink took the whole answer
 pub record FailsMoving {D : Type 0} (disk : Ghosts D) (setting : Setting) (old : State) (text : List ℕ) (now : D) (before after : Option (List ℕ)) : Type 0 where
@@ -83,7 +83,7 @@ StopsInText disk setting state text now before after RunFault.Sink = StopsWritin
 StopsInText disk setting state text now before after RunFault.Disk = FailsUnanswered disk setting.files state text now before after ⊎ FailsMoving disk setting state text now before after
 StopsInText disk setting state text now before after (RunFault.Damaged name) = ⊥
 StopsInText disk setting state text now before after RunFault.Memory =
-    StopsUnanswered disk state now before after ⊎ (StopsWriting disk setting.files state text now before after ⊎ StopsMoving disk setting state text now before after)
+    StopsUnanswered disk (IsKeptIn text) state now before after ⊎ (StopsWriting disk setting.files state text now before after ⊎ StopsMoving disk setting state text now before after)
 StopsInText disk setting state text now before after RunFault.Read = StopsUnread disk state text now before after
 StopsInText disk setting state text now before after RunFault.Halted = ⊥
 
@@ -92,7 +92,7 @@ abbrev pub StopsInEnd : {D : Type 0} → Ghosts D → State → D → Option (Li
 StopsInEnd disk state now before after RunFault.Sink = ⊥
 StopsInEnd disk state now before after RunFault.Disk = (after ≡ before) × LeavesNow disk (CutBeforeOrAfter state (EndedAs state)) now
 StopsInEnd disk state now before after (RunFault.Damaged name) = ⊥
-StopsInEnd disk state now before after RunFault.Memory = StopsUnanswered disk (all_dropped state) now before after
+StopsInEnd disk state now before after RunFault.Memory = StopsUnanswered disk IsKept (all_dropped state) now before after
 StopsInEnd disk state now before after RunFault.Read = ⊥
 StopsInEnd disk state now before after RunFault.Halted = ⊥
 
@@ -115,7 +115,7 @@ pub record StoppedAt {D : Type 0} (disk : Ghosts D) (setting : Setting) (start :
 -- What a crash leaves in a statement text or in one of the mover's steps behind it: each of them is an event of its own.
 abbrev pub CutInText : Setting → State → List ℕ → Contents → Type 0
 CutInText setting mid text x =
-    CutBeforeOrAfter mid (SteppedTo setting.files text mid) x
+    CutBeforeOrAfter mid (TextMayLeave setting.files text mid) x
     ⊎ ((answered : State) × SteppedTo setting.files text mid answered × (moves : ℕ) × (moves < setting.steps) × (state : State) × MoverRuns moves answered state
     × CutBeforeOrAfter state (MoverSteps state) x)
 

@@ -12,9 +12,9 @@ use Rattle.db_model.specs.Epochs.{last_good}
 use Rattle.db_model.specs.Mover.{MoverSteps, MoverRuns}
 use Rattle.db_model.specs.Step.{Step}
 use Rattle.store_step.specs.Running.{Running, IsState}
-use Rattle.store_step.specs.Cuts.{ReopensFrom, CutBeforeOrAfter, IsKept}
+use Rattle.store_step.specs.Cuts.{ReopensFrom, CutBeforeOrAfter}
 use Rattle.store_step.specs.Forms.{is_served}
-use Rattle.store_step.specs.Steps.{SaysCopy, SteppedTo}
+use Rattle.store_step.specs.Steps.{IsKeptIn, SaysCopy, TextMayLeave}
 use Rattle.store_step.specs.declared.answer.StepFault.{StepFault}
 use Rattle.vert_cli.specs.declared.faults.Outcome.{Outcome}
 use Rattle.vert_cli.specs.declared.faults.RunFault.{RunFault}
@@ -60,11 +60,11 @@ pub record AnsweredPart (files : Files) (old : State) (text : List ℕ) (new : S
   pub step : Step is_served old files text printed refusal new
   pub taken : AppendsFront before after printed
 
--- Where memory was short, the sink took nothing and the store is the state as before, but for moveouts that were done; or the sink was
+-- Where memory was short, the sink took nothing and the store is the state as before, but for jobs of the statement that were done; or the sink was
 -- short of memory, and the step was made.
 abbrev pub ShortIn : {D : Type 0} → Ghosts D → Files → List ℕ → Running → D → State → Option (List ℕ) → Option (List ℕ) → Type 0
 ShortIn disk files text is now state before after =
-    ((after ≡ before) × (next : State) × IsKept state next × IsState disk is now next)
+    ((after ≡ before) × (next : State) × IsKeptIn text state next × IsState disk is now next)
     ⊎ ((next : State) × AnsweredPart files state text next before after × IsState disk is now next)
 
 -- A statement text wasn't answered whole. After a fault of the sink the step was made; of the other faults but want of memory the sink took
@@ -81,7 +81,7 @@ StoppedIn disk files text is now state before after RunFault.Halted = ⊥
 pub record Executed {D : Type 0} (disk : Ghosts D) (files : Files) (text : List ℕ) (is : Running) (old new : D) (result : Result Outcome RunFault) (state : State) (before after : Option (List ℕ)) : Type 0 where
   pub done : IfOk result (λ outcome. (next : State) × Answered files state text (refusal_in outcome) next before after × IsState disk is new next)
   pub stopped : IfErr result (StoppedIn disk files text is new state before after)
-  pub any_moment : Leaves disk (CutBeforeOrAfter state (SteppedTo files text state)) old new
+  pub any_moment : Leaves disk (CutBeforeOrAfter state (TextMayLeave files text state)) old new
 
 -- whatever a crash leaves reopens as the state does, or as one of the first steps of the mover behind it may leave it
 abbrev pub CutInMover : ℕ → State → Contents → Type 0

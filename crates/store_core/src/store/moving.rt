@@ -52,7 +52,7 @@ impl Store {
     }
 
     /// There are no more projections than a catalogue may have.
-    fn projections_fit(&self)
+    pub(crate) fn projections_fit(&self)
         ensures { length (all_projections self.now.seen.catalogue.tables) ≤ 16384 }
     {
         let _root = self.tables.root();

@@ -26,6 +26,11 @@ returns-in-Moveout-clause-answers g c = λ files state here free.
     let is : Statement.Call c.args.function.now ≡ Statement.Call Function.Moveout = search rules in
     same_answers g.D.Disk files _ (Statement.Call Function.Moveout) c.moveout.new.store c.moveout.result state is (c.moveout.ensures.answers files state here)
 
+pub returns-in-Mergeout-clause-answers : goal.returns-in-Mergeout-clause-answers
+returns-in-Mergeout-clause-answers g c = λ files state here free.
+    let is : Statement.Call c.args.function.now ≡ Statement.Call Function.Mergeout = search rules in
+    same_answers g.D.Disk files _ (Statement.Call Function.Mergeout) c.mergeout.new.store c.mergeout.result state is (c.mergeout.ensures.answers files state here)
+
 pub returns-in-MakeAhmNow-clause-answers : goal.returns-in-MakeAhmNow-clause-answers
 returns-in-MakeAhmNow-clause-answers g c = λ files state here free.
     let is : Statement.Call c.args.function.now ≡ Statement.Call Function.MakeAhmNow = search rules in

@@ -93,13 +93,21 @@ returns-in-Explain-Explain-clause-answers g c = λ files state here.
     let planned : IsPlanned state s (Plan.Explain c.in-Explain-Explain.bound) = rw (c.in-Explain-Explain.is-0, c.in-Explain-Explain.is-1) at all in
     memory_answers g.D.Disk files c.args.statement s c.args.store.now c.args.disk.now c.explain_query.result c.in_memory-in-Explain-Explain.result state is c.in_memory-in-Explain-Explain.ensures here.sound.database (c.every_image_reopens.ensures c.args.store.now.seen.catalogue c.args.store.now.seen.stores c.args.disk.now state.database here.database) (c.explain_query.ensures files c.args.disk.now state here planned.of.tree planned.accepted)
 
-pub returns-in-Call-default-clause-answers : goal.returns-in-Call-default-clause-answers
-returns-in-Call-default-clause-answers g c = λ files state here.
-    let s = Statement.Call c.in-Call-default.function in
+pub returns-in-Call-Call-clause-answers : goal.returns-in-Call-Call-clause-answers
+returns-in-Call-Call-clause-answers g c = λ files state here.
+    let s = Statement.Call c.in-Call-Call.function in
     let is : c.args.statement ≡ s = search rules in
     let all = c.frames_are_of_the_state.ensures.plan c.args.disk.now c.args.store.now state c.args.statement c.args.plan here c.requires.planned in
-    let planned : IsPlanned state s c.args.plan = rw c.in-Call-default.is-0 at all in
+    let planned : IsPlanned state s c.args.plan = rw c.in-Call-Call.is-0 at all in
     same_answers g.D.Disk files c.args.statement s c.call.new.store c.call.result state is (c.call.ensures.answers files state here planned.accepted)
+
+pub returns-in-Call-CallOn-clause-answers : goal.returns-in-Call-CallOn-clause-answers
+returns-in-Call-CallOn-clause-answers g c = λ files state here.
+    let s = Statement.Call c.in-Call-CallOn.function in
+    let is : c.args.statement ≡ s = search rules in
+    let all = c.frames_are_of_the_state.ensures.plan c.args.disk.now c.args.store.now state c.args.statement c.args.plan here c.requires.planned in
+    let planned : IsPlanned state s c.args.plan = rw c.in-Call-CallOn.is-0 at all in
+    same_answers g.D.Disk files c.args.statement s c.call_on.new.store c.call_on.result state is (c.call_on.ensures.answers files state here planned.accepted)
 
 pub returns-in-Session-default-clause-answers : goal.returns-in-Session-default-clause-answers
 returns-in-Session-default-clause-answers g c = λ files state here.

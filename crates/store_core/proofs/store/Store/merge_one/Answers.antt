@@ -1,0 +1,26 @@
+use Rattle.std.proofs.Common.{sym, subst, arith}
+use Rattle.std.specs.Prelude.{OnOk}
+use Rattle.std.proofs.lemmas.Result.{IfErr-weaker}
+use Rattle.col_disk.specs.declared.disk.StoreFault.TheVariants.{Memory}
+use Rattle.store_commit.specs.Seen.{Stands}
+use Rattle.table_jobs.specs.Jobs.{DrawsMerged, OfProjection}
+use Rattle.store_core.specs.Running.{Running}
+use Rattle.store_core.proofs.Raising.{on_merged, rise_does}
+use Rattle.store_core.proofs.store.Store.merge_one.Goals as goal
+
+pub returns-clause-does : goal.returns-clause-does
+returns-clause-does g c = λ state here.
+    let i = c.args.next.at.table in
+    let j = c.args.next.at.place in
+    rise_does g.D.Disk Memory c.self.inside.tables c.merge.new.store c.self.inside.txns c.self.inside.current c.args.self.now i j 0 c.merge.result state c.self.view_is here (omega arith) c.merge.ensures.made
+    (on_merged c.merge.result i j c.self.inside.tables.catalogue c.merge.new.store.catalogue c.merge.ensures.drawn)
+
+pub returns-clause-drawn : goal.returns-clause-drawn
+returns-clause-drawn g c =
+    let i = c.args.next.at.table in
+    let j = c.args.next.at.place in
+    subst (λ (r : Running). OnOk c.merge.result (OfProjection i j r.seen.catalogue (DrawsMerged i j r.seen.catalogue c.merge.new.store.catalogue))) c.self.view_is c.merge.ensures.drawn
+
+pub returns-clause-unblamed : goal.returns-clause-unblamed
+returns-clause-unblamed g c =
+    IfErr-weaker c.merge.result _ _ (λ fault none state here. none state.database (subst (λ (r : Running). Stands g.D.Disk r.seen c.args.disk.now state.database) (sym c.self.view_is) here.database)) c.merge.ensures.unblamed

@@ -1,0 +1,33 @@
+use Rattle.std.proofs.Common.{arith}
+use Rattle.store_core.proofs.Purging.{purging_begins, purging_done, purging_fails, purging_more, purging_on, purging_stops}
+use Rattle.store_core.proofs.store.Store.purge.Goals as goal
+
+pub loop-place-init : goal.loop-place-init
+loop-place-init g c = record { chain = λ state name here named. purging_begins g.D.Disk c.args.self.now c.args.disk.now state c.args.table name here named; count = omega arith }
+
+pub returns-then-are_spent-clause-jobs : goal.returns-then-are_spent-clause-jobs
+returns-then-are_spent-clause-jobs g c = λ state name here named.
+    purging_stops g.D.Disk name state c.args.table c.loop-place.place c.loop-place.self c.are_spent.result c.loop-place-test.true (c.loop-place.invariant.chain state name here named) c.are_spent.ensures c.if-are_spent.true
+
+pub returns-in-Err-clause-jobs : goal.returns-in-Err-clause-jobs
+returns-in-Err-clause-jobs g c = λ state name here named.
+    purging_fails g.D.Disk name state c.args.table c.loop-place.place c.loop-place.self c.purge_one.new.self c.are_spent.result c.in-Err.fault (c.loop-place.invariant.chain state name here named) c.are_spent.ensures c.if-are_spent.false
+    c.in-Err.ensures.does c.in-Err.ensures.unblamed c.in-Err.ensures.same
+
+pub loop-place-preserved : goal.loop-place-preserved
+loop-place-preserved g c = record {
+  chain = λ state name here named.
+      purging_more g.D.Disk name state c.args.table c.loop-place.place c.loop-place.self c.purge_one.new.self c.are_spent.result (c.loop-place.invariant.chain state name here named) c.are_spent.ensures c.if-are_spent.false
+      c.in-Ok.ensures.does c.in-Ok.ensures.drawn;
+  count = omega (arith, c.loop-place.invariant.count, c.purge_one.ensures.cause.later);
+}
+
+pub loop-place-preserved-then-not-is_purged : goal.loop-place-preserved-then-not-is_purged
+loop-place-preserved-then-not-is_purged g c = record {
+  chain = λ state name here named. purging_on g.D.Disk name state c.args.table c.loop-place.place c.loop-place.self (c.loop-place.invariant.chain state name here named);
+  count = c.loop-place.invariant.count;
+}
+
+pub returns-clause-jobs : goal.returns-clause-jobs
+returns-clause-jobs g c = λ state name here named.
+    purging_done g.D.Disk name state c.args.table c.loop-place.place c.loop-place.self (omega (arith, c.loop-place.auto.place-end)) (c.loop-place.invariant.chain state name here named)

@@ -1,0 +1,216 @@
+//! The jobs of MERGEOUT, PURGE_TABLE and REFRESH.
+
+ghost use Rattle.std.specs.Prelude.{◌≡◌, ◌≤◌, ℕ, true, false, length, List, MatchOption, IfErr, IfSome, OnOk, OnErr, IsSomeAnd};
+ghost use Rattle.std.specs.Bool.{OnTrue};
+ghost use Rattle.std.specs.List.{slice_get, All};
+ghost use Rattle.common_laws.specs.Causes.{HasCause};
+ghost use Rattle.col_disk.specs.Faults.{IsUnblamed as IsUnblamedStore};
+ghost use Rattle.col_disk.specs.declared.disk.StoreFault.TheVariants.{Memory as no_memory};
+ghost use Rattle.db_model.specs.State.{State};
+ghost use Rattle.mover_policy.specs.First.{all_projections};
+ghost use Rattle.table_jobs.specs.Jobs.{DrawsAnew, DrawsMerged, OfProjection};
+ghost use Rattle.table_jobs.specs.Oldest.{HasFour};
+ghost use Rattle.table_store.specs.Moving.{IsFreshAt};
+ghost use Rattle.store_core.specs.Jobs.{is_of, stale_place, RaisesAllOf, RefreshesAllOf, RefreshesAt, RisesAt};
+ghost use Rattle.store_core.specs.Events.{Does};
+ghost use Rattle.store_core.specs.Running.{IsState};
+
+use super::Store;
+use catalog_types::Table;
+use col_disk::{Disk, StoreFault};
+use mover_policy::{Merge, Place, next_merge, next_stale, projection_at};
+use state_laws::{refreshed_states_are_sound, risen_states_are_sound};
+use std::alloc::Global;
+use table_jobs::{has_gone, merge, purge, refresh};
+
+// A table has no more projections.
+const MOST_OF_TABLE: usize = 16;
+
+/// The place of the first projection of a table that isn't up to date.
+fn stale_in(tables: &[Table], table: usize) -> Option<usize>
+    ensures { result ≡ stale_place table tables.now }
+{
+    match tables.get(table) {
+        Some(t) => next_stale(t.projections.as_slice()),
+        None => None,
+    }
+}
+
+impl Store {
+    /// No table has more projections than a catalogue's may have.
+    fn places_fit(&self)
+        ensures { All (λ t. length t.projections ≤ 16) self.now.seen.catalogue.tables }
+    {
+        let _root = self.tables.root();
+    }
+
+    /// The merge that comes next.
+    fn next_merge(&self) -> Option<Merge>
+        ensures fresh { IfSome result (λ m. IsFreshAt self.now.seen.stores m.at.table m.at.place) }
+        ensures four { IfSome result (λ m. OfProjection m.at.table m.at.place self.now.seen.catalogue (λ p. HasFour m.level p.containers)) }
+    {
+        next_merge(self.tables.root().tables.as_slice())
+    }
+
+    /// Whether the projection at a place is up to date and has rows that a purge takes away.
+    fn is_purged(&self, table: usize, place: usize) -> bool
+        ensures { OnTrue result (IsFreshAt self.now.seen.stores table place) }
+    {
+        match projection_at(self.tables.root().tables.as_slice(), Place { table, place }) {
+            Some(p) => p.fresh && has_gone(&self.tables, table, place),
+            None => false,
+        }
+    }
+
+    /// The place of the first projection of a table that isn't up to date; it has no containers.
+    fn next_stale(&self, table: usize) -> Option<usize>
+        ensures first { result ≡ stale_place table self.now.seen.catalogue.tables }
+        ensures stale { IfSome result (λ j. OfProjection table j self.now.seen.catalogue (λ p. p.fresh ≡ false)) }
+        ensures empty { IfSome result (λ j. OfProjection table j self.now.seen.catalogue (λ p. length p.containers ≡ 0)) }
+    {
+        stale_in(self.tables.root().tables.as_slice(), table)
+    }
+
+    /// One merge: what it makes is there after a stop once this has answered Ok.
+    fn merge_one<D: Disk>(
+        &mut self,
+        alloc: Global,
+        next: Merge,
+        disk: &mut D,
+    ) -> Result<(), StoreFault>
+        requires fresh { IsFreshAt self.old.seen.stores next.at.table next.at.place }
+        requires four { OfProjection next.at.table next.at.place self.old.seen.catalogue (λ p. HasFour next.level p.containers) }
+        ensures does { (state : State) → IsState ⟦<D as Disk>⟧ self.old disk.old state → Does ⟦<D as Disk>⟧ no_memory self.old self.new disk.old disk.new result state (RisesAt next.at.table next.at.place state) }
+        ensures drawn { OnOk result (OfProjection next.at.table next.at.place self.old.seen.catalogue (DrawsMerged next.at.table next.at.place self.old.seen.catalogue self.new.seen.catalogue)) }
+        ensures unblamed { IfErr result (λ fault. (state : State) → IsState ⟦<D as Disk>⟧ self.old disk.old state → IsUnblamedStore fault) }
+        ensures same { OnErr result (self.new ≡ self.old) }
+        ensures cause { HasCause StoreFault.Disk (D.faults disk.old) (D.faults disk.new) result }
+    {
+        risen_states_are_sound();
+        merge(
+            alloc,
+            &mut self.tables,
+            next.at.table,
+            next.at.place,
+            next.level,
+            disk,
+        )
+    }
+
+    /// The purge of one projection.
+    fn purge_one<D: Disk>(
+        &mut self,
+        alloc: Global,
+        table: usize,
+        place: usize,
+        disk: &mut D,
+    ) -> Result<(), StoreFault>
+        requires { IsFreshAt self.old.seen.stores table place }
+        ensures does { (state : State) → IsState ⟦<D as Disk>⟧ self.old disk.old state → Does ⟦<D as Disk>⟧ no_memory self.old self.new disk.old disk.new result state (RisesAt table place state) }
+        ensures drawn { OnOk result (OfProjection table place self.old.seen.catalogue (DrawsAnew table place 1 self.old.seen.catalogue self.new.seen.catalogue)) }
+        ensures unblamed { IfErr result (λ fault. (state : State) → IsState ⟦<D as Disk>⟧ self.old disk.old state → IsUnblamedStore fault) }
+        ensures same { OnErr result (self.new ≡ self.old) }
+        ensures cause { HasCause StoreFault.Disk (D.faults disk.old) (D.faults disk.new) result }
+    {
+        risen_states_are_sound();
+        purge(alloc, &mut self.tables, table, place, disk)
+    }
+
+    /// The refresh of one projection.
+    fn refresh_one<D: Disk>(
+        &mut self,
+        alloc: Global,
+        table: usize,
+        place: usize,
+        disk: &mut D,
+    ) -> Result<(), StoreFault>
+        requires { OfProjection table place self.old.seen.catalogue (λ p. p.fresh ≡ false) }
+        ensures does { (state : State) → IsState ⟦<D as Disk>⟧ self.old disk.old state → Does ⟦<D as Disk>⟧ no_memory self.old self.new disk.old disk.new result state (RefreshesAt table place state) }
+        ensures drawn { OnOk result (OfProjection table place self.old.seen.catalogue (DrawsAnew table place 2 self.old.seen.catalogue self.new.seen.catalogue)) }
+        ensures unblamed { IfErr result (λ fault. (state : State) → IsState ⟦<D as Disk>⟧ self.old disk.old state → IsUnblamedStore fault) }
+        ensures same { OnErr result (self.new ≡ self.old) }
+        ensures cause { HasCause StoreFault.Disk (D.faults disk.old) (D.faults disk.new) result }
+    {
+        refreshed_states_are_sound();
+        refresh(alloc, &mut self.tables, table, place, disk)
+    }
+
+    /// MERGEOUT: as long as some projection has four containers of a level, these give way to one, up to a merge that would draw where the
+    /// numbers of files are spent. Answers whether it stopped there. Where memory is short, some merges may have been done before; over a
+    /// state no file is blamed.
+    pub fn merge_all<D: Disk>(&mut self, alloc: Global, disk: &mut D) -> Result<bool, StoreFault>
+        ensures jobs { (state : State) → IsState ⟦<D as Disk>⟧ self.old disk.old state → RaisesAllOf ⟦<D as Disk>⟧ (λ s. true) self.new disk.old disk.new result state }
+        ensures cause { HasCause StoreFault.Disk (D.faults disk.old) (D.faults disk.new) result }
+    {
+        self.projections_fit();
+        for _ in 0..u64::MAX {
+            let next = match self.next_merge() {
+                Some(next) => next,
+                None => return Ok(false),
+            };
+            if self.are_spent() {
+                return Ok(true);
+            }
+            match self.merge_one(alloc, next, disk) {
+                Ok(()) => {}
+                Err(fault) => return Err(fault),
+            }
+        }
+        Ok(false)
+    }
+
+    /// PURGE_TABLE of the table at a place, which has this name: each of its up-to-date projections that has rows deleted up to the ancient
+    /// history mark is written without these.
+    pub fn purge<D: Disk>(
+        &mut self,
+        alloc: Global,
+        table: usize,
+        disk: &mut D,
+    ) -> Result<bool, StoreFault>
+        ensures jobs { (state : State) (name : List ℕ) → IsState ⟦<D as Disk>⟧ self.old disk.old state → IsSomeAnd (slice_get self.old.seen.catalogue.tables table) (λ t. t.name ≡ name)
+            → RaisesAllOf ⟦<D as Disk>⟧ (is_of name state) self.new disk.old disk.new result state }
+        ensures cause { HasCause StoreFault.Disk (D.faults disk.old) (D.faults disk.new) result }
+    {
+        for place in 0..MOST_OF_TABLE {
+            if !self.is_purged(table, place) {
+                continue;
+            }
+            if self.are_spent() {
+                return Ok(true);
+            }
+            match self.purge_one(alloc, table, place, disk) {
+                Ok(()) => {}
+                Err(fault) => return Err(fault),
+            }
+        }
+        Ok(false)
+    }
+
+    /// REFRESH of the table at a place, which has this name: each of its projections that isn't up to date gets the table's rows.
+    pub fn refresh<D: Disk>(
+        &mut self,
+        alloc: Global,
+        table: usize,
+        disk: &mut D,
+    ) -> Result<bool, StoreFault>
+        ensures jobs { (state : State) (name : List ℕ) → IsState ⟦<D as Disk>⟧ self.old disk.old state → IsSomeAnd (slice_get self.old.seen.catalogue.tables table) (λ t. t.name ≡ name)
+            → RefreshesAllOf ⟦<D as Disk>⟧ name self.new disk.old disk.new result state }
+        ensures cause { HasCause StoreFault.Disk (D.faults disk.old) (D.faults disk.new) result }
+    {
+        self.places_fit();
+        for _ in 0..MOST_OF_TABLE {
+            let place = match self.next_stale(table) {
+                Some(place) => place,
+                None => return Ok(false),
+            };
+            if self.are_spent() {
+                return Ok(true);
+            }
+            match self.refresh_one(alloc, table, place, disk) {
+                Ok(()) => {}
+                Err(fault) => return Err(fault),
+            }
+        }
+        Ok(false)
+    }
+}

@@ -1,0 +1,21 @@
+use Rattle.std.proofs.Common.{subst, sym, rules}
+use Rattle.std.specs.Prelude.{codes, Result}
+use Rattle.col_disk.specs.declared.disk.StoreFault.{StoreFault}
+use Rattle.store_step.specs.declared.answer.Answer.{Answer}
+use Rattle.store_step.specs.Arms.{Answers}
+use Rattle.store_step.specs.Texts.{Says}
+use Rattle.store_step.proofs.Answered.{unmade}
+use Rattle.store_step.proofs.Worked.{merged, mergeout_answers}
+use Rattle.store_step.proofs.jobs.mergeout.Goals as goal
+
+pub returns-in-Err-clause-answers : goal.returns-in-Err-clause-answers
+returns-in-Err-clause-answers g c = λ files state here. unmade g.D.Disk files merged c.args.store.now c.args.disk.now state here (c.every_image_reopens.ensures c.args.store.now.seen.catalogue c.args.store.now.seen.stores c.args.disk.now state.database here.database)
+
+pub returns-in-Err-refused-clause-answers : goal.returns-in-Err-refused-clause-answers
+returns-in-Err-refused-clause-answers g c = λ files state here. unmade g.D.Disk files merged c.args.store.now c.args.disk.now state here (c.every_image_reopens.ensures c.args.store.now.seen.catalogue c.args.store.now.seen.stores c.args.disk.now state.database here.database)
+
+pub returns-clause-answers : goal.returns-clause-answers
+returns-clause-answers g c = λ files state here.
+    let says : Says (codes "MERGEOUT\n") c.printed.result = search rules in
+    subst (λ (r : Result Answer StoreFault). Answers g.D.Disk files merged c.merge_all.new.self c.args.disk.now c.merge_all.new.disk r state) (sym c.in_moveout.ensures)
+    (mergeout_answers g.D.Disk files c.merge_all.new.self c.printed.result c.in-Ok-refused.stopped c.merge_all.result state says c.in-Ok-refused.ensures (c.merge_all.ensures.jobs state here))
