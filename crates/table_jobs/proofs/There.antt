@@ -1,0 +1,100 @@
+-- A projection at a place that the catalogue has.
+use Rattle.std.proofs.Common.{◌≡◌, ℕ, zero, suc, ◌≤◌, ◌<◌, Bool, true, false, List, [], ◌∷◌, length, map, get_or, refl, sym, ◌∙◌, ap, subst, arith}
+use Rattle.std.specs.Prelude.{IsSomeAnd}
+use Rattle.std.specs.Bool.{OnFalse}
+use Rattle.std.specs.List.{All, slice_get}
+use Rattle.std.proofs.lemmas.List.{get_or-map, length-map}
+use Rattle.catalog_types.specs.declared.catalogue.Catalogue.{Catalogue}
+use Rattle.catalog_types.specs.declared.catalogue.Container.{Container}
+use Rattle.catalog_types.specs.declared.catalogue.Projection.{Projection}
+use Rattle.catalog_types.specs.declared.catalogue.Table as kept
+use Rattle.stored_rows.specs.Stored.{Projected}
+use Rattle.proj_store.specs.Loaded.{Loaded}
+use Rattle.store_commit.specs.Seen.{Seen}
+use Rattle.table_store.specs.Held.{projections_of}
+use Rattle.table_store.proofs.Moved.{is_at, stored_at}
+use Rattle.table_jobs.specs.Jobs.{OfProjection}
+use Rattle.table_jobs.proofs.Holding.{IsOwnAt}
+use Rattle.table_jobs.proofs.Raising.{IsRooted}
+use Rattle.table_jobs.proofs.Rooted.{IsEntryOf}
+
+pub some_below : {X : Type 0} (xs : List X) (i : ℕ) (P : X → Type 0) → IsSomeAnd (slice_get xs i) P → i < length xs
+some_below [] i P there = absurd there
+some_below (x ∷ xs) zero P there = omega arith
+some_below (x ∷ xs) (suc i) P there = let rest = some_below xs i P there in omega (arith, rest)
+
+length_entries : (ps : List Loaded) → length (map (λ p. p.entry) (projections_of ps)) ≡ length ps
+length_entries ps = length-map (projections_of ps) (λ (p : Projected). p.entry) ∙ length-map ps (λ (p : Loaded). p.stored)
+
+table_in : (ts : List (List Loaded)) (us : List kept.Table) (i : ℕ) (P : kept.Table → Type 0) → map (λ ps. map (λ p. p.entry) ps) (map projections_of ts) ≡ map (λ t. t.projections) us → IsSomeAnd (slice_get us i) P → i < length ts
+table_in ts us i P same there =
+    let lt : i < length us = some_below us i P there in
+    let long : length ts ≡ length us =
+    sym (length-map ts projections_of) ∙ sym (length-map (map projections_of ts) (λ ps. map (λ (p : Projected). p.entry) ps)) ∙ ap length same ∙ length-map us (λ t. t.projections) in
+    omega (arith, lt, long)
+
+place_in : (ts : List (List Loaded)) (us : List kept.Table) (i j : ℕ) (P : Projection → Type 0) (ps : List Loaded) → map (λ ps. map (λ p. p.entry) ps) (map projections_of ts) ≡ map (λ t. t.projections) us
+    → IsSomeAnd (slice_get us i) (λ t. IsSomeAnd (slice_get t.projections j) P) → ps ≡ get_or ts i ps → j < length ps
+place_in [] [] i j P ps same there is = absurd there
+place_in [] (u ∷ us) i j P ps same there is = absurd (cc)
+place_in (qs ∷ ts) [] i j P ps same there is = absurd there
+place_in (qs ∷ ts) (u ∷ us) zero j P ps same there is =
+    let lt : j < length u.projections = some_below u.projections j P there in
+    let here : map (λ p. p.entry) (projections_of qs) ≡ u.projections = cc in
+    let long : length ps ≡ length u.projections = ap length is ∙ sym (length_entries qs) ∙ ap length here in
+    omega (arith, lt, long)
+place_in (qs ∷ ts) (u ∷ us) (suc i) j P ps same there is = place_in ts us i j P ps cc there is
+
+-- the table at the place is one of the store's
+pub table_there : (was : Seen) (root : Catalogue) (i j : ℕ) (P : Projection → Type 0) (ts : List (List Loaded)) → IsRooted was root → map projections_of ts ≡ was.stores → OfProjection i j was.catalogue P → i < length ts
+table_there was root i j P ts rooted are there =
+    table_in ts root.tables i (λ t. IsSomeAnd (slice_get t.projections j) P) (ap (map (λ ps. map (λ (p : Projected). p.entry) ps)) are ∙ rooted.entries) (subst (λ (c : Catalogue). OfProjection i j c P) rooted.catalogue there)
+
+-- and the projection one of the table's
+pub place_there : (was : Seen) (root : Catalogue) (i j : ℕ) (P : Projection → Type 0) (ts : List (List Loaded)) (ps : List Loaded) → IsRooted was root → map projections_of ts ≡ was.stores → OfProjection i j was.catalogue P → ps ≡ get_or ts i ps → j < length ps
+place_there was root i j P ts ps rooted are there is =
+    place_in ts root.tables i j P ps (ap (map (λ ps. map (λ (p : Projected). p.entry) ps)) are ∙ rooted.entries) (subst (λ (c : Catalogue). OfProjection i j c P) rooted.catalogue there) is
+
+-- a projection that was taken from a place stands there
+pub here_at : (ts : List (List Loaded)) (stores : List (List Projected)) (i j : ℕ) (ps : List Loaded) (p : Loaded) → map projections_of ts ≡ stores → i < length ts → ps ≡ get_or ts i ps → j < length ps → p ≡ get_or ps j p → IsOwnAt stores i j p.stored
+here_at ts stores i j ps p are lt ps_is below p_is =
+    let inner : IsSomeAnd (slice_get (projections_of ps) j) (λ q. q ≡ p.stored) =
+    is_at (projections_of ps) j p.stored (λ q. q ≡ p.stored) (omega (arith, below, length-map ps (λ (q : Loaded). q.stored)))
+    (ap (λ (q : Loaded). q.stored) p_is ∙ sym (get_or-map (λ (q : Loaded). q.stored) ps j p p.stored below)) refl in
+    subst (λ (ss : List (List Projected)). IsOwnAt ss i j p.stored) are
+    (is_at (map projections_of ts) i (projections_of ps) (λ xs. IsSomeAnd (slice_get xs j) (λ q. q ≡ p.stored)) (omega (arith, lt, length-map ts projections_of)) (stored_at ts i ps lt ps_is) inner)
+
+-- what is so of the projection at a place
+at_place : {X : Type 0} (xs : List X) (j : ℕ) (x : X) (P : X → Type 0) → x ≡ get_or xs j x → IsSomeAnd (slice_get xs j) P → P x
+at_place [] j x P is there = absurd there
+at_place (y ∷ xs) zero x P is there = subst P (sym is) there
+at_place (y ∷ xs) (suc j) x P is there = at_place xs j x P is there
+
+-- an up-to-date projection at a place of a table, as it was found
+pub record IsSourceAt (stores : List (List Projected)) (i k : ℕ) (p : Projected) : Type 0 where
+  pub there : IsOwnAt stores i k p
+  pub fresh : p.entry.fresh ≡ true
+
+pub source_at : (ts : List (List Loaded)) (stores : List (List Projected)) (i k : ℕ) (ps : List Loaded) (p : Loaded) → map projections_of ts ≡ stores → i < length ts → ps ≡ get_or ts i ps → p ≡ get_or ps k p
+    → IsSomeAnd (slice_get ps k) (λ q. q.stored.entry.fresh ≡ true) → IsSourceAt stores i k p.stored
+source_at ts stores i k ps p are lt ps_is p_is fresh = record {
+  there = here_at ts stores i k ps p are lt ps_is (some_below ps k (λ q. q.stored.entry.fresh ≡ true) fresh) p_is;
+  fresh = at_place ps k p (λ q. q.stored.entry.fresh ≡ true) p_is fresh;
+}
+
+-- ---- a projection that isn't up to date
+
+-- it has no containers
+pub stale_bare : (root : Catalogue) (e : Projection) → e.fresh ≡ false → IsEntryOf root e → e.containers ≡ []
+stale_bare root e stale valid = none e.containers (by e.fresh stale valid.is_projection.stale)
+  where
+    by : (b : Bool) → b ≡ false → OnFalse b ((e.lge ≡ 0) × (e.born ≡ 0) × (length e.containers ≡ 0)) → length e.containers ≡ 0
+    by true is empty = absurd (cc)
+    by false is (lge, born, count) = count
+
+    none : (ks : List Container) → length ks ≡ 0 → ks ≡ []
+    none [] is = refl
+    none (k ∷ ks) is = absurd (omega (arith, is))
+
+pub sort_within : (root : Catalogue) (e : Projection) → IsEntryOf root e → All (λ i. i < length e.columns) e.sort
+sort_within root e valid = valid.is_projection.sort
