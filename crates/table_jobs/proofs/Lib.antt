@@ -4,4 +4,5 @@ pub mod Raising
 pub mod Rooted
 pub mod Placed
 pub mod Remade
+pub mod Made
 pub mod There
