@@ -55,6 +55,7 @@ fn place_found(columns: &[ProjColumn], ordinal: usize) -> Result<usize, AllocErr
 }
 
 /// The places of some columns among a source's.
+#[tactic(auto, using(crate::proofs::Placed::places_push))]
 fn places_of(
     alloc: Global,
     source: &[ProjColumn],
@@ -196,9 +197,11 @@ pub fn refresh<D: Disk>(
         Some(from) => from,
         None => return Err(StoreFault::Memory),
     };
-    let source = &parts[from];
-    let last = store.last();
-    let refreshed = match refresh_from(alloc, source, shape, last, root.ahm, root.next, disk) {
+    let (last, mark) = (store.last(), root.ahm);
+    if last < mark {
+        return Err(StoreFault::Memory);
+    }
+    let refreshed = match refresh_from(alloc, &parts[from], shape, last, mark, root.next, disk) {
         Ok(refreshed) => refreshed,
         Err(fault) => return Err(fault),
     };
