@@ -1,6 +1,6 @@
 -- A projection that is made out of another of its table.
 use Rattle.std.proofs.Common.{◌≡◌, ℕ, zero, suc, ◌+◌, ◌≤◌, ◌<◌, Bool, true, false, List, [], ◌∷◌, length, map, get_or, refl, sym, ◌∙◌, ap, subst, arith}
-use Rattle.std.specs.Prelude.{Option, Some, None, Result, Err, IsSomeAnd}
+use Rattle.std.specs.Prelude.{Option, Some, None, Result, Ok, Err, IfErr, IsSomeAnd}
 use Rattle.std.specs.Bool.{OnTrue}
 use Rattle.std.specs.List.{slice_get}
 use Rattle.std.specs.List.Sorted.{IsSorted}
@@ -155,3 +155,8 @@ remake_unblamed disk now was root i k source f d there fresh below blames stands
     on_fresh : (b : Bool) {P : Type 0} → P → OnTrue b P
     on_fresh true x = x
     on_fresh false x = tt
+
+-- what is so of each fault that is answered
+pub of_fault : (result : Result (Unit {0}) StoreFault) (P Q : StoreFault → Type 0) → ((f : StoreFault) → P f → Q f) → IfErr result P → IfErr result Q
+of_fault (Ok u) P Q wider is = tt
+of_fault (Err f) P Q wider is = wider f is

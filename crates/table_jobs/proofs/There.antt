@@ -10,15 +10,16 @@ use Rattle.catalog_types.specs.declared.catalogue.Projection.{Projection}
 use Rattle.catalog_types.specs.declared.catalogue.Table as kept
 use Rattle.stored_rows.specs.Stored.{Projected}
 use Rattle.proj_store.specs.Loaded.{Loaded}
+use Rattle.moveout_job.specs.OnDisk.{IsListedBelow}
 use Rattle.store_commit.specs.Seen.{Seen}
 use Rattle.table_store.specs.Held.{projections_of}
 use Rattle.table_store.proofs.Moved.{is_at, stored_at}
 use Rattle.table_jobs.specs.Jobs.{OfProjection}
 use Rattle.table_jobs.proofs.Holding.{IsOwnAt}
 use Rattle.table_jobs.proofs.Raising.{IsRooted}
-use Rattle.table_jobs.proofs.Rooted.{IsEntryOf}
+use Rattle.table_jobs.proofs.Rooted.{IsEntryOf, of_own, own_below, own_valid}
 
-pub some_below : {X : Type 0} (xs : List X) (i : ℕ) (P : X → Type 0) → IsSomeAnd (slice_get xs i) P → i < length xs
+some_below : {X : Type 0} (xs : List X) (i : ℕ) (P : X → Type 0) → IsSomeAnd (slice_get xs i) P → i < length xs
 some_below [] i P there = absurd there
 some_below (x ∷ xs) zero P there = omega arith
 some_below (x ∷ xs) (suc i) P there = let rest = some_below xs i P there in omega (arith, rest)
@@ -46,17 +47,17 @@ place_in (qs ∷ ts) (u ∷ us) zero j P ps same there is =
 place_in (qs ∷ ts) (u ∷ us) (suc i) j P ps same there is = place_in ts us i j P ps cc there is
 
 -- the table at the place is one of the store's
-pub table_there : (was : Seen) (root : Catalogue) (i j : ℕ) (P : Projection → Type 0) (ts : List (List Loaded)) → IsRooted was root → map projections_of ts ≡ was.stores → OfProjection i j was.catalogue P → i < length ts
+table_there : (was : Seen) (root : Catalogue) (i j : ℕ) (P : Projection → Type 0) (ts : List (List Loaded)) → IsRooted was root → map projections_of ts ≡ was.stores → OfProjection i j was.catalogue P → i < length ts
 table_there was root i j P ts rooted are there =
     table_in ts root.tables i (λ t. IsSomeAnd (slice_get t.projections j) P) (ap (map (λ ps. map (λ (p : Projected). p.entry) ps)) are ∙ rooted.entries) (subst (λ (c : Catalogue). OfProjection i j c P) rooted.catalogue there)
 
 -- and the projection one of the table's
-pub place_there : (was : Seen) (root : Catalogue) (i j : ℕ) (P : Projection → Type 0) (ts : List (List Loaded)) (ps : List Loaded) → IsRooted was root → map projections_of ts ≡ was.stores → OfProjection i j was.catalogue P → ps ≡ get_or ts i ps → j < length ps
+place_there : (was : Seen) (root : Catalogue) (i j : ℕ) (P : Projection → Type 0) (ts : List (List Loaded)) (ps : List Loaded) → IsRooted was root → map projections_of ts ≡ was.stores → OfProjection i j was.catalogue P → ps ≡ get_or ts i ps → j < length ps
 place_there was root i j P ts ps rooted are there is =
     place_in ts root.tables i j P ps (ap (map (λ ps. map (λ (p : Projected). p.entry) ps)) are ∙ rooted.entries) (subst (λ (c : Catalogue). OfProjection i j c P) rooted.catalogue there) is
 
 -- a projection that was taken from a place stands there
-pub here_at : (ts : List (List Loaded)) (stores : List (List Projected)) (i j : ℕ) (ps : List Loaded) (p : Loaded) → map projections_of ts ≡ stores → i < length ts → ps ≡ get_or ts i ps → j < length ps → p ≡ get_or ps j p → IsOwnAt stores i j p.stored
+here_at : (ts : List (List Loaded)) (stores : List (List Projected)) (i j : ℕ) (ps : List Loaded) (p : Loaded) → map projections_of ts ≡ stores → i < length ts → ps ≡ get_or ts i ps → j < length ps → p ≡ get_or ps j p → IsOwnAt stores i j p.stored
 here_at ts stores i j ps p are lt ps_is below p_is =
     let inner : IsSomeAnd (slice_get (projections_of ps) j) (λ q. q ≡ p.stored) =
     is_at (projections_of ps) j p.stored (λ q. q ≡ p.stored) (omega (arith, below, length-map ps (λ (q : Loaded). q.stored)))
@@ -69,18 +70,6 @@ at_place : {X : Type 0} (xs : List X) (j : ℕ) (x : X) (P : X → Type 0) → x
 at_place [] j x P is there = absurd there
 at_place (y ∷ xs) zero x P is there = subst P (sym is) there
 at_place (y ∷ xs) (suc j) x P is there = at_place xs j x P is there
-
--- an up-to-date projection at a place of a table, as it was found
-pub record IsSourceAt (stores : List (List Projected)) (i k : ℕ) (p : Projected) : Type 0 where
-  pub there : IsOwnAt stores i k p
-  pub fresh : p.entry.fresh ≡ true
-
-pub source_at : (ts : List (List Loaded)) (stores : List (List Projected)) (i k : ℕ) (ps : List Loaded) (p : Loaded) → map projections_of ts ≡ stores → i < length ts → ps ≡ get_or ts i ps → p ≡ get_or ps k p
-    → IsSomeAnd (slice_get ps k) (λ q. q.stored.entry.fresh ≡ true) → IsSourceAt stores i k p.stored
-source_at ts stores i k ps p are lt ps_is p_is fresh = record {
-  there = here_at ts stores i k ps p are lt ps_is (some_below ps k (λ q. q.stored.entry.fresh ≡ true) fresh) p_is;
-  fresh = at_place ps k p (λ q. q.stored.entry.fresh ≡ true) p_is fresh;
-}
 
 -- ---- a projection that isn't up to date
 
@@ -98,3 +87,41 @@ stale_bare root e stale valid = none e.containers (by e.fresh stale valid.is_pro
 
 pub sort_within : (root : Catalogue) (e : Projection) → IsEntryOf root e → All (λ i. i < length e.columns) e.sort
 sort_within root e valid = valid.is_projection.sort
+
+-- ---- the two projections of a refresh
+
+-- the projections of a table, taken as they stand
+taken_there : (ts : List (List Loaded)) (i : ℕ) (ps qs : List Loaded) → ps ≡ get_or ts i ps → qs ≡ ps → qs ≡ get_or ts i qs
+taken_there ts i ps qs ps_is same = subst (λ (xs : List Loaded). xs ≡ get_or ts i xs) (sym same) ps_is
+
+pub parts_there : (was : Seen) (root : Catalogue) (i j : ℕ) (ts : List (List Loaded)) (ps qs : List Loaded) → IsRooted was root → map projections_of ts ≡ was.stores → OfProjection i j was.catalogue (λ e. e.fresh ≡ false) → ps ≡ get_or ts i ps → qs ≡ ps
+    → j < length qs
+parts_there was root i j ts ps qs rooted are stale ps_is same = place_there was root i j (λ e. e.fresh ≡ false) ts qs rooted are stale (taken_there ts i ps qs ps_is same)
+
+-- the projection at a place of a table isn't up to date
+pub record IsTarget (was : Seen) (root : Catalogue) (i j : ℕ) (p : Projected) : Type 0 where
+  pub there : IsOwnAt was.stores i j p
+  pub stale : p.entry.fresh ≡ false
+  pub valid : IsEntryOf root p.entry
+
+pub target : (was : Seen) (root : Catalogue) (i j : ℕ) (ts : List (List Loaded)) (ps qs : List Loaded) (p : Loaded) → IsRooted was root → map projections_of ts ≡ was.stores → OfProjection i j was.catalogue (λ e. e.fresh ≡ false) → ps ≡ get_or ts i ps → qs ≡ ps
+    → p ≡ get_or qs j p → IsTarget was root i j p.stored
+target was root i j ts ps qs p rooted are stale ps_is same p_is =
+    let lt : i < length ts = table_there was root i j (λ e. e.fresh ≡ false) ts rooted are stale in
+    let below : j < length qs = parts_there was root i j ts ps qs rooted are stale ps_is same in
+    let own : IsOwnAt was.stores i j p.stored = here_at ts was.stores i j qs p are lt (taken_there ts i ps qs ps_is same) below p_is in
+    record { there = own; stale = of_own was root i j p.stored (λ e. e.fresh ≡ false) rooted own stale; valid = own_valid was root i j p.stored rooted own }
+
+-- another one of the table is
+pub record IsSource (was : Seen) (root : Catalogue) (i k : ℕ) (p : Projected) : Type 0 where
+  pub there : IsOwnAt was.stores i k p
+  pub fresh : p.entry.fresh ≡ true
+  pub below : IsListedBelow root.next p.entry
+
+pub source : (was : Seen) (root : Catalogue) (i j k : ℕ) (ts : List (List Loaded)) (ps qs : List Loaded) (p : Loaded) → IsRooted was root → map projections_of ts ≡ was.stores → OfProjection i j was.catalogue (λ e. e.fresh ≡ false) → ps ≡ get_or ts i ps → qs ≡ ps
+    → p ≡ get_or qs k p → IsSomeAnd (slice_get qs k) (λ q. q.stored.entry.fresh ≡ true) → IsSource was root i k p.stored
+source was root i j k ts ps qs p rooted are stale ps_is same p_is fresh =
+    let lt : i < length ts = table_there was root i j (λ e. e.fresh ≡ false) ts rooted are stale in
+    let below : k < length qs = some_below qs k (λ q. q.stored.entry.fresh ≡ true) fresh in
+    let own : IsOwnAt was.stores i k p.stored = here_at ts was.stores i k qs p are lt (taken_there ts i ps qs ps_is same) below p_is in
+    record { there = own; fresh = at_place qs k p (λ q. q.stored.entry.fresh ≡ true) p_is fresh; below = own_below root p.stored.entry (own_valid was root i k p.stored rooted own) }

@@ -89,7 +89,8 @@ fn is_source(p: &ProjStore, columns: &[ProjColumn]) -> bool
 
 /// The place of a projection that is up to date and has all of these columns. A sound store has one.
 fn source_of(parts: &[ProjStore], columns: &[ProjColumn]) -> Option<usize>
-    ensures { IfSome result (λ k. IsSomeAnd (slice_get parts.now k) (λ p. p.stored.entry.fresh ≡ true)) }
+    ensures place { IfSome result (λ k. k < length parts.now) }
+    ensures fresh { IfSome result (λ k. IsSomeAnd (slice_get parts.now k) (λ p. p.stored.entry.fresh ≡ true)) }
 {
     for place in 0..parts.len() {
         if is_source(&parts[place], columns) {
