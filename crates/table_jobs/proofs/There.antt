@@ -44,7 +44,9 @@ place_in (qs ∷ ts) (u ∷ us) zero j P ps same there is =
     let here : map (λ p. p.entry) (projections_of qs) ≡ u.projections = cc in
     let long : length ps ≡ length u.projections = ap length is ∙ sym (length_entries qs) ∙ ap length here in
     omega (arith, lt, long)
-place_in (qs ∷ ts) (u ∷ us) (suc i) j P ps same there is = place_in ts us i j P ps cc there is
+place_in (qs ∷ ts) (u ∷ us) (suc i) j P ps same there is =
+    let rest : map (λ (rs : List Projected). map (λ (r : Projected). r.entry) rs) (map projections_of ts) ≡ map (λ (t : kept.Table). t.projections) us = cc in
+    place_in ts us i j P ps rest there is
 
 -- the table at the place is one of the store's
 table_there : (was : Seen) (root : Catalogue) (i j : ℕ) (P : Projection → Type 0) (ts : List (List Loaded)) → IsRooted was root → map projections_of ts ≡ was.stores → OfProjection i j was.catalogue P → i < length ts
