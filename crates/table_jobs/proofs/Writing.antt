@@ -38,4 +38,4 @@ pub later_moved : {D : Type 0} (disk : Ghosts D) {old new : D} (base : ℕ) {nex
 later_moved disk base {next} le moved = later_data disk base next le moved
 
 pub listed_below : (next : ℕ) {after : ℕ} (p : Projection) → next ≤ after → IsListedBelow next p → IsListedBelow after p
-listed_below next {after} p le below = All-weaker (IsBelow next) (IsBelow after) p.containers (λ k is. wider_below next after k le is) below
+listed_below next {after} p le below = All-weaker (IsBelow next) (IsBelow after) (λ k is. wider_below next after k le is) p.containers below
