@@ -1,6 +1,6 @@
 -- The files of a refresh, from its begin to its end.
-use Rattle.std.proofs.Common.{◌≡◌, ℕ, ◌≤◌, ◌<◌, ◌+◌, true, List, length, refl, sym, ◌∙◌, ap, subst, arith}
-use Rattle.std.specs.Prelude.{Option, Some}
+use Rattle.std.proofs.Common.{◌≡◌, ℕ, ◌≤◌, true, List, ◌∙◌, subst}
+use Rattle.std.specs.Prelude.{Some}
 use Rattle.common_laws.specs.Maps.{Contents}
 use Rattle.col_disk.specs.Faults.{IsUnblamed}
 use Rattle.col_disk.specs.Moved.{Moved, NoName}

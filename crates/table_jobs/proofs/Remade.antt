@@ -1,5 +1,5 @@
 -- A projection that is made out of another of its table.
-use Rattle.std.proofs.Common.{◌≡◌, ℕ, zero, suc, ◌+◌, ◌≤◌, ◌<◌, Bool, true, false, List, [], ◌∷◌, length, map, get_or, refl, sym, ◌∙◌, ap, subst, arith}
+use Rattle.std.proofs.Common.{◌≡◌, ℕ, Bool, true, false, List, map, sym, ◌∙◌, ap, subst}
 use Rattle.std.specs.Prelude.{Option, Some, None, Result, Ok, Err, IfErr, IsSomeAnd}
 use Rattle.std.specs.Bool.{OnTrue}
 use Rattle.std.specs.List.{slice_get}
@@ -84,9 +84,12 @@ made_table m n mark u source entry made has =
     let via = made.places in
     let (held, holds, same) = made.rows has.stored has.are in
     let table : SameBag (map (on_columns via) (retained mark has.stored)) (map (on_columns via) (map (on_columns (ordinals source.entry)) (retained mark u.rows))) =
-    bag_map (on_columns via) (retained mark has.stored) (map (on_columns (ordinals source.entry)) (retained mark u.rows)) has.history in
-    (held, holds, bag_trans (retained mark held) (map (on_columns via) (retained mark has.stored)) (map (on_columns (ordinals entry)) (retained mark u.rows)) same
-    (subst (SameBag (map (on_columns via) (retained mark has.stored))) (columns_via (ordinals source.entry) via (ordinals entry) made.are (retained mark u.rows)) table))
+    bag_map (on_columns via) (retained mark has.stored) (map (on_columns (ordinals source.entry)) (retained mark u.rows)) has.history in (
+      held,
+      holds,
+      bag_trans (retained mark held) (map (on_columns via) (retained mark has.stored)) (map (on_columns (ordinals entry)) (retained mark u.rows)) same
+          (subst (SameBag (map (on_columns via) (retained mark has.stored))) (columns_via (ordinals source.entry) via (ordinals entry) made.are (retained mark u.rows)) table),
+    )
 
 some_weaker : {X : Type 0} (o : Option X) (P Q : X → Type 0) → ((x : X) → P x → Q x) → IsSomeAnd o P → IsSomeAnd o Q
 some_weaker None P Q wider there = absurd there

@@ -206,12 +206,5 @@ pub fn refresh<D: Disk>(
         Ok(refreshed) => refreshed,
         Err(fault) => return Err(fault),
     };
-    store.install(
-        alloc,
-        table,
-        place,
-        refreshed.entry,
-        refreshed.next,
-        disk,
-    )
+    store.install(alloc, table, place, refreshed.entry, refreshed.next, disk)
 }
