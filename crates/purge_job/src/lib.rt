@@ -5,6 +5,7 @@
 //! `specs/Purging.antt` says. A container that doesn't store all columns stores no more of them afterwards.
 #![tactic(auto)]
 
+mod each;
 mod entry;
 mod job;
 mod one;
