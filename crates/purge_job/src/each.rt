@@ -50,12 +50,13 @@ pub fn purge_each<D: Disk>(
     ensures moved { Moved ⟦<D as Disk>⟧ (DataFrom next) NoName disk.old disk.new }
     ensures cause { HasCause StoreFault.Disk (D.faults disk.old) (D.faults disk.new) result }
 {
-    let containers = p.entry().containers.as_slice();
+    let shape = p.entry();
+    let containers = shape.containers.as_slice();
     let mut out = Vec::new(alloc);
     let mut after = next;
     for (i, container) in containers.iter().enumerate() {
         let (held, fresh) = (p.vector(i), p.fresh_marks(i));
-        let done = match purge_container(alloc, disk, p.entry(), container, held, fresh, mark, after) {
+        let done = match purge_container(alloc, disk, shape, container, held, fresh, mark, after) {
             Ok(done) => done,
             Err(fault) => return Err(fault),
         };

@@ -50,6 +50,7 @@ pub fn purge_one<D: Disk>(
     ensures moved { Moved ⟦<D as Disk>⟧ (DataFrom next) NoName disk.old disk.new }
     ensures cause { HasCause StoreFault.Disk (D.faults disk.old) (D.faults disk.new) result }
 {
+    let shape = p.entry();
     let rows = match memory_refs(alloc, p.unsaved(), mark) {
         Ok(rows) => rows,
         Err(AllocError) => return Err(StoreFault::Memory),
@@ -58,11 +59,11 @@ pub fn purge_one<D: Disk>(
         Ok(each) => each,
         Err(fault) => return Err(fault),
     };
-    let written = match write_stamped(alloc, disk, p.entry(), rows, 0, each.next) {
+    let written = match write_stamped(alloc, disk, shape, rows, 0, each.next) {
         Ok(written) => written,
         Err(fault) => return Err(StoreFault::from(fault)),
     };
-    match purged_entry(alloc, p.entry(), each.containers, written.container) {
+    match purged_entry(alloc, shape, each.containers, written.container) {
         Ok(entry) => Ok(Purged {
             entry,
             next: written.next,
