@@ -7,8 +7,10 @@
 
 mod each;
 mod entry;
+mod gone;
 mod job;
 mod one;
 mod rows;
 
+pub use gone::has_gone;
 pub use job::{Purged, purge_one};

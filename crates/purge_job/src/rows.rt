@@ -22,7 +22,7 @@ pub fn are_later(marks: &[Mark], mark: u64) -> bool
 }
 
 /// Whether what was deleted so is retained from a mark on.
-fn is_kept(del: Option<u64>, mark: u64) -> bool
+pub fn is_kept(del: Option<u64>, mark: u64) -> bool
     ensures { result ≡ option_map_or (λ e. nat_lt mark e) del true }
 {
     match del {
