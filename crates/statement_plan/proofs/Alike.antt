@@ -292,7 +292,7 @@ held_from name n (s ∷ ss) above =
     (some_held (changes_on name s) ∙ ap (λ (b : Bool). not b && excludes name true s) (sym (not_zero n above)))
     (held_from name (n + 1) ss (omega (arith, above)))
 
-as_nobody : State → State
+abbrev as_nobody : State → State
 as_nobody state = record state { current = 0 }
 
 held_by : (state : State) (name : List ℕ) → option_map Refusal.Locked (holder state name) ≡ locked (as_nobody state) name true

@@ -1,3 +1,4 @@
+pub mod Adding
 pub mod Bare
 pub mod Inserting
 pub mod Places

@@ -95,9 +95,12 @@ pub kept_table : (m n : Contents) (mark : ℕ) (u : Table) (p : Projected) (entr
     → (held : List Stamped) × Holds n entry held × IsHistoryOf mark entry held u.rows
 kept_table m n mark u p entry renewal keeps has =
     let (held, holds, same) = keeps has.stored has.are in
-    let columns : ordinals entry ≡ ordinals p.entry = ap ordinals renewal in
-    (held, holds, subst (λ (cs : List ℕ). SameBag (retained mark held) (map (on_columns cs) (retained mark u.rows))) (sym columns)
-    (bag_trans (retained mark held) (retained mark has.stored) (map (on_columns (ordinals p.entry)) (retained mark u.rows)) same has.history))
+    let columns : ordinals entry ≡ ordinals p.entry = ap ordinals renewal in (
+      held,
+      holds,
+      subst (λ (cs : List ℕ). SameBag (retained mark held) (map (on_columns cs) (retained mark u.rows))) (sym columns)
+          (bag_trans (retained mark held) (retained mark has.stored) (map (on_columns (ordinals p.entry)) (retained mark u.rows)) same has.history),
+    )
 
 -- what holds of the table at a place, since it does of each table with such projections
 at_table : (m : Contents) (mark : ℕ) (ts : List kept.Table) (pss : List (List Projected)) (us : List Table) (i : ℕ) (P : List Projected → Type 0) (Q : Table → Type 0) → StandForTables m mark ts pss us → IsSomeAnd (slice_get pss i) P

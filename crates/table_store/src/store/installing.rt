@@ -79,11 +79,12 @@ impl TableStore {
             Ok(store) => store,
             Err(fault) => return Err(fault),
         };
-        let catalogue =
-            match with_entry_at(alloc, &self.root, self.last, next, table, place, entry) {
-                Ok(catalogue) => catalogue,
-                Err(AllocError) => return Err(StoreFault::Memory),
-            };
+        let catalogue = match with_entry_at(
+            alloc, &self.root, self.last, next, table, place, entry,
+        ) {
+            Ok(catalogue) => catalogue,
+            Err(AllocError) => return Err(StoreFault::Memory),
+        };
         match settle(alloc, disk, next, &catalogue) {
             Ok(()) => {}
             Err(fault) => return Err(StoreFault::from(fault)),
