@@ -119,14 +119,14 @@ pub entry_in : (pss : List (List Projected)) (ts : List kept.Table) (i j : ℕ) 
     → IsSomeAnd (slice_get ts i) (λ t. IsSomeAnd (slice_get t.projections j) P)
 entry_in [] ts i j p P are there is = absurd there
 entry_in (ps ∷ pss) [] i j p P are there is = absurd (cc)
-entry_in (ps ∷ pss) (t ∷ ts) zero j p P are there is = of_entries ps t.projections j cc there
+entry_in (ps ∷ pss) (t ∷ ts) zero j p P are there is = of_entries ps t.projections j (cc) there
   where
     of_entries : (qs : List Projected) (es : List Projection) (k : ℕ) → map (λ (q : Projected). q.entry) qs ≡ es → IsSomeAnd (slice_get qs k) (λ q. q ≡ p) → IsSomeAnd (slice_get es k) P
     of_entries [] es k same here = absurd here
     of_entries (q ∷ qs) [] k same here = absurd (cc)
     of_entries (q ∷ qs) (e ∷ es) zero same here = let first : q.entry ≡ e = cc in subst P (sym (ap (λ (r : Projected). r.entry) here) ∙ first) is
-    of_entries (q ∷ qs) (e ∷ es) (suc k) same here = of_entries qs es k cc here
-entry_in (ps ∷ pss) (t ∷ ts) (suc i) j p P are there is = entry_in pss ts i j p P cc there is
+    of_entries (q ∷ qs) (e ∷ es) (suc k) same here = of_entries qs es k (cc) here
+entry_in (ps ∷ pss) (t ∷ ts) (suc i) j p P are there is = entry_in pss ts i j p P (cc) there is
 
 pub own_entry : (was : Seen) (root : Catalogue) (i j : ℕ) (p : Projected) (P : Projection → Type 0) → IsRooted was root → IsOwnAt was.stores i j p → P p.entry → OfProjection i j was.catalogue P
 own_entry was root i j p P rooted there is = subst (λ (c : Catalogue). OfProjection i j c P) (sym rooted.catalogue) (entry_in was.stores root.tables i j p P rooted.entries there is)
