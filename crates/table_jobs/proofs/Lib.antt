@@ -6,3 +6,4 @@ pub mod Placed
 pub mod Remade
 pub mod Made
 pub mod There
+pub mod Purges

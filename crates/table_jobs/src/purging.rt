@@ -5,20 +5,24 @@ ghost use Rattle.common_laws.specs.Causes.{HasCause};
 ghost use Rattle.col_disk.specs.Faults.{IsUnblamed};
 ghost use Rattle.col_disk.specs.declared.disk.StoreFault.TheVariants.{Memory as no_memory};
 ghost use Rattle.db_model.specs.Database.{Database};
-ghost use Rattle.sound_laws.specs.Moves.{reached_at};
-ghost use Rattle.store_commit.specs.Making.{Makes};
 ghost use Rattle.store_commit.specs.Seen.{Stands};
 ghost use Rattle.table_store.specs.Moving.{IsFreshAt};
-ghost use Rattle.table_jobs.specs.Jobs.{DrawsAnew, DrawsMerged, IsStaleAt, MakesRise, OfProjection};
+ghost use Rattle.table_jobs.specs.Jobs.{DrawsAnew, MakesRise, OfProjection};
 
 use col_disk::{Disk, StoreFault};
+use purge_job::purge_one;
 use std::alloc::Global;
 use table_store::TableStore;
 
 /// Whether some row of the projection at a place was deleted up to the ancient history mark. It takes no memory, and the disk isn't called.
 pub fn has_gone(store: &TableStore, table: usize, place: usize) -> bool {
-    let _ = (table, place);
-    false
+    let Some(projections) = store.tables().get(table) else {
+        return false;
+    };
+    match projections.as_slice().get(place) {
+        Some(p) => purge_job::has_gone(p, store.root().ahm),
+        None => false,
+    }
 }
 
 /// Each container of the projection at a place that has rows deleted up to the ancient history mark is written anew without these, and what
@@ -37,6 +41,14 @@ pub fn purge<D: Disk>(
     ensures same { OnErr result (store.new ≡ store.old) }
     ensures cause { HasCause StoreFault.Disk (D.faults disk.old) (D.faults disk.new) result }
 {
-    let _ = (table, place);
-    Err(StoreFault::Memory)
+    let root = store.root();
+    let p = &store.tables()[table].as_slice()[place];
+    let purged = match purge_one(alloc, p, root.ahm, root.next, disk) {
+        Ok(purged) => purged,
+        Err(fault) => return Err(fault),
+    };
+    if purged.entry.lge > store.last() {
+        return Err(StoreFault::Memory);
+    }
+    store.install(alloc, table, place, purged.entry, purged.next, disk)
 }

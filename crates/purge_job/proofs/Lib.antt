@@ -1,0 +1,4 @@
+pub mod Retaining
+pub mod Anew
+pub mod Turns
+pub mod Assembled
