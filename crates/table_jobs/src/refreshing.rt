@@ -199,6 +199,7 @@ pub fn refresh<D: Disk>(
         None => return Err(StoreFault::Memory),
     };
     let (last, mark) = (store.last(), root.ahm);
+    // No store that stands for a database is there.
     if last < mark {
         return Err(StoreFault::Memory);
     }
