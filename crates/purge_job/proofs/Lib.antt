@@ -2,3 +2,4 @@ pub mod Retaining
 pub mod Anew
 pub mod Turns
 pub mod Assembled
+pub mod Late

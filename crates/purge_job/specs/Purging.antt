@@ -1,11 +1,11 @@
 -- A projection without the rows that were deleted at or before a mark.
-use Rattle.std.specs.Prelude.{ℕ, ◌≡◌, ◌≤◌, ◌+◌, ◌++◌, List, length, Option, Some, IfSome, get_or, None}
+use Rattle.std.specs.Prelude.{ℕ, ◌≡◌, ◌≤◌, ◌<◌, ◌+◌, ◌++◌, true, List, length, Option, Some, IfSome, get_or, None}
 use Rattle.std.specs.List.{All}
 use Rattle.common_laws.specs.Bags.{SameBag}
 use Rattle.common_laws.specs.Maps.{Contents}
 use Rattle.col_value.specs.declared.row.Asked.{Asked}
 use Rattle.col_value.specs.declared.row.Stamped.{Stamped}
-use Rattle.row_history.specs.History.{retained}
+use Rattle.row_history.specs.History.{is_retained, retained}
 use Rattle.catalog_types.specs.declared.catalogue.Container.{Container}
 use Rattle.catalog_types.specs.declared.catalogue.ProjColumn.{ProjColumn}
 use Rattle.catalog_types.specs.declared.catalogue.Projection.{Projection}
@@ -58,8 +58,17 @@ Purges mark m n p entry = (stored : List Stamped) → Stores m p stored → (hel
 abbrev pub purged_to : List Container → Option Container → Projection → Projection
 purged_to containers memory old = rewritten_to (reached_by old.lge (containers ++ listed memory)) (old.born + length (listed memory)) (containers ++ listed memory) old
 
--- The entry after a purge: the containers in the places of the old ones, and behind them what was made of the rows in memory, with numbers from
--- `mid` up to `after`.
+-- all marks that are kept of a container are later than a mark
+abbrev pub AreLate : ℕ → Beside → Type 0
+AreLate mark b = All (λ e. mark < e.epoch) b.held × All (λ e. mark < e.epoch) b.fresh
+
+-- a projection with no mark, and no delete of a row in memory, at or before a mark: nothing of it is to be purged
+pub record IsKeptWhole (mark : ℕ) (p : Projected) : Type 0 where
+  pub marks : All (AreLate mark) p.beside
+  pub rows : All (λ s. is_retained mark s ≡ true) p.unsaved
+
+-- The entry after a purge: the containers in the places of the old ones, and behind them what was made of the rows in memory, with
+-- numbers from `mid` up to `after`.
 pub record IsPurged (next after : ℕ) (old new : Projection) : Type 0 where
   pub containers : List Container
   pub memory : Option Container

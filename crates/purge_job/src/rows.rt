@@ -35,7 +35,11 @@ pub fn is_kept(del: Option<u64>, mark: u64) -> bool
 fn del_at(dels: &[Option<u64>], place: usize) -> Option<u64>
     ensures { result ≡ get_or dels.now place None }
 {
-    if place < dels.len() { dels[place] } else { None }
+    if place < dels.len() {
+        dels[place]
+    } else {
+        None
+    }
 }
 
 fn stamp(asked: Asked, del: Option<u64>) -> Stamped
