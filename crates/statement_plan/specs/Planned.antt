@@ -1,5 +1,5 @@
 -- What a statement was planned to do, and why it is refused before a row is looked at.
-use Rattle.std.specs.Prelude.{◌≡◌, Bool, true, false, Option, Some, None}
+use Rattle.std.specs.Prelude.{ℕ, ◌≡◌, Bool, true, false, Option, Some, None}
 use Rattle.std.specs.List.{All}
 use Rattle.col_value.specs.Order.{IsRow, IsValue}
 use Rattle.sql_tree.specs.declared.query.At.{At}
