@@ -13,12 +13,12 @@ ghost use Rattle.db_model.specs.Sound.{IsSound};
 
 /// A state stays sound in a DELETE that isn't refused.
 pub fn deletes_are_sound()
-    ensures { (state : State) (d : Delete) → state.asked ≡ [] → rows_deleted_refusal state d ≡ None → IsSound state → IsSound (on_table d.table (rows_deleted d state) state) }
+    ensures { (state : State) (d : Delete) → rows_deleted_refusal state d ≡ None → IsSound state → IsSound (on_table d.table (rows_deleted d state) state) }
 {}
 
 /// A state stays sound in an UPDATE that isn't refused.
 pub fn updates_are_sound()
-    ensures { (state : State) (u : Update) → state.asked ≡ [] → rows_updated_refusal state u ≡ None → IsSound state → IsSound (on_table u.table (rows_updated u state) state) }
+    ensures { (state : State) (u : Update) → rows_updated_refusal state u ≡ None → IsSound state → IsSound (on_table u.table (rows_updated u state) state) }
 {}
 
 /// The columns that an UPDATE sets are columns of its table, where it isn't refused for its names.

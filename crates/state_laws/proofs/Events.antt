@@ -10,7 +10,6 @@ use Rattle.common_laws.proofs.BagLaws.{bag_refl}
 use Rattle.col_value.specs.declared.value.Value.{Value}
 use Rattle.col_value.specs.declared.column.Column.{Column}
 use Rattle.sql_tree.specs.declared.refusal.Refusal.{Refusal}
-use Rattle.row_history.specs.History.{Within}
 use Rattle.sql_binding.specs.Firsts.{first_of}
 use Rattle.db_model.specs.Database.{Database, Table, table_named, put_table, is_taken, super_name}
 use Rattle.db_model.specs.State.{State, Changes, own_changes, with_changes, with_rows, joined}
@@ -19,13 +18,11 @@ use Rattle.db_model.specs.Numbers.{IsDrawn, spent_refusal}
 use Rattle.db_model.specs.Refusing.{if_taken, repeated_behind, create_limit, taken_name, create_refusal}
 use Rattle.db_model.specs.Refusals.{table_created_refusal, table_dropped_refusal, unknown_table_refusal, locked}
 use Rattle.db_model.specs.Sound.{RowFits, ChangesFit, IsSoundDatabase, IsSoundSession, GoTogether, IsStale, IsSound}
-use Rattle.sound_laws.specs.Moves.{moved_at}
 use Rattle.sound_laws.proofs.Pairs.{pairs_none, pairs_head, pairs_tail}
 use Rattle.sound_laws.proofs.Created.{Differ, created_sound}
-use Rattle.sound_laws.proofs.Moved.{moved_sound}
 use Rattle.state_laws.proofs.Dropped.{without_named, dropped_sound}
 use Rattle.state_laws.proofs.Places.{AllBut, but_all, set_all_but, set_pairs}
-use Rattle.state_laws.proofs.Tables.{free_differs, put_still, without_still, moved_named}
+use Rattle.state_laws.proofs.Tables.{free_differs, put_still, without_still}
 use Rattle.state_laws.proofs.Stale.{filtered, stale_left, stale_put}
 use Rattle.state_laws.proofs.Held.{none_excludes, none_held, none_exclusive, together_turned, none_together, GoesWith, each_goes, all_go, session_over}
 
@@ -336,21 +333,3 @@ pending_state state name rows t there fit free sound =
         all_go (with_rows name rows (own_changes state)) other
         (rows_join (GoesWith other) name rows (λ e in_other same. All-contains (λ c. c.table ≡ name → c.exclusive ≡ false) other e modes in_other (sym same)) (own_changes state)
         (each_goes (own_changes state) other (own_with state sound i x lt at)))
-
--- ---- a moveout
-
-moved_fit : (d : Database) (i j : ℕ) (c : Changes) → ChangesFit d c → ChangesFit (moved_at i j d) c
-moved_fit d i j c fit =
-    let found = moved_named d.last i j c.table d.tables fit.table fit.there in
-    record {
-      table = found.0;
-      there = found.1;
-      rows = subst (λ (columns : List Column). All (RowFits columns) c.rows) (sym found.2) fit.rows;
-      deletes = subst (λ rows. Within c.deletes rows) (sym found.3) fit.deletes;
-      shared = fit.shared;
-    }
-
-pub moved_state : (state : State) (i j : ℕ) → state.asked ≡ no_names → IsSound state → IsSound (record state { database = moved_at i j state.database })
-moved_state state i j none sound =
-    let after = moved_at i j state.database in
-    database_sound state after (subst (λ (names : List (List ℕ)). All (IsStale after) names) (sym none) (All-nil (IsStale after))) (moved_fit state.database i j) (moved_sound state.database i j sound.database) sound

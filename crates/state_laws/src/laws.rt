@@ -18,7 +18,6 @@ ghost use Rattle.db_model.specs.Mover.{refreshed, RaisesAll, RefreshesAll, Rises
 ghost use Rattle.db_model.specs.Numbers.{IsDrawn};
 ghost use Rattle.db_model.specs.Refusals.{column_added_refusal, locked, projection_created_refusal, projection_dropped_refusal, table_created_refusal, table_dropped_refusal};
 ghost use Rattle.db_model.specs.Sound.{IsSound, IsSoundDatabase, RowFits};
-ghost use Rattle.sound_laws.specs.Moves.{moved_at};
 ghost use Rattle.state_laws.specs.Rows.{AreStored};
 
 /// The numbers that an event draws leave a state sound.
@@ -28,22 +27,22 @@ pub fn an_event_may_draw()
 
 /// A state stays sound in a CREATE TABLE that isn't refused.
 pub fn a_new_table_is_sound()
-    ensures { (state : State) (name : List ℕ) (columns : List Column) → state.asked ≡ [] → table_created_refusal state name columns ≡ None → IsSound state → IsSound (table_created name columns state) }
+    ensures { (state : State) (name : List ℕ) (columns : List Column) → table_created_refusal state name columns ≡ None → IsSound state → IsSound (table_created name columns state) }
 {}
 
 /// A state stays sound in a DROP TABLE that isn't refused.
 pub fn tables_may_be_dropped()
-    ensures { (state : State) (name : List ℕ) → state.asked ≡ [] → table_dropped_refusal state name ≡ None → IsSound state → IsSound (table_dropped name state) }
+    ensures { (state : State) (name : List ℕ) → table_dropped_refusal state name ≡ None → IsSound state → IsSound (table_dropped name state) }
 {}
 
 /// A state stays sound in a CREATE PROJECTION that isn't refused.
 pub fn a_new_projection_is_sound()
-    ensures { (state : State) (p : NewProjection) → state.asked ≡ [] → projection_created_refusal state p ≡ None → IsSound state → IsSound (projection_created p state) }
+    ensures { (state : State) (p : NewProjection) → projection_created_refusal state p ≡ None → IsSound state → IsSound (projection_created p state) }
 {}
 
 /// A state stays sound in a DROP PROJECTION that isn't refused.
 pub fn projections_may_be_dropped()
-    ensures { (state : State) (name : List ℕ) → state.asked ≡ [] → projection_dropped_refusal state name ≡ None → IsSound state → IsSound (projection_dropped name state) }
+    ensures { (state : State) (name : List ℕ) → projection_dropped_refusal state name ≡ None → IsSound state → IsSound (projection_dropped name state) }
 {}
 
 /// The rows of an INSERT that isn't refused for what they are fit the columns of its table.
@@ -59,33 +58,28 @@ pub fn loaded_rows_fit()
 
 /// A state stays sound where rows that fit become pending in a table that no other session holds in mode X.
 pub fn pending_rows_are_sound()
-    ensures { (state : State) (name : List ℕ) (rows : List (List Value)) (t : Table) → state.asked ≡ [] → table_named name state.database.tables ≡ Some t → All (RowFits t.columns) rows → locked state name false ≡ None → IsSound state
+    ensures { (state : State) (name : List ℕ) (rows : List (List Value)) (t : Table) → table_named name state.database.tables ≡ Some t → All (RowFits t.columns) rows → locked state name false ≡ None → IsSound state
         → IsSound (rows_pending name rows state) }
 {}
 
 /// A state stays sound in a COMMIT.
 pub fn commits_of_a_session_are_sound()
-    ensures { (state : State) → state.asked ≡ [] → IsSound state → IsSound (changes_committed state) }
+    ensures { (state : State) → IsSound state → IsSound (changes_committed state) }
 {}
 
 /// A state stays sound in a ROLLBACK.
 pub fn changes_may_be_dropped()
-    ensures { (state : State) → state.asked ≡ [] → IsSound state → IsSound (changes_dropped state) }
+    ensures { (state : State) → IsSound state → IsSound (changes_dropped state) }
 {}
 
 /// A state stays sound where its ancient history mark becomes an epoch that is no later than the last good one.
 pub fn marks_up_to_the_last_good_epoch_are_sound()
-    ensures { (state : State) (mark : ℕ) → state.asked ≡ [] → mark ≤ last_good state.database → IsSound state → IsSound (mark_raised mark state) }
+    ensures { (state : State) (mark : ℕ) → mark ≤ last_good state.database → IsSound state → IsSound (mark_raised mark state) }
 {}
 
 /// A state stays sound where another session is the current one.
 pub fn sessions_may_change()
     ensures { (state : State) (n : ℕ) → 1 ≤ n → n ≤ 8 → IsSound state → IsSound (record state { current = n }) }
-{}
-
-/// A state stays sound where a projection was moved out.
-pub fn moved_states_are_sound()
-    ensures { (state : State) (i j : ℕ) → state.asked ≡ [] → IsSound state → IsSound (record state { database = moved_at i j state.database }) }
 {}
 
 /// A state stays sound in an ALTER TABLE that isn't refused.

@@ -1,7 +1,7 @@
 -- What is looked at before the rows is the same in a state and in the one without its rows.
-use Rattle.std.proofs.Common.{◌≡◌, ◌<◌, ℕ, ◌+◌, List, [], ◌∷◌, ◌++◌, Bool, true, false, cond, length, map, filter, refl, sym, ◌-◌, ◌∙◌, ap, ap₂, arith}
+use Rattle.std.proofs.Common.{◌≡◌, ◌<◌, ℕ, ◌+◌, List, [], ◌∷◌, ◌++◌, Bool, true, false, cond, length, map, filter, refl, sym, ◌∙◌, ap, ap₂, arith}
 use Rattle.std.specs.Prelude.{Option, Some, None, option_map, option_and_then, find, is_some, bytes_eq, nat_le, nat_lt, ◌&&◌, ◌||◌, ◌==◌, not}
-use Rattle.std.specs.List.{AllZip, enumerate_from, flat_map, list_all, list_any, slice_index_or}
+use Rattle.std.specs.List.{AllZip, enumerate_from, flat_map, list_all, list_any}
 use Rattle.std.specs.Option.{option_map_or}
 use Rattle.std.proofs.lemmas.Bool.Decides.{nat_tests}
 use Rattle.std.proofs.lemmas.List.Concat.{flat_map-cons}
@@ -27,12 +27,12 @@ use Rattle.sql_binding.specs.Additions.{addition_refusal, default_refusal}
 use Rattle.sql_binding.specs.Inserts.{insert_refusal, stored_refusal}
 use Rattle.sql_binding.specs.Queries.{bound_query, query_refusal}
 use Rattle.db_model.specs.Database.{Table, Shape, has_columns, is_taken, super_name}
-use Rattle.db_model.specs.State.{State, Changes, has_changes, own_changes, pending_rows}
+use Rattle.db_model.specs.State.{State, Changes}
 use Rattle.db_model.specs.Epochs.{all_shapes, last_good, least_or}
 use Rattle.db_model.specs.Loading.{Load}
 use Rattle.db_model.specs.Locks.{changes_on, excludes, holder}
 use Rattle.db_model.specs.Numbers.{spent_refusal}
-use Rattle.db_model.specs.Refusing.{column_limit, columns_limit, commit_refusal, create_limit, create_refusal, epoch_refusal, if_taken, name_limit, repeated_behind, rows_limit, taken_name}
+use Rattle.db_model.specs.Refusing.{column_limit, columns_limit, commit_refusal, create_limit, create_refusal, epoch_refusal, if_taken, name_limit, repeated_behind, taken_name}
 use Rattle.db_model.specs.Refusals.{column_added_refusal, joining_limit, last_super_refusal, load_refusal, locked, mark_refusal, owner, projection_created_refusal, projection_dropped_refusal, projection_refusal_over, query_refusal_in, raise_refusal, rows_deleted_refusal, rows_inserted_refusal, table_created_refusal, table_dropped_refusal, unknown_table_refusal}
 use Rattle.db_model.specs.Views.{bound_in, columns_found, table_found}
 use Rattle.alike_laws.proofs.Refused.{commit_alike, joining_alike, load_alike, locked_alike}

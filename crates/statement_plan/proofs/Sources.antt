@@ -1,5 +1,5 @@
 -- The tables of a query's FROM items, and the bounds of a query that isn't refused.
-use Rattle.std.proofs.Common.{◌≡◌, ℕ, List, [], ◌∷◌, ◌++◌, Bool, true, false, cond, map, refl, sym, ◌∙◌, ap, ap₂, subst, true≢false}
+use Rattle.std.proofs.Common.{◌≡◌, ℕ, List, [], ◌∷◌, ◌++◌, Bool, true, false, cond, map, refl, sym, ◌∙◌, ap, ap₂, subst}
 use Rattle.std.specs.Prelude.{Option, Some, None, option_map, option_and_then, not, ◌&&◌, Result, IfErr}
 use Rattle.std.specs.List.{All, list_all, flat_map, zip}
 use Rattle.std.specs.Option.{option_map_or}

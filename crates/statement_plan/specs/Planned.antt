@@ -21,38 +21,6 @@ use Rattle.query_laws.specs.Bounded.{IsBoundedQuery}
 use Rattle.statement_plan.specs.Places.{IsDeleteOf, IsProjectionOf, IsUpdateOf, projection_places, table_place}
 use Rattle.statement_plan.specs.declared.plans.Plan.{Plan}
 
--- the functions that are planned
-abbrev pub is_planned_call : Function → Bool
-is_planned_call Function.Lge = true
-is_planned_call Function.Ahm = true
-is_planned_call Function.Current = true
-is_planned_call Function.MakeAhmNow = true
-is_planned_call (Function.SetAhm n) = true
-is_planned_call Function.Moveout = true
-is_planned_call Function.Mergeout = true
-is_planned_call (Function.Purge table) = true
-is_planned_call (Function.Refresh table) = true
-is_planned_call Function.StartRefresh = false
-
--- the forms that are planned
-abbrev pub is_planned : Statement → Bool
-is_planned (Statement.CreateTable name columns) = true
-is_planned (Statement.CreateProjection p) = true
-is_planned (Statement.DropTable name) = true
-is_planned (Statement.DropProjection name) = true
-is_planned (Statement.Insert i) = true
-is_planned (Statement.Delete d) = true
-is_planned (Statement.Update u) = true
-is_planned (Statement.AddColumn a) = true
-is_planned (Statement.Copy table file) = true
-is_planned Statement.Commit = true
-is_planned Statement.Rollback = true
-is_planned (Statement.Select at q) = true
-is_planned (Statement.Explain q) = true
-is_planned (Statement.Call f) = is_planned_call f
-is_planned (Statement.Session n) = true
-is_planned Statement.Step = true
-
 -- why a query is refused for what it says, whatever the rows are
 abbrev pub select_refusal : State → At → Query → Option Refusal
 select_refusal state at q = first_of (query_refusal_in state q) (epoch_refusal state.database.ahm state.database.last at)

@@ -3,7 +3,7 @@
 ghost use Rattle.std.specs.Prelude.{◌≡◌, true, IfErr, IfOk};
 ghost use Rattle.name_binder.specs.Refusing.{RefusesBy};
 ghost use Rattle.sql_tree.specs.declared.statement.Statement.{Statement as AStatement};
-ghost use Rattle.statement_plan.specs.Planned.{early_call_refusal, early_refusal, is_planned, IsPlanned};
+ghost use Rattle.statement_plan.specs.Planned.{early_call_refusal, early_refusal, IsPlanned};
 
 use crate::adding::plan_addition;
 use crate::changing::{plan_delete, plan_update};
@@ -50,9 +50,8 @@ fn plan_call(alloc: Global, frame: &Frame<'_>, function: &Function) -> Result<Pl
     }
 }
 
-/// What a statement that is planned does, or why it is refused whatever the rows are.
+/// What a statement does, or why it is refused whatever the rows are.
 pub fn make_plan(alloc: Global, frame: &Frame<'_>, statement: &Statement) -> Result<Plan, BindFault>
-    requires { is_planned statement.now ≡ true }
     ensures planned { IfOk result (IsPlanned frame.now statement.now) }
     ensures refused { IfErr result (RefusesBy (early_refusal frame.now statement.now)) }
 {

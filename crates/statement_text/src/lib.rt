@@ -18,6 +18,6 @@ pub use lines::{
 pub use printing::listing;
 pub use words::{
     column_added_text, mergeout_text, moveout_text, projection_created_text,
-    projection_dropped_text, purge_text, refresh_text, rollback_text, table_created_text,
-    table_dropped_text,
+    projection_dropped_text, purge_text, refresh_text, rollback_text, start_refresh_text,
+    table_created_text, table_dropped_text,
 };

@@ -73,3 +73,10 @@ pub fn refresh_text(alloc: Global) -> Result<Vec<u8>, AllocError>
 {
     Vec::from_slice(alloc, b"REFRESH\n")
 }
+
+/// `START REFRESH`
+pub fn start_refresh_text(alloc: Global) -> Result<Vec<u8>, AllocError>
+    ensures { IfOk result (λ v. v.items ≡ codes "START REFRESH\n") }
+{
+    Vec::from_slice(alloc, b"START REFRESH\n")
+}

@@ -2,4 +2,4 @@ use Rattle.state_laws.proofs.Commits.{committed_state}
 use Rattle.state_laws.proofs.laws.commits_of_a_session_are_sound.Goals as goal
 
 pub returns : goal.returns
-returns c = λ state none sound. committed_state state sound
+returns c = committed_state

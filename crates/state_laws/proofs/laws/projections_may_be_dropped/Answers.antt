@@ -2,4 +2,4 @@ use Rattle.state_laws.proofs.Unshaped.{unshaped_state}
 use Rattle.state_laws.proofs.laws.projections_may_be_dropped.Goals as goal
 
 pub returns : goal.returns
-returns c = λ state name none free sound. unshaped_state state name free sound
+returns c = unshaped_state

@@ -2,4 +2,4 @@ use Rattle.state_laws.proofs.Events.{dropped_state}
 use Rattle.state_laws.proofs.laws.tables_may_be_dropped.Goals as goal
 
 pub returns : goal.returns
-returns c = λ state name none free sound. dropped_state state name free sound
+returns c = dropped_state
