@@ -13,8 +13,8 @@ use sql_tree::Refusal;
 use std::alloc::{AllocError, Global};
 use vert_cli::{Outcome, RunFault, Session};
 
-/// The most projections of a folder: 16 of each of 1,024 tables.
-const MOST_PROJECTIONS: u32 = 16_384;
+/// The most steps of the mover up to which all is moved out: those of a job in flight, and one for each projection of a folder, 16 of each of 1,024 tables.
+const MOST_STEPS: u32 = 16_384 + 66;
 
 /// What a statement text answers: the bytes that `execute` writes, its refusal, if it is refused, and whether all that is committed is in the folder.
 #[derive(Drop)]
@@ -81,7 +81,7 @@ fn settle<D: Disk>(alloc: Global, session: &mut Session, disk: &mut D) -> Result
     ensures kept { IfOk result (λ kept. IsTrue kept → IsKept session.new.running) }
     ensures live { session.old.halted ≡ false → OnOk result (session.new.halted ≡ false) }
 {
-    for _ in 0..MOST_PROJECTIONS {
+    for _ in 0..MOST_STEPS {
         if is_kept(session) {
             return Ok(true);
         }

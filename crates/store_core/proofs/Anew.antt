@@ -1,7 +1,7 @@
 -- A catalogue in which one projection has another entry, with its containers.
-use Rattle.std.proofs.Common.{◌≡◌, ◌<◌, ◌≤◌, ◌+◌, ◌*◌, ◌++◌, ℕ, zero, suc, Bool, true, false, List, [], ◌∷◌, length, map, refl, sym, ◌∙◌, ap, subst, arith}
-use Rattle.std.specs.Prelude.{not, nat_lt, Option, Some, None, Result, OnOk, option_map, option_and_then, position, IsSomeAnd}
-use Rattle.std.specs.List.{All, position_or_len, slice_get}
+use Rattle.std.proofs.Common.{◌≡◌, ◌<◌, ◌≤◌, ◌+◌, ◌*◌, ℕ, zero, suc, List, [], ◌∷◌, length, refl, sym, ◌∙◌, ap, subst, arith}
+use Rattle.std.specs.Prelude.{Option, Some, None, Result, OnOk, option_map, IsSomeAnd}
+use Rattle.std.specs.List.{All, slice_get}
 use Rattle.std.proofs.Math.Nat.{le-mul_of_pos_right}
 use Rattle.std.proofs.lemmas.List.{length-append}
 use Rattle.std.proofs.lemmas.List.Concat.{flat_map-cons}
@@ -10,9 +10,6 @@ use Rattle.std.proofs.lemmas.Result.{on_ok_weaker}
 use Rattle.catalog_types.specs.declared.catalogue.Catalogue.{Catalogue}
 use Rattle.catalog_types.specs.declared.catalogue.Projection.{Projection}
 use Rattle.catalog_types.specs.declared.catalogue.Table as kept
-use Rattle.catalog_types.specs.Parts.{IsTable}
-use Rattle.catalog_types.specs.Valid.{IsValid}
-use Rattle.db_model.specs.Numbers.{most_drawn}
 use Rattle.db_model.specs.State.{State}
 use Rattle.mover_policy.specs.First.{all_projections}
 use Rattle.sound_laws.specs.Moves.{change_at}
@@ -22,7 +19,7 @@ use Rattle.table_store.specs.Drawing.{FewContainers}
 use Rattle.table_store.specs.Moving.{with_entry}
 use Rattle.store_core.proofs.Doing.{Grown}
 use Rattle.store_core.proofs.Placed.{all_change}
-use Rattle.store_core.proofs.Worked.{rise_of, Steps}
+use Rattle.store_core.proofs.Worked.{Steps}
 
 -- ---- what stands at a place
 

@@ -89,11 +89,11 @@ pub record Chained {D : Type 0} (disk : Ghosts D) (start : State) (jobs : ℕ) (
 abbrev short_of : Result (Unit {0}) StoreFault
 short_of = Err fault.Memory
 
-pub chain_begins : {D : Type 0} (disk : Ghosts D) (r : Running) (now : D) (start : State) → IsState disk r now start → Chained disk start 0 r now now
+pub chain_begins : {D : Type 0} (disk : Ghosts D) (r : Running) (now : D) (start : State) → IsState disk r now (given_up start) → Chained disk start 0 r now now
 chain_begins {D} disk r now start here = record {
-  mid = start;
+  mid = given_up start;
   here = here;
-  moves = (refl, ap busy_with here.busy);
+  moves = (refl, refl);
   left = omega arith;
   small = small_first start.parts r.seen.catalogue here.parts;
   from = omega (arith, here.next);
@@ -104,9 +104,6 @@ chain_begins {D} disk r now start here = record {
   any_moment = leaves_wider disk (λ x reopens. either x reopens) quiet.any_moment;
 }
   where
-    busy_with : ℕ → State
-    busy_with n = record start { busy = n }
-
     same : Still start start.database
     same = still_itself start here.sound.database
 

@@ -1,5 +1,5 @@
 -- What an event of the tables makes of a running store.
-use Rattle.std.proofs.Common.{◌≡◌, ◌+◌, ◌*◌, ◌≤◌, inl, inr, ℕ, List, [], refl, arith}
+use Rattle.std.proofs.Common.{◌≡◌, ◌+◌, ◌*◌, ◌≤◌, inl, inr, ℕ, List, refl, arith}
 use Rattle.std.specs.Prelude.{Result, Ok, Err, OnOk}
 use Rattle.common_laws.specs.Maps.{Contents}
 use Rattle.col_disk.specs.declared.disk.Disk.{Ghosts}
@@ -12,7 +12,7 @@ use Rattle.store_commit.specs.Seen.{Seen, Stands}
 use Rattle.store_commit.specs.Making.{ReopensToEither, Makes}
 use Rattle.table_store.specs.Drawing.{FewContainers, DrawsOne}
 use Rattle.alike_laws.specs.Reordered.{AreAlikeSessions}
-use Rattle.store_core.specs.Running.{Running, running, IsState}
+use Rattle.store_core.specs.Running.{Running, running, IsState, Mover}
 use Rattle.store_core.specs.Events.{BeforeOrAfter, Does}
 
 -- a state with other numbers of the storage
@@ -27,16 +27,16 @@ pub record Grown (state : State) (is : Seen) (parts : ℕ) : Type 0 where
   pub most : parts ≤ state.parts + 2
 
 -- the sessions and the rest of a state that an event makes
-pub record Beside (made : State) (others : List (List Changes)) (own : ℕ) : Type 0 where
+pub record Beside (made : State) (others : List (List Changes)) (own : ℕ) (mover : Mover) : Type 0 where
   pub sessions : AreAlikeSessions others made.sessions
   pub current : made.current ≡ own
-  pub asked : made.asked ≡ []
-  pub busy : made.busy ≡ 0
+  pub asked : made.asked ≡ mover.asked
+  pub busy : made.busy ≡ mover.busy
   pub sound : (next parts : ℕ) → IsSound (numbered made next parts)
 
-made_state : {D : Type 0} (disk : Ghosts D) (now : D) (is : Seen) (others : List (List Changes)) (current : ℕ) (state made : State) (parts : ℕ) → Stands disk is now made.database → Grown state is parts → Beside made others current
-    → (after : State) × IsDrawn state made after × IsState disk (running is others current) now after
-made_state disk now is others current state made parts stands grown beside = (
+made_state : {D : Type 0} (disk : Ghosts D) (now : D) (is : Seen) (others : List (List Changes)) (current : ℕ) (mover : Mover) (state made : State) (parts : ℕ) → Stands disk is now made.database → Grown state is parts → Beside made others current mover
+    → (after : State) × IsDrawn state made after × IsState disk (running is others current mover) now after
+made_state disk now is others current mover state made parts stands grown beside = (
   numbered made is.catalogue.next parts,
   record { same = refl; drawn = record { from = grown.from; to = grown.upto; parts = grown.most } },
   record {
@@ -51,10 +51,10 @@ made_state disk now is others current state made parts stands grown beside = (
   },
 )
 
-done_of : {D F : Type 0} (disk : Ghosts D) (now : D) (is : Seen) (others : List (List Changes)) (current : ℕ) (result : Result (Unit {0}) F) (state made : State) (parts : ℕ) → OnOk result (Stands disk is now made.database) → OnOk result (Grown state is parts)
-    → Beside made others current → OnOk result ((after : State) × IsDrawn state made after × IsState disk (running is others current) now after)
-done_of disk now is others current (Ok u) state made parts stands grown beside = made_state disk now is others current state made parts stands grown beside
-done_of disk now is others current (Err f) state made parts stands grown beside = tt
+done_of : {D F : Type 0} (disk : Ghosts D) (now : D) (is : Seen) (others : List (List Changes)) (current : ℕ) (mover : Mover) (result : Result (Unit {0}) F) (state made : State) (parts : ℕ) → OnOk result (Stands disk is now made.database) → OnOk result (Grown state is parts)
+    → Beside made others current mover → OnOk result ((after : State) × IsDrawn state made after × IsState disk (running is others current mover) now after)
+done_of disk now is others current mover (Ok u) state made parts stands grown beside = made_state disk now is others current mover state made parts stands grown beside
+done_of disk now is others current mover (Err f) state made parts stands grown beside = tt
 
 -- the state as it was
 pub still : {D : Type 0} (disk : Ghosts D) (r : Running) (old new : D) (state : State) → IsState disk r old state → Stands disk r.seen new state.database → IsState disk r new state
@@ -69,21 +69,21 @@ still disk r old new state here stands = record {
   sound = here.sound;
 }
 
-pub drawn_does : {D F : Type 0} (disk : Ghosts D) (short : F) {old new : D} (was is : Seen) (sessions others : List (List Changes)) (current : ℕ) (result : Result (Unit {0}) F) (state made : State) (parts : ℕ)
-    → IsState disk (running was sessions current) old state → Makes disk short was is old new result state.database made.database → OnOk result (Grown state is parts) → Beside made others current
-    → Does disk short (running was sessions current) (running is others current) old new result state (IsDrawn state made)
-drawn_does disk short {old} {new} was is sessions others current result state made parts here makes grown beside = record {
-  done = done_of disk new is others current result state made parts makes.done grown beside;
-  undone = λ wants. still disk (running was sessions current) old new state here (makes.undone wants);
+pub drawn_does : {D F : Type 0} (disk : Ghosts D) (short : F) {old new : D} (was is : Seen) (sessions others : List (List Changes)) (current : ℕ) (mover after : Mover) (result : Result (Unit {0}) F) (state made : State) (parts : ℕ)
+    → IsState disk (running was sessions current mover) old state → Makes disk short was is old new result state.database made.database → OnOk result (Grown state is parts) → Beside made others current after
+    → Does disk short (running was sessions current mover) (running is others current after) old new result state (IsDrawn state made)
+drawn_does disk short {old} {new} was is sessions others current mover after result state made parts here makes grown beside = record {
+  done = done_of disk new is others current after result state made parts makes.done grown beside;
+  undone = λ wants. still disk (running was sessions current mover) old new state here (makes.undone wants);
   any_moment = leaves_wider disk (λ x reopens. by x reopens) makes.any_moment;
 }
   where
     by : (x : Contents) → ReopensToEither state.database made.database x → BeforeOrAfter state (IsDrawn state made) x
     by x (inl before) = inl before
-    by x (inr after) = inr (
+    by x (inr later) = inr (
       numbered made state.next state.parts,
       record { same = refl; drawn = record { from = omega arith; to = omega arith; parts = omega arith } },
-      after,
+      later,
     )
 
 abbrev fault_of : {R F : Type 0} → F → Result R F

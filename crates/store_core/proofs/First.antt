@@ -27,7 +27,7 @@ use Rattle.store_commit.specs.Seen.{Seen}
 use Rattle.store_commit.specs.Making.{ReopensToEither, Makes}
 use Rattle.table_store.specs.Moving.{IsFreshAt}
 use Rattle.table_store.proofs.Standing.{reads_only}
-use Rattle.store_core.specs.Running.{Running, running, IsState}
+use Rattle.store_core.specs.Running.{Running, running, IsState, Mover}
 use Rattle.store_core.specs.Events.{BeforeOrAfter, Does, MovesFirstOf}
 use Rattle.store_core.proofs.Events.{moved_state}
 
@@ -173,23 +173,23 @@ named_at (u ∷ us) (suc i) t name lt is same = named_at us i t name (omega (ari
 
 -- ---- what the search found, over the store as it is seen
 
-pub tables_at : (tables : List kept.Table) (s : Seen) (sessions : List (List Changes)) (current : ℕ) (now : Running) → s.catalogue.tables ≡ tables → running s sessions current ≡ now → tables ≡ now.seen.catalogue.tables
-tables_at tables s sessions current now same view = sym same ∙ ap (λ (r : Running). r.seen.catalogue.tables) view
+pub tables_at : (tables : List kept.Table) (s : Seen) (sessions : List (List Changes)) (current : ℕ) (mover : Mover) (now : Running) → s.catalogue.tables ≡ tables → running s sessions current mover ≡ now → tables ≡ now.seen.catalogue.tables
+tables_at tables s sessions current mover now same view = sym same ∙ ap (λ (r : Running). r.seen.catalogue.tables) view
 
-pub found_at : (tables : List kept.Table) (last : ℕ) (found : Option Place) (s : Seen) (sessions : List (List Changes)) (current : ℕ) (now : Running) → s.catalogue.tables ≡ tables → last ≡ s.catalogue.last → running s sessions current ≡ now
+pub found_at : (tables : List kept.Table) (last : ℕ) (found : Option Place) (s : Seen) (sessions : List (List Changes)) (current : ℕ) (mover : Mover) (now : Running) → s.catalogue.tables ≡ tables → last ≡ s.catalogue.last → running s sessions current mover ≡ now
     → shape_at tables found ≡ first_in (behind_in last (all_projections tables)) → shape_at now.seen.catalogue.tables found ≡ first_in (behind_in now.seen.catalogue.last (all_projections now.seen.catalogue.tables))
-found_at tables last found s sessions current now same upto view first =
+found_at tables last found s sessions current mover now same upto view first =
     subst (λ (l : ℕ). shape_at now.seen.catalogue.tables found ≡ first_in (behind_in l (all_projections now.seen.catalogue.tables))) (upto ∙ ap (λ (r : Running). r.seen.catalogue.last) view)
-    (subst (λ (ts : List kept.Table). shape_at ts found ≡ first_in (behind_in last (all_projections ts))) (tables_at tables s sessions current now same view) first)
+    (subst (λ (ts : List kept.Table). shape_at ts found ≡ first_in (behind_in last (all_projections ts))) (tables_at tables s sessions current mover now same view) first)
 
-pub there_now : (tables : List kept.Table) (at : Place) (s : Seen) (sessions : List (List Changes)) (current : ℕ) (now : Running) → s.catalogue.tables ≡ tables → running s sessions current ≡ now → is_some (projection_at tables at) ≡ true
+pub there_now : (tables : List kept.Table) (at : Place) (s : Seen) (sessions : List (List Changes)) (current : ℕ) (mover : Mover) (now : Running) → s.catalogue.tables ≡ tables → running s sessions current mover ≡ now → is_some (projection_at tables at) ≡ true
     → (p : Projection) × (projection_at now.seen.catalogue.tables at ≡ Some p)
-there_now tables at s sessions current now same view there =
-    some_is (projection_at now.seen.catalogue.tables at) (subst (λ (ts : List kept.Table). is_some (projection_at ts at) ≡ true) (tables_at tables s sessions current now same view) there)
+there_now tables at s sessions current mover now same view there =
+    some_is (projection_at now.seen.catalogue.tables at) (subst (λ (ts : List kept.Table). is_some (projection_at ts at) ≡ true) (tables_at tables s sessions current mover now same view) there)
 
-pub entries_now : (tables : List kept.Table) (s : Seen) (sessions : List (List Changes)) (current : ℕ) (now : Running) → s.catalogue.tables ≡ tables → running s sessions current ≡ now → map (λ ps. map (λ q. q.entry) ps) s.stores ≡ map (λ t. t.projections) tables
+pub entries_now : (tables : List kept.Table) (s : Seen) (sessions : List (List Changes)) (current : ℕ) (mover : Mover) (now : Running) → s.catalogue.tables ≡ tables → running s sessions current mover ≡ now → map (λ ps. map (λ q. q.entry) ps) s.stores ≡ map (λ t. t.projections) tables
     → map (λ ps. map (λ q. q.entry) ps) now.seen.stores ≡ map (λ t. t.projections) now.seen.catalogue.tables
-entries_now tables s sessions current now same view entries =
+entries_now tables s sessions current mover now same view entries =
     subst (λ (r : Running). map (λ ps. map (λ q. q.entry) ps) r.seen.stores ≡ map (λ t. t.projections) r.seen.catalogue.tables) view (entries ∙ ap (map (λ (t : kept.Table). t.projections)) (sym same))
 
 -- an up-to-date projection was found

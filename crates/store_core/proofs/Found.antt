@@ -14,7 +14,7 @@ use Rattle.catalog_types.specs.Valid.{IsValid}
 use Rattle.mover_policy.specs.declared.first.Place.{Place}
 use Rattle.mover_policy.specs.declared.merging.Merge.{Merge}
 use Rattle.mover_policy.specs.First.{all_projections, projection_at}
-use Rattle.mover_policy.specs.Merging.{has_four, IsBest, IsNext}
+use Rattle.mover_policy.specs.Merging.{IsBest, IsNext}
 use Rattle.stored_rows.specs.Stored.{Projected}
 use Rattle.table_jobs.specs.Jobs.{OfProjection}
 use Rattle.table_jobs.specs.Oldest.{HasFour}
@@ -91,7 +91,7 @@ weaker_and : {X : Type 0} (o : Option X) (P Q : X → Type 0) → ((x : X) → P
 weaker_and None P Q h is = is
 weaker_and (Some x) P Q h is = h x is
 
-of_weaker : (i j : ℕ) (c : Catalogue) (P Q : Projection → Type 0) → ((p : Projection) → P p → Q p) → OfProjection i j c P → OfProjection i j c Q
+pub of_weaker : (i j : ℕ) (c : Catalogue) (P Q : Projection → Type 0) → ((p : Projection) → P p → Q p) → OfProjection i j c P → OfProjection i j c Q
 of_weaker i j c P Q h is =
     weaker_and (slice_get c.tables i) (λ t. IsSomeAnd (slice_get t.projections j) P) (λ t. IsSomeAnd (slice_get t.projections j) Q) (λ t there. weaker_and (slice_get t.projections j) P Q h there) is
 

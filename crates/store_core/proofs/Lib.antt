@@ -25,3 +25,4 @@ pub mod Raising
 pub mod Purging
 pub mod Refreshing
 pub mod Found
+pub mod Stepping

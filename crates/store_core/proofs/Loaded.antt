@@ -17,7 +17,7 @@ use Rattle.store_commit.specs.Making.{ReopensToEither, Makes}
 use Rattle.table_store.specs.Held.{at_epoch}
 use Rattle.table_store.proofs.Standing.{reads_only}
 use Rattle.store_core.specs.Events.{BeforeOrAfter, Does}
-use Rattle.store_core.specs.Running.{Running, running, IsState}
+use Rattle.store_core.specs.Running.{Running, running, IsState, Mover}
 use Rattle.store_core.proofs.Doing.{still}
 use Rattle.store_core.proofs.Sessions.{commit_at, done_so, idle_at, own_at, own_view, pending_stands, put_at, short_of}
 
@@ -26,8 +26,8 @@ abbrev pub filled : List ℕ → List (List Value) → List (List Changes) → �
 filled name rows sessions current = put_at (with_rows name rows (own_at sessions current)) sessions current
 
 -- the current session is one of them
-is_there : {D : Type 0} (disk : Ghosts D) (was : Seen) (sessions : List (List Changes)) (current : ℕ) (now : D) (state : State) → IsState disk (running was sessions current) now state → current - 1 < length sessions
-is_there disk was sessions current now state here =
+is_there : {D : Type 0} (disk : Ghosts D) (was : Seen) (sessions : List (List Changes)) (current : ℕ) (mover : Mover) (now : D) (state : State) → IsState disk (running was sessions current mover) now state → current - 1 < length sessions
+is_there disk was sessions current mover now state here =
     let many = as_many sessions state.sessions here.sessions in
     let eight = here.sound.eight in
     let first = here.sound.first in
@@ -42,51 +42,51 @@ put_twice : (one other : List Changes) (sessions : List (List Changes)) (current
 put_twice one other sessions current = set-set sessions (current - 1) one other
 
 -- what is done with these rows pending is done without them
-unfilled : {D : Type 0} (disk : Ghosts D) {old new : D} (was : Seen) (sessions others : List (List Changes)) (current : ℕ) (is : Running) (result : Result (Unit {0}) StoreFault) (state : State) (name : List ℕ) (rows : List (List Value)) → IsState disk (running was sessions current) old state
-    → Does disk fault.Memory (running was others current) is old new result (rows_pending name rows state) (λ after. after ≡ rows_loaded name rows state)
-    → Does disk fault.Memory (running was sessions current) is old new result state (λ after. after ≡ rows_loaded name rows state)
-unfilled disk {old} {new} was sessions others current is result state name rows here does = record {
+unfilled : {D : Type 0} (disk : Ghosts D) {old new : D} (was : Seen) (sessions others : List (List Changes)) (current : ℕ) (mover : Mover) (is : Running) (result : Result (Unit {0}) StoreFault) (state : State) (name : List ℕ) (rows : List (List Value)) → IsState disk (running was sessions current mover) old state
+    → Does disk fault.Memory (running was others current mover) is old new result (rows_pending name rows state) (λ after. after ≡ rows_loaded name rows state)
+    → Does disk fault.Memory (running was sessions current mover) is old new result state (λ after. after ≡ rows_loaded name rows state)
+unfilled disk {old} {new} was sessions others current mover is result state name rows here does = record {
   done = does.done;
-  undone = λ wants. still disk (running was sessions current) old new state here (does.undone wants).database;
+  undone = λ wants. still disk (running was sessions current mover) old new state here (does.undone wants).database;
   any_moment = does.any_moment;
 }
 
 -- a COPY that closes an epoch
-pub load_at : {D : Type 0} (disk : Ghosts D) {old new : D} (was is : Seen) (sessions others : List (List Changes)) (current : ℕ) (now : Running) (result : Result (Unit {0}) StoreFault) (state : State) (name : List ℕ) (rows : List (List Value)) (changes : List Changes) (n : ℕ)
-    → running was sessions current ≡ now → changes ≡ with_rows name rows (own_at sessions current) → has_changes changes ≡ true → IsState disk now old state
+pub load_at : {D : Type 0} (disk : Ghosts D) {old new : D} (was is : Seen) (sessions others : List (List Changes)) (current : ℕ) (mover : Mover) (now : Running) (result : Result (Unit {0}) StoreFault) (state : State) (name : List ℕ) (rows : List (List Value)) (changes : List Changes) (n : ℕ)
+    → running was sessions current mover ≡ now → changes ≡ with_rows name rows (own_at sessions current) → has_changes changes ≡ true → IsState disk now old state
     → IsSound (rows_pending name rows state) → IsSound (rows_loaded name rows state) → others ≡ put_at [] sessions current
     → ((d : Database) → Stands disk was old d → IsSoundSession d changes → has_changes changes ≡ true → IsSoundDatabase (committed changes d) → Makes disk fault.Memory was is old new result d (committed changes d))
-    → OnOk result (is.catalogue ≡ at_epoch n was.catalogue) → Does disk fault.Memory now (running is others current) old new result state (λ after. after ≡ rows_loaded name rows state)
-load_at {D} disk {old} {new} was is sessions others current now result state name rows changes n view mine has here pending sound left makes catalogue =
-    subst (λ (r : Running). Does disk fault.Memory r (running is others current) old new result state (λ after. after ≡ rows_loaded name rows state)) view
-    (unfilled disk was sessions (filled name rows sessions current) current (running is others current) result state name rows own
-    (commit_at disk was is (filled name rows sessions current) others current (running was (filled name rows sessions current) current) result (rows_pending name rows state) changes n refl
-    (mine ∙ sym (own_filled name rows sessions current there)) has (pending_stands disk (running was sessions current) old state name rows own pending) sound
+    → OnOk result (is.catalogue ≡ at_epoch n was.catalogue) → Does disk fault.Memory now (running is others current mover) old new result state (λ after. after ≡ rows_loaded name rows state)
+load_at {D} disk {old} {new} was is sessions others current mover now result state name rows changes n view mine has here pending sound left makes catalogue =
+    subst (λ (r : Running). Does disk fault.Memory r (running is others current mover) old new result state (λ after. after ≡ rows_loaded name rows state)) view
+    (unfilled disk was sessions (filled name rows sessions current) current mover (running is others current mover) result state name rows own
+    (commit_at disk was is (filled name rows sessions current) others current mover (running was (filled name rows sessions current) current mover) result (rows_pending name rows state) changes n refl
+    (mine ∙ sym (own_filled name rows sessions current there)) has (pending_stands disk (running was sessions current mover) old state name rows own pending) sound
     (left ∙ sym (put_twice (with_rows name rows (own_at sessions current)) [] sessions current)) makes catalogue))
   where
-    own : IsState disk (running was sessions current) old state
-    own = own_view disk old (running was sessions current) now state view here
+    own : IsState disk (running was sessions current mover) old state
+    own = own_view disk old (running was sessions current mover) now state view here
 
     there : current - 1 < length sessions
-    there = is_there disk was sessions current old state own
+    there = is_there disk was sessions current mover old state own
 
 -- a COPY of no rows, where nothing else is pending
-pub load_idle : {D : Type 0} (disk : Ghosts D) (old : D) (was : Seen) (sessions others : List (List Changes)) (current : ℕ) (now : Running) (state : State) (name : List ℕ) (rows : List (List Value)) (changes : List Changes)
-    → running was sessions current ≡ now → changes ≡ with_rows name rows (own_at sessions current) → has_changes changes ≡ false → IsState disk now old state
+pub load_idle : {D : Type 0} (disk : Ghosts D) (old : D) (was : Seen) (sessions others : List (List Changes)) (current : ℕ) (mover : Mover) (now : Running) (state : State) (name : List ℕ) (rows : List (List Value)) (changes : List Changes)
+    → running was sessions current mover ≡ now → changes ≡ with_rows name rows (own_at sessions current) → has_changes changes ≡ false → IsState disk now old state
     → IsSound (rows_pending name rows state) → IsSound (rows_loaded name rows state) → others ≡ put_at [] sessions current
-    → Does disk fault.Memory now (running was others current) old old done_so state (λ after. after ≡ rows_loaded name rows state)
-load_idle {D} disk old was sessions others current now state name rows changes view mine none here pending sound left =
-    subst (λ (r : Running). Does disk fault.Memory r (running was others current) old old done_so state (λ after. after ≡ rows_loaded name rows state)) view
-    (unfilled disk was sessions (filled name rows sessions current) current (running was others current) done_so state name rows own
-    (idle_at disk old was (filled name rows sessions current) others current (running was (filled name rows sessions current) current) (rows_pending name rows state) changes refl
-    (mine ∙ sym (own_filled name rows sessions current there)) none (pending_stands disk (running was sessions current) old state name rows own pending) sound
+    → Does disk fault.Memory now (running was others current mover) old old done_so state (λ after. after ≡ rows_loaded name rows state)
+load_idle {D} disk old was sessions others current mover now state name rows changes view mine none here pending sound left =
+    subst (λ (r : Running). Does disk fault.Memory r (running was others current mover) old old done_so state (λ after. after ≡ rows_loaded name rows state)) view
+    (unfilled disk was sessions (filled name rows sessions current) current mover (running was others current mover) done_so state name rows own
+    (idle_at disk old was (filled name rows sessions current) others current mover (running was (filled name rows sessions current) current mover) (rows_pending name rows state) changes refl
+    (mine ∙ sym (own_filled name rows sessions current there)) none (pending_stands disk (running was sessions current mover) old state name rows own pending) sound
     (left ∙ sym (put_twice (with_rows name rows (own_at sessions current)) [] sessions current))))
   where
-    own : IsState disk (running was sessions current) old state
-    own = own_view disk old (running was sessions current) now state view here
+    own : IsState disk (running was sessions current mover) old state
+    own = own_view disk old (running was sessions current mover) now state view here
 
     there : current - 1 < length sessions
-    there = is_there disk was sessions current old state own
+    there = is_there disk was sessions current mover old state own
 
 -- memory was short before anything was done
 pub load_short : {D : Type 0} (disk : Ghosts D) (old : D) (now : Running) (state : State) (After : State → Type 0) → IsState disk now old state → Does disk fault.Memory now now old old short_of state After

@@ -1,5 +1,5 @@
 -- A store that was opened.
-use Rattle.std.proofs.Common.{◌≡◌, ◌≤◌, ◌<◌, ℕ, List, [], ◌∷◌, length, refl, sym, subst, arith, inl, inr}
+use Rattle.std.proofs.Common.{◌≡◌, ◌≤◌, ℕ, List, [], ◌∷◌, length, refl, sym, ap, subst, arith, inl, inr}
 use Rattle.std.specs.List.{All}
 use Rattle.std.proofs.lemmas.Bool.{cases_lt}
 use Rattle.std.proofs.lemmas.List.Elements.{All-cons, All-head, All-nil, All-tail, All-weaker}
@@ -13,7 +13,7 @@ use Rattle.db_laws.proofs.Sounds.{opened_sound}
 use Rattle.store_commit.specs.Seen.{Seen, Stands}
 use Rattle.alike_laws.specs.Reordered.{AreAlikeSessions}
 use Rattle.alike_laws.proofs.Changes.{sessions_themselves}
-use Rattle.store_core.specs.Running.{running, IsState}
+use Rattle.store_core.specs.Running.{idle_mover, running, IsState, Mover}
 use Rattle.store_opening.specs.Opening.{IsOpenedOf, IsStartOf}
 
 abbrev HasFew : ℕ → Projection → Type 0
@@ -54,16 +54,16 @@ most_in (t ∷ ts) =
       | inr le ↦ (a, All-cons (HasFewEach a) t ts here (each_more n a le ts rest), λ k all. least_here k (All-head (HasFewEach k) t ts all))
     ]
 
-pub opened_is : {D : Type 0} (disk : Ghosts D) (now : D) (s : Seen) (sessions : List (List Changes)) (m : Contents) (d : Database) → sessions ≡ idle_sessions → Stands disk s now d → IsOpenedOf m s.catalogue
-    → (parts : ℕ) × IsStartOf m s.catalogue.next parts × IsState disk (running s sessions 1) now (opened_with s.catalogue.next parts d)
-opened_is disk now s sessions m d idle stands opened =
+pub opened_is : {D : Type 0} (disk : Ghosts D) (now : D) (s : Seen) (sessions : List (List Changes)) (mover : Mover) (m : Contents) (d : Database) → sessions ≡ idle_sessions → mover ≡ idle_mover → Stands disk s now d → IsOpenedOf m s.catalogue
+    → (parts : ℕ) × IsStartOf m s.catalogue.next parts × IsState disk (running s sessions 1 mover) now (opened_with s.catalogue.next parts d)
+opened_is disk now s sessions mover m d idle none stands opened =
     let (parts, few, least) = most_in s.catalogue.tables in (
       parts,
       record {
         fresh = λ fresh.
             let is = opened.fresh fresh in
-            let none : parts ≤ 0 = least 0 (subst (All (HasFewEach 0)) (sym is.1) (All-nil (HasFewEach 0))) in
-            (is.0, omega (arith, none));
+            let bare : parts ≤ 0 = least 0 (subst (All (HasFewEach 0)) (sym is.1) (All-nil (HasFewEach 0))) in
+            (is.0, omega (arith, bare));
         least = λ v c root. (opened.root v c root).least;
         most = λ v c root. (opened.root v c root).most;
         few = λ v c root n all. least n ((opened.root v c root).few n all);
@@ -72,9 +72,9 @@ opened_is disk now s sessions m d idle stands opened =
         database = stands;
         sessions = subst (λ (ss : List (List Changes)). AreAlikeSessions ss idle_sessions) (sym idle) (sessions_themselves idle_sessions);
         current = refl;
-        asked = refl;
+        asked = sym (ap (λ (x : Mover). x.asked) none);
         next = refl;
-        busy = refl;
+        busy = sym (ap (λ (x : Mover). x.busy) none);
         parts = few;
         sound = opened_sound s.catalogue.next parts d stands.sound;
       },

@@ -1,7 +1,7 @@
 -- PURGE_TABLE over a running store.
-use Rattle.std.proofs.Common.{◌≡◌, ◌<◌, ◌≤◌, ◌+◌, ◌*◌, ℕ, zero, suc, Bool, true, false, cond, List, [], ◌∷◌, length, refl, sym, ◌∙◌, ap, subst, arith}
+use Rattle.std.proofs.Common.{◌≡◌, ◌<◌, ◌≤◌, ◌+◌, ℕ, zero, suc, Bool, true, false, cond, List, [], ◌∷◌, refl, sym, ◌∙◌, ap, subst, arith}
 use Rattle.std.specs.Prelude.{◌||◌, nat_le, bytes_eq, find, Option, Some, None, option_map, IsSomeAnd}
-use Rattle.std.specs.List.{All, enumerate_from, list_any, slice_get}
+use Rattle.std.specs.List.{enumerate_from, list_any, slice_get}
 use Rattle.std.specs.Option.{option_map_or}
 use Rattle.std.proofs.lemmas.Slice.Eq.{bytes_eq-Decides}
 use Rattle.common_laws.specs.Maps.{Contents}
@@ -12,7 +12,7 @@ use Rattle.col_disk.specs.declared.disk.StoreFault.TheVariants as fault
 use Rattle.catalog_types.specs.declared.catalogue.Table as kept
 use Rattle.db_model.specs.Database.{table_named, Database, Shape, Table}
 use Rattle.db_model.specs.Views.{table_found}
-use Rattle.db_model.specs.Mover.{reached_to, RaisesOne, RaisesAll}
+use Rattle.db_model.specs.Mover.{given_up, reached_to, RaisesOne, RaisesAll}
 use Rattle.db_model.specs.Sound.{IsSoundDatabase}
 use Rattle.db_model.specs.State.{State}
 use Rattle.folder_model.specs.Tables.{StandForTables}
@@ -43,7 +43,7 @@ pub found_of : (d : Database) (i : ℕ) (u : Table) (name : List ℕ) → IsSoun
 found_of d i u name sound at is =
     subst (λ (n : List ℕ). table_named n d.tables ≡ Some u) is (all_at (λ v. table_named v.name d.tables ≡ Some v) d.tables i u (found_all d.tables (names_differ d sound)) at)
 
-found_also : (name : List ℕ) (k : ℕ) (ts : List Table) → option_map (λ e. e.1) (find (λ e. bytes_eq e.1.name name) (enumerate_from k ts)) ≡ table_named name ts
+pub found_also : (name : List ℕ) (k : ℕ) (ts : List Table) → option_map (λ e. e.1) (find (λ e. bytes_eq e.1.name name) (enumerate_from k ts)) ≡ table_named name ts
 found_also name k [] = refl
 found_also name k (t ∷ ts) = by (bytes_eq t.name name) (found_also name (k + 1) ts)
   where
@@ -52,7 +52,7 @@ found_also name k (t ∷ ts) = by (bytes_eq t.name name) (found_also name (k + 1
     by true rest = refl
     by false rest = rest
 
-shapes_of : (o : Option (ℕ × Table)) (t : Table) → option_map (λ e. e.1) o ≡ Some t → option_map_or (λ e. e.1.shapes) o [] ≡ t.shapes
+pub shapes_of : (o : Option (ℕ × Table)) (t : Table) → option_map (λ e. e.1) o ≡ Some t → option_map_or (λ e. e.1.shapes) o [] ≡ t.shapes
 shapes_of None t is = absurd (cc)
 shapes_of (Some e) t is = let same : e.1 ≡ t = cc in ap (λ (u : Table). u.shapes) same
 
@@ -111,7 +111,7 @@ pub record Purging {D : Type 0} (disk : Ghosts D) (name : List ℕ) (start : Sta
   pub few : FewContainers (start.parts + 1) r.seen.catalogue
   pub later : FewFrom start.parts i place r.seen.catalogue
 
-pub purging_begins : {D : Type 0} (disk : Ghosts D) (r : Running) (now : D) (start : State) (i : ℕ) (name : List ℕ) → IsState disk r now start → IsSomeAnd (slice_get r.seen.catalogue.tables i) (λ t. t.name ≡ name) → Purging disk name start i 0 r now now
+pub purging_begins : {D : Type 0} (disk : Ghosts D) (r : Running) (now : D) (start : State) (i : ℕ) (name : List ℕ) → IsState disk r now (given_up start) → IsSomeAnd (slice_get r.seen.catalogue.tables i) (λ t. t.name ≡ name) → Purging disk name start i 0 r now now
 purging_begins disk r now start i name here named =
     let c = r.seen.catalogue in
     let there = named_there here.database.files c.ahm c.tables r.seen.stores start.database.tables i name here.database.are.tables named in

@@ -1,8 +1,9 @@
 -- Jobs that raise the epochs up to which projections are on disk, over a running store.
-use Rattle.std.proofs.Common.{◌≡◌, ◌≤◌, ◌+◌, ◌*◌, inl, inr, ℕ, zero, suc, Bool, true, false, List, [], ◌∷◌, length, map, refl, sym, ◌∙◌, ap, subst, arith}
-use Rattle.std.specs.Prelude.{nat_le, Contains, Option, Some, None, Result, OnOk, IsSomeAnd}
+use Rattle.std.proofs.Common.{◌≡◌, ◌≤◌, ◌+◌, ◌*◌, inl, inr, ℕ, suc, Bool, true, false, List, length, refl, sym, ◌∙◌, ap, subst, arith}
+use Rattle.std.specs.Prelude.{nat_le, Contains, Some, Result, OnOk, IsSomeAnd}
 use Rattle.std.specs.List.{All, slice_get}
-use Rattle.std.proofs.lemmas.List.Elements.{All-contains_itself}
+use Rattle.std.proofs.lemmas.Bool.{OnTrue_at}
+use Rattle.std.proofs.lemmas.List.Elements.{All-contains_itself, All-weaker}
 use Rattle.std.proofs.lemmas.Result.{on_ok_weaker}
 use Rattle.common_laws.specs.Maps.{Contents}
 use Rattle.col_disk.specs.Faults.{IsUnblamed}
@@ -14,21 +15,23 @@ use Rattle.catalog_types.specs.declared.catalogue.Catalogue.{Catalogue}
 use Rattle.db_model.specs.Database.{Database, Shape, Table}
 use Rattle.db_model.specs.Epochs.{all_shapes, last_good}
 use Rattle.db_model.specs.Mover.{given_up, Rises, RaisesOne, RaisesAll}
-use Rattle.db_model.specs.Numbers.{are_spent, most_drawn, IsDrawn}
-use Rattle.db_model.specs.Sound.{IsSound, IsSoundDatabase}
+use Rattle.db_model.specs.Numbers.{most_drawn, IsDrawn}
+use Rattle.db_model.specs.Sound.{IsSound, IsSoundDatabase, IsSoundShape, IsSoundTable, ReachesMark}
 use Rattle.db_model.specs.State.{State, Changes}
 use Rattle.db_laws.proofs.Goods.{shapes_apart, Reaches}
 use Rattle.mover_policy.specs.First.{all_projections}
 use Rattle.mover_policy.proofs.ByName.{reached_by_name}
-use Rattle.sound_laws.specs.Moves.{reached_at}
+use Rattle.sound_laws.specs.Moves.{moved_at, reached_at}
 use Rattle.state_laws.proofs.Reached.{risen_state}
 use Rattle.store_commit.specs.Seen.{Seen, Stands}
-use Rattle.table_jobs.specs.Jobs.{DrawsAnew, DrawsMerged, IsRiseAt, MakesRise, OfProjection}
+use Rattle.table_jobs.proofs.Holding.{own_shape, IsOwnAt}
+use Rattle.table_jobs.specs.Jobs.{IsRiseAt, MakesRise}
 use Rattle.table_store.specs.Drawing.{FewContainers}
+use Rattle.table_store.specs.Moving.{IsFreshAt}
 use Rattle.store_core.specs.Cuts.{ReopensFrom}
 use Rattle.store_core.specs.Events.{BeforeOrAfter, Does}
-use Rattle.store_core.specs.Jobs.{JobsOf, RisesAt, RaisesAllOf}
-use Rattle.store_core.specs.Running.{Running, running, IsState}
+use Rattle.store_core.specs.Jobs.{RisesAt, RaisesAllOf}
+use Rattle.store_core.specs.Running.{Running, running, IsState, Mover}
 use Rattle.store_core.proofs.Anew.{all_at, some_and, is_some_and, anew_few, anew_steps, few_at, few_more, grown_anew, merged_anew, merged_fewer, most_of, most_parts, parts_of, IsAnew, IsMerged}
 use Rattle.store_core.proofs.Chain.{reopens_still, still_itself, Still}
 use Rattle.store_core.proofs.Doing.{drawn_does}
@@ -66,6 +69,26 @@ risen d epoch i j s sound at may = record {
   same = reached_by_name d epoch i j s sound at;
 }
 
+pub risen_rises : {D : Type 0} (disk : Ghosts D) (r : Running) (now : D) (state : State) (epoch i j : ℕ) → IsState disk r now state → IsRiseAt epoch i j state.database → Rises state.database (reached_at epoch i j state.database)
+risen_rises disk r now state epoch i j here rise =
+    let (s, at, may) = risen_at state.database epoch i j rise in
+    risen state.database epoch i j s here.sound.database at may
+
+-- a projection that is up to date and stands at a place of the store
+pub moved_rises : {D : Type 0} (disk : Ghosts D) (r : Running) (now : D) (state : State) (i j : ℕ) → IsState disk r now state → IsFreshAt r.seen.stores i j → Rises state.database (moved_at i j state.database)
+moved_rises disk r now state i j here fresh =
+    let d = state.database in
+    let (ps, ps_is, inner) = some_and (slice_get r.seen.stores i) (λ qs. IsSomeAnd (slice_get qs j) (λ q. q.entry.fresh ≡ true)) fresh in
+    let (p, p_is, p_fresh) = some_and (slice_get ps j) (λ q. q.entry.fresh ≡ true) inner in
+    let own : IsOwnAt r.seen.stores i j p = is_some_and (slice_get r.seen.stores i) (λ qs. IsSomeAnd (slice_get qs j) (λ q. q ≡ p)) ps ps_is (is_some_and (slice_get ps j) (λ q. q ≡ p) p p_is refl) in
+    let there = own_shape here.database.files r.seen.catalogue r.seen.stores d i j p (λ s. s.fresh ≡ true) own here.database.are p_fresh in
+    let (t, t_is, at_t) = some_and (slice_get d.tables i) (λ u. IsSomeAnd (slice_get u.shapes j) (λ s. s.fresh ≡ true)) there in
+    let (s, s_is, s_fresh) = some_and (slice_get t.shapes j) (λ x. x.fresh ≡ true) at_t in
+    let at : StandsAt d.tables i j s = is_some_and (slice_get d.tables i) (λ u. slice_get u.shapes j ≡ Some s) t t_is s_is in
+    let shapes = All-weaker (IsSoundTable d) (λ u. All (IsSoundShape d) u.shapes) (λ u is. is.shapes) d.tables here.sound.database.tables in
+    let reached : ReachesMark d s = OnTrue_at s_fresh (stands_all (IsSoundShape d) d.tables i j s shapes at) in
+    risen d d.last i j s here.sound.database at (s_fresh, reached.closed, omega arith)
+
 still_risen : (start : State) (d : Database) (epoch i j : ℕ) (s : Shape) → StandsAt d.tables i j s → MayRise epoch d s → IsSoundDatabase (reached_at epoch i j d) → Still start d → Still start (reached_at epoch i j d)
 still_risen start d epoch i j s at may sound still =
     let told : Reaches (last_good start.database) s = stands_all (Reaches (last_good start.database)) d.tables i j s still.good.tables at in
@@ -80,7 +103,7 @@ still_risen start d epoch i j s at may sound still =
 
 -- ---- one of them, as an event of the store
 
-does_wider : {D R F : Type 0} (disk : Ghosts D) (short : F) {old new : D} (was is : Running) (result : Result R F) (state : State) (A B : State → Type 0) → ((s : State) → A s → B s) → Does disk short was is old new result state A → Does disk short was is old new result state B
+pub does_wider : {D R F : Type 0} (disk : Ghosts D) (short : F) {old new : D} (was is : Running) (result : Result R F) (state : State) (A B : State → Type 0) → ((s : State) → A s → B s) → Does disk short was is old new result state A → Does disk short was is old new result state B
 does_wider {D} disk short {old} {new} was is result state A B wider does = record {
   done = on_ok_weaker result (λ made. one made) does.done;
   undone = does.undone;
@@ -97,18 +120,18 @@ does_wider {D} disk short {old} {new} was is result state A B wider does = recor
 abbrev risen_to : ℕ → ℕ → ℕ → State → State
 risen_to epoch i j state = record state { database = reached_at epoch i j state.database }
 
-pub rise_does : {D F : Type 0} (disk : Ghosts D) (short : F) {old new : D} (was is : Seen) (sessions : List (List Changes)) (current : ℕ) (now : Running) (i j more : ℕ) (result : Result (Unit {0}) F) (state : State)
-    → running was sessions current ≡ now → IsState disk now old state → more ≤ 2 → ((d : Database) → Stands disk was old d → MakesRise disk short was is old new result d i j) → OnOk result (IsAnew i j more was.catalogue is.catalogue)
-    → Does disk short now (running is sessions current) old new result state (RisesAt i j state)
-rise_does disk short {old} {new} was is sessions current now i j more result state view here most makes draws =
-    let own = viewed disk old (running was sessions current) now state view here in
+pub rise_does : {D F : Type 0} (disk : Ghosts D) (short : F) {old new : D} (was is : Seen) (sessions : List (List Changes)) (current : ℕ) (mover : Mover) (now : Running) (i j more : ℕ) (result : Result (Unit {0}) F) (state : State)
+    → running was sessions current mover ≡ now → IsState disk now old state → more ≤ 2 → ((d : Database) → Stands disk was old d → MakesRise disk short was is old new result d i j) → OnOk result (IsAnew i j more was.catalogue is.catalogue)
+    → Does disk short now (running is sessions current mover) old new result state (RisesAt i j state)
+rise_does disk short {old} {new} was is sessions current mover now i j more result state view here most makes draws =
+    let own = viewed disk old (running was sessions current mover) now state view here in
     let one = makes state.database own.database in
     let (s, at, may) = risen_at state.database one.epoch i j one.rises in
     let made = risen_to one.epoch i j state in
     let sound : IsSound made = risen_state state made.database (risen state.database one.epoch i j s own.sound.database at may) own.sound in
-    subst (λ (r : Running). Does disk short r (running is sessions current) old new result state (RisesAt i j state)) view
-    (does_wider disk short (running was sessions current) (running is sessions current) result state (IsDrawn state made) (RisesAt i j state) (λ after drawn. record { epoch = one.epoch; rises = one.rises; drawn = drawn })
-    (drawn_does disk short was is sessions sessions current result state made (state.parts + 2) own one.makes
+    subst (λ (r : Running). Does disk short r (running is sessions current mover) old new result state (RisesAt i j state)) view
+    (does_wider disk short (running was sessions current mover) (running is sessions current mover) result state (IsDrawn state made) (RisesAt i j state) (λ after drawn. record { epoch = one.epoch; rises = one.rises; drawn = drawn })
+    (drawn_does disk short was is sessions sessions current mover mover result state made (state.parts + 2) own one.makes
     (grown_anew result i j more state was is most own.next own.parts draws)
     (record { sessions = own.sessions; current = own.current; asked = own.asked; busy = own.busy; sound = renumbered made sound })))
 
@@ -173,7 +196,7 @@ pub record Merging {D : Type 0} (disk : Ghosts D) (start : State) (r : Running) 
   pub few : FewContainers start.parts r.seen.catalogue
   pub fewer : jobs + jobs + parts_of r.seen.catalogue.tables ≤ 16384 * start.parts
 
-pub merging_begins : {D : Type 0} (disk : Ghosts D) (r : Running) (now : D) (start : State) → IsState disk r now start → length (all_projections r.seen.catalogue.tables) ≤ 16384 → Merging disk start r now now
+pub merging_begins : {D : Type 0} (disk : Ghosts D) (r : Running) (now : D) (start : State) → IsState disk r now (given_up start) → length (all_projections r.seen.catalogue.tables) ≤ 16384 → Merging disk start r now now
 merging_begins disk r now start here fit =
     let most = most_parts start.parts (length (all_projections r.seen.catalogue.tables)) (parts_of r.seen.catalogue.tables) (most_of start.parts r.seen.catalogue.tables here.parts) fit in
     record {

@@ -1,6 +1,6 @@
 -- REFRESH over a running store.
-use Rattle.std.proofs.Common.{◌≡◌, ◌<◌, ◌≤◌, ◌+◌, ◌*◌, ℕ, zero, suc, Bool, true, false, cond, List, [], ◌∷◌, length, map, filter, get_or, refl, sym, ◌∙◌, ap, ap₂, subst, arith}
-use Rattle.std.specs.Prelude.{not, nat_le, nat_lt, bytes_eq, Option, Some, None, Result, OnOk, option_map, option_and_then, position, IsSomeAnd}
+use Rattle.std.proofs.Common.{◌≡◌, ◌<◌, ◌≤◌, ◌+◌, ℕ, zero, suc, Bool, true, false, cond, List, [], ◌∷◌, length, map, filter, get_or, refl, sym, ◌∙◌, ap, subst, arith}
+use Rattle.std.specs.Prelude.{not, nat_le, nat_lt, Option, Some, None, Result, OnOk, option_map, option_and_then, position, IsSomeAnd}
 use Rattle.std.specs.List.{All, position_or_len, slice_get}
 use Rattle.std.specs.Option.{option_map_or}
 use Rattle.std.proofs.lemmas.Bool.Decides.{nat_tests}
@@ -16,9 +16,9 @@ use Rattle.catalog_types.specs.declared.catalogue.Projection.{Projection}
 use Rattle.catalog_types.specs.declared.catalogue.Table as kept
 use Rattle.db_model.specs.Database.{table_named, Database, Shape, Table}
 use Rattle.db_model.specs.Epochs.{last_good}
-use Rattle.db_model.specs.Events.{stale_names}
-use Rattle.db_model.specs.Mover.{given_up, reached_to, refreshed, stale_of, with_change, Jobs, RefreshesAll, RefreshesFirst}
-use Rattle.db_model.specs.Numbers.{are_spent, IsDrawn}
+use Rattle.db_model.specs.Events.{is_not_named, stale_names}
+use Rattle.db_model.specs.Mover.{given_up, reached_to, refreshed, stale_of, Jobs, RefreshesAll, RefreshesFirst}
+use Rattle.db_model.specs.Numbers.{IsDrawn}
 use Rattle.db_model.specs.Sound.{IsSound, IsSoundDatabase}
 use Rattle.db_model.specs.State.{State, Changes}
 use Rattle.db_laws.proofs.Goods.{good_itself, good_least, IsGood}
@@ -32,13 +32,14 @@ use Rattle.store_commit.specs.Seen.{Seen, Stands}
 use Rattle.stored_rows.specs.Stored.{Projected}
 use Rattle.table_store.specs.Drawing.{FewContainers}
 use Rattle.store_core.specs.Cuts.{ReopensFrom}
-use Rattle.store_core.specs.Events.{Does, ReopensTo}
+use Rattle.store_core.specs.Events.{Does}
 use Rattle.store_core.specs.Jobs.{stale_place, AreDone, RefreshesAllOf, RefreshesAt, RefreshesOne}
-use Rattle.store_core.specs.Running.{Running, running, IsState}
+use Rattle.store_core.specs.Running.{Running, running, IsState, Mover, mover_of}
 use Rattle.store_core.proofs.Anew.{all_at, anew_few, anew_steps, changed_at, few_more, grown_anew, is_some_and, same_projection, some_and, of_projection, IsAnew}
 use Rattle.table_jobs.specs.Jobs.{OfProjection}
 use Rattle.store_core.proofs.Doing.{drawn_does}
 use Rattle.store_core.proofs.Events.{renumbered, viewed}
+use Rattle.store_core.proofs.Raising.{does_wider}
 use Rattle.store_core.proofs.Placed.{good_reached, StandsAt}
 use Rattle.store_core.proofs.Purging.{found_of, named_there}
 use Rattle.store_core.proofs.Worked.{answered, drawn_with, failed, few_sixteen, spent_same, stopped_at, unit_fault, unit_ok, worked_begins, worked_draws, worked_ends, worked_fails, worked_more, Leaving, Turns, WorkedTo}
@@ -111,7 +112,7 @@ stands_for m mark (t ∷ ts) (ps ∷ pss) (v ∷ us) zero u (here, more) is = le
 stands_for m mark (t ∷ ts) (ps ∷ pss) (v ∷ us) (suc i) u (here, more) is = stands_for m mark ts pss us i u more is
 
 -- a table of a name at a place, and the catalogue's there
-record TableAt (name : List ℕ) (i : ℕ) (c : Catalogue) (d : Database) : Type 0 where
+pub record TableAt (name : List ℕ) (i : ℕ) (c : Catalogue) (d : Database) : Type 0 where
   pub table : Table
   pub at : slice_get d.tables i ≡ Some table
   pub named : table.name ≡ name
@@ -120,7 +121,7 @@ record TableAt (name : List ℕ) (i : ℕ) (c : Catalogue) (d : Database) : Type
   pub own_at : slice_get c.tables i ≡ Some own
   pub shapes : table.shapes ≡ map shape_of own.projections
 
-table_at : {D : Type 0} (disk : Ghosts D) (r : Running) (now : D) (state : State) (name : List ℕ) (i : ℕ) → IsState disk r now state → IsSomeAnd (slice_get state.database.tables i) (λ u. u.name ≡ name) → TableAt name i r.seen.catalogue state.database
+pub table_at : {D : Type 0} (disk : Ghosts D) (r : Running) (now : D) (state : State) (name : List ℕ) (i : ℕ) → IsState disk r now state → IsSomeAnd (slice_get state.database.tables i) (λ u. u.name ≡ name) → TableAt name i r.seen.catalogue state.database
 table_at disk r now state name i here named =
     let d = state.database in
     let c = r.seen.catalogue in
@@ -136,15 +137,13 @@ own_place i c t o at is = ap (option_and_then (λ (u : kept.Table). position (λ
 
 -- ---- one refresh, as an event of the store
 
-abbrev refreshed_to : ℕ → ℕ → State → State
-refreshed_to i j state = record state { database = reached_at state.database.last i j state.database }
-
 -- the projection at a place of a table that stands for one of the database
-stale_shape : {D : Type 0} (disk : Ghosts D) (r : Running) (now : D) (state : State) (i j : ℕ) → IsState disk r now state → OfProjection i j r.seen.catalogue (λ p. p.fresh ≡ false) → (s : Shape) × StandsAt state.database.tables i j s
-stale_shape disk r now state i j here stale =
+pub stale_shape : {D : Type 0} (disk : Ghosts D) (r : Running) (now : D) (state : State) (i j : ℕ) (P : Projection → Type 0) → IsState disk r now state → OfProjection i j r.seen.catalogue P
+    → (s : Shape) × StandsAt state.database.tables i j s × ((p : Projection) × (s ≡ shape_of p) × P p)
+stale_shape disk r now state i j P here stale =
     let c = r.seen.catalogue in
-    let (t, p, at, is) = of_projection i j c (λ q. q.fresh ≡ false) stale in
-    (shape_of p, stand here.database.files c.ahm c.tables r.seen.stores state.database.tables i t p here.database.are.tables at.table at.place)
+    let (t, p, at, is) = of_projection i j c P stale in
+    (shape_of p, stand here.database.files c.ahm c.tables r.seen.stores state.database.tables i t p here.database.are.tables at.table at.place, (p, refl, is))
   where
     mapped : (xs : List Projection) (k : ℕ) (p : Projection) → slice_get xs k ≡ Some p → slice_get (map shape_of xs) k ≡ Some (shape_of p)
     mapped [] k p none = absurd (cc)
@@ -163,26 +162,39 @@ stale_shape disk r now state i j here stale =
         ap (λ (ss : List Shape). slice_get ss j) first.shapes ∙ mapped v.projections j p (ap (λ (x : kept.Table). slice_get x.projections j) same ∙ is)
     stand m mark (v ∷ ts) (ps ∷ pss) (u ∷ us) (suc k) t p (first, more) at is = stand m mark ts pss us k t p more at is
 
--- what is asked for stays where nothing is
-made_same : (i j : ℕ) (state : State) (s : Shape) → IsSoundDatabase state.database → state.asked ≡ [] → StandsAt state.database.tables i j s → refreshed_to i j state ≡ refreshed s.name state
-made_same i j state s sound none at =
-    ap₂ (λ (d : Database) (asked : List (List ℕ)). with_both d asked) (reached_by_name state.database state.database.last i j s sound at) (none ∙ sym (ap (filter (λ n. not (bytes_eq n s.name))) none))
-  where
-    with_both : Database → List (List ℕ) → State
-    with_both d asked = record state { database = d; asked = asked }
+-- one of its name
+database_same : (i j : ℕ) (state : State) (s : Shape) → IsSoundDatabase state.database → StandsAt state.database.tables i j s → reached_at state.database.last i j state.database ≡ (refreshed s.name state).database
+database_same i j state s sound at = reached_by_name state.database state.database.last i j s sound at
 
-pub refresh_does : {D F : Type 0} (disk : Ghosts D) (short : F) {old new : D} (was is : Seen) (sessions : List (List Changes)) (current : ℕ) (now : Running) (i j : ℕ) (result : Result (Unit {0}) F) (state : State)
-    → running was sessions current ≡ now → IsState disk now old state → OfProjection i j now.seen.catalogue (λ p. p.fresh ≡ false) → ((d : Database) → Stands disk was old d → Makes disk short was is old new result d (reached_at d.last i j d))
-    → OnOk result (IsAnew i j 2 was.catalogue is.catalogue) → Does disk short now (running is sessions current) old new result state (RefreshesAt i j state)
-refresh_does disk short {old} {new} was is sessions current now i j result state view here stale makes draws =
-    let own = viewed disk old (running was sessions current) now state view here in
-    let made = refreshed_to i j state in
-    let (s, at) = stale_shape disk now old state i j here stale in
-    let sound : IsSound made = subst IsSound (sym (made_same i j state s here.sound.database here.asked at)) (refreshed_state state s.name here.sound) in
-    subst (λ (r : Running). Does disk short r (running is sessions current) old new result state (RefreshesAt i j state)) view
-    (drawn_does disk short was is sessions sessions current result state made (state.parts + 2) own (makes state.database own.database)
+-- those that wait but for it
+abbrev pub asked_but : List ℕ → Mover → Mover
+asked_but name mover = mover_of (filter (is_not_named name) mover.asked) mover.busy mover.refreshing
+
+pub refresh_does : {D F : Type 0} (disk : Ghosts D) (short : F) {old new : D} (was is : Seen) (sessions : List (List Changes)) (current : ℕ) (mover after : Mover) (now : Running) (i j : ℕ) (result : Result (Unit {0}) F) (state : State)
+    → running was sessions current mover ≡ now → IsState disk now old state → OfProjection i j now.seen.catalogue (λ p. p.fresh ≡ false) → OfProjection i j now.seen.catalogue (λ p. after ≡ asked_but p.name mover)
+    → ((d : Database) → Stands disk was old d → Makes disk short was is old new result d (reached_at d.last i j d))
+    → OnOk result (IsAnew i j 2 was.catalogue is.catalogue) → Does disk short now (running is sessions current after) old new result state (RefreshesAt i j state)
+refresh_does disk short {old} {new} was is sessions current mover after now i j result state view here stale left makes draws =
+    let own = viewed disk old (running was sessions current mover) now state view here in
+    let (s, at, (p, s_of, left_is)) = stale_shape disk now old state i j (λ q. after ≡ asked_but q.name mover) here left in
+    let made = refreshed s.name state in
+    let same : after ≡ asked_but s.name mover = left_is ∙ ap (λ (x : Shape). asked_but x.name mover) (sym s_of) in
+    let sound : IsSound made = refreshed_state state s.name here.sound in
+    let (t, t_is, s_is) = some_and (slice_get state.database.tables i) (λ u. slice_get u.shapes j ≡ Some s) at in
+    subst (λ (r : Running). Does disk short r (running is sessions current after) old new result state (RefreshesAt i j state)) view
+    (does_wider disk short (running was sessions current mover) (running is sessions current after) result state (IsDrawn state made) (RefreshesAt i j state)
+    (λ new_state drawn. is_some_and (slice_get state.database.tables i) (λ u. IsSomeAnd (slice_get u.shapes j) (λ x. IsDrawn state (refreshed x.name state) new_state)) t t_is
+    (is_some_and (slice_get t.shapes j) (λ x. IsDrawn state (refreshed x.name state) new_state) s s_is drawn))
+    (drawn_does disk short was is sessions sessions current mover after result state made (state.parts + 2) own
+    (subst (λ (e : Database). Makes disk short was is old new result state.database e) (database_same i j state s here.sound.database at) (makes state.database own.database))
     (grown_anew result i j 2 state was is (omega arith) own.next own.parts draws)
-    (record { sessions = own.sessions; current = own.current; asked = own.asked; busy = own.busy; sound = renumbered made sound }))
+    (record {
+      sessions = own.sessions;
+      current = own.current;
+      asked = ap (filter (is_not_named s.name)) own.asked ∙ sym (ap (λ (m : Mover). m.asked) same);
+      busy = own.busy ∙ sym (ap (λ (m : Mover). m.busy) same);
+      sound = renumbered made sound;
+    })))
 
 -- ---- one refresh, as a job of the statement
 
@@ -203,12 +215,33 @@ refreshed_leaving : (name : List ℕ) (start : State) (i : ℕ) → Leaving (Ref
 refreshed_leaving name start i jobs mid x done kept reopens =
     (mid, (jobs, done), record { epoch = last_good mid.database; from = good_least (last_good start.database) mid.database kept.good; closed = (good_itself mid.database kept.sound).closed; reopens = reopens })
 
+some_wider : {X : Type 0} (o : Option X) (P Q : X → Type 0) → ((x : X) → P x → Q x) → IsSomeAnd o P → IsSomeAnd o Q
+some_wider None P Q wider there = absurd there
+some_wider (Some x) P Q wider there = wider x there
+
+-- what is so of the projection at a place
+pub drawn_at : (i j : ℕ) (d : Database) (s : Shape) (P : Shape → Type 0) → StandsAt d.tables i j s → IsSomeAnd (slice_get d.tables i) (λ t. IsSomeAnd (slice_get t.shapes j) P) → P s
+drawn_at i j d s P at there =
+    let (t, t_is, s_is) = some_and (slice_get d.tables i) (λ u. slice_get u.shapes j ≡ Some s) at in
+    let (u, u_is, inner) = some_and (slice_get d.tables i) (λ v. IsSomeAnd (slice_get v.shapes j) P) there in
+    let both : Some u ≡ Some t = sym u_is ∙ t_is in
+    let same : u ≡ t = cc in
+    let (x, x_is, holds) = some_and (slice_get u.shapes j) P inner in
+    let two : Some x ≡ Some s = sym x_is ∙ ap (λ (v : Table). slice_get v.shapes j) same ∙ s_is in
+    let one : x ≡ s = cc in
+    subst P one holds
+
 refreshed_turns : {D : Type 0} (disk : Ghosts D) (was : Running) (now : D) (name : List ℕ) (start : State) (jobs i j : ℕ) → stale_place i was.seen.catalogue.tables ≡ Some j → Turns disk was now (RefreshesOne name) (RefreshesAt i j) (KeptRefreshed name start i) jobs
 refreshed_turns disk was now name start jobs i j place = record {
-  wide = λ old new parts most at. drawn_with old (refreshed_to i j old) new parts most at;
+  wide = λ old new parts most at. wider old new parts most at;
   turns = λ old new here kept at. turned old new here kept at;
 }
   where
+    wider : (old new : State) (parts : ℕ) → parts ≤ old.parts + 2 → RefreshesAt i j old new → RefreshesAt i j old (record new { parts = parts })
+    wider old new parts most at =
+        some_wider (slice_get old.database.tables i) (λ t. IsSomeAnd (slice_get t.shapes j) (λ s. IsDrawn old (refreshed s.name old) new)) (λ t. IsSomeAnd (slice_get t.shapes j) (λ s. IsDrawn old (refreshed s.name old) (record new { parts = parts })))
+        (λ t there. some_wider (slice_get t.shapes j) (λ s. IsDrawn old (refreshed s.name old) new) (λ s. IsDrawn old (refreshed s.name old) (record new { parts = parts })) (λ s drawn. drawn_with old (refreshed s.name old) new parts most drawn) there) at
+
     turned : (old new : State) → IsState disk was now old → KeptRefreshed name start i jobs old → RefreshesAt i j old new → RefreshesOne name old new × KeptRefreshed name start i (suc jobs) new
     turned old new here kept at =
         let d = old.database in
@@ -218,10 +251,11 @@ refreshed_turns disk was now name start jobs i j place = record {
         let (p, p_is, names) = first_stale d.last own.own.projections j (own_place i c own.own (Some j) own.own_at place) in
         let shape_is : slice_get own.table.shapes j ≡ Some (shape_of p) = ap (λ (ss : List Shape). slice_get ss j) own.shapes ∙ mapped own.own.projections j p p_is in
         let stands : StandsAt d.tables i j (shape_of p) = is_some_and (slice_get d.tables i) (λ u. slice_get u.shapes j ≡ Some (shape_of p)) own.table own.at shape_is in
-        let made = made_same i j old (shape_of p) here.sound.database here.asked stands in
+        let made = database_same i j old (shape_of p) here.sound.database stands in
+        let drawn : IsDrawn old (refreshed p.name old) new = drawn_at i j d (shape_of p) (λ s. IsDrawn old (refreshed s.name old) new) stands at in
         let stale : stale_of name d ≡ p.name ∷ stale_names (change_at j (reached_to d.last) (map shape_of own.own.projections)) = stale_here name i c d own ∙ names in
-        let job : RefreshesOne name old new = subst (λ (ns : List (List ℕ)). RefreshesFirst ns old new) (sym stale) (subst (λ (m : State). IsDrawn old m new) made at) in
-        let sound : IsSoundDatabase after = subst (λ (m : State). IsSoundDatabase m.database) (sym made) ((refreshed_state old p.name here.sound).database) in
+        let job : RefreshesOne name old new = subst (λ (ns : List (List ℕ)). RefreshesFirst ns old new) (sym stale) drawn in
+        let sound : IsSoundDatabase after = subst IsSoundDatabase (sym made) ((refreshed_state old p.name here.sound).database) in
         let after_at : slice_get after.tables i ≡ Some (reached_in d.last j own.table) = changed_at (reached_in d.last j) d.tables i ∙ ap (option_map (reached_in d.last j)) own.at in
         let found : table_named name after.tables ≡ Some (reached_in d.last j own.table) = found_of after i (reached_in d.last j own.table) name sound after_at own.named in
         let stale_after : stale_of name after ≡ stale_names (change_at j (reached_to d.last) (map shape_of own.own.projections)) =
@@ -229,7 +263,7 @@ refreshed_turns disk was now name start jobs i j place = record {
         let left : length (stale_of name after) + suc jobs ≡ length (stale_of name start.database) =
         one_less (length (stale_of name d)) (length (stale_names (change_at j (reached_to d.last) (map shape_of own.own.projections)))) (length (stale_of name after)) (length (stale_of name start.database)) (ap length stale) (ap length stale_after) kept.left in (
           job,
-          subst (RefreshedTo name start i (suc jobs)) (sym (ap (λ (x : State). x.database) at.same)) (record {
+          subst (RefreshedTo name start i (suc jobs)) (made ∙ sym (ap (λ (x : State). x.database) drawn.same)) (record {
             sound = sound;
             good = good_reached (last_good start.database) d.last d i j kept.good.closed kept.good;
             named = is_some_and (slice_get after.tables i) (λ u. u.name ≡ name) (reached_in d.last j own.table) after_at own.named;
@@ -268,12 +302,12 @@ stale_most ps =
     let some = filtered (λ (s : Shape). not s.fresh) (map shape_of ps) in
     omega (arith, some, length-map (filter (λ (s : Shape). not s.fresh) (map shape_of ps)) (λ s. s.name), length-map ps shape_of)
 
-pub refreshing_begins : {D : Type 0} (disk : Ghosts D) (r : Running) (now : D) (start : State) (i : ℕ) (name : List ℕ) → IsState disk r now start → IsSomeAnd (slice_get r.seen.catalogue.tables i) (λ t. t.name ≡ name) → NoMore r.seen.catalogue
+pub refreshing_begins : {D : Type 0} (disk : Ghosts D) (r : Running) (now : D) (start : State) (i : ℕ) (name : List ℕ) → IsState disk r now (given_up start) → IsSomeAnd (slice_get r.seen.catalogue.tables i) (λ t. t.name ≡ name) → NoMore r.seen.catalogue
     → Refreshing disk name start i 0 r now now
 refreshing_begins disk r now start i name here named fit =
     let c = r.seen.catalogue in
     let there = named_there here.database.files c.ahm c.tables r.seen.stores start.database.tables i name here.database.are.tables named in
-    let own = table_at disk r now start name i here there in
+    let own = table_at disk r now (given_up start) name i here there in
     let few : length own.own.projections ≤ 16 = all_at (λ t. length t.projections ≤ 16) c.tables i own.own fit own.own_at in
     record {
       chain = worked_begins disk (RefreshesOne name) (KeptRefreshed name start i) (LeftRefreshed name start) r now start here

@@ -19,7 +19,7 @@ use Rattle.store_commit.specs.Making.{ReopensToEither, Makes}
 use Rattle.table_store.specs.Held.{at_epoch}
 use Rattle.table_store.specs.Drawing.{FewContainers}
 use Rattle.table_store.proofs.Standing.{reads_only}
-use Rattle.store_core.specs.Running.{Running, running, IsState}
+use Rattle.store_core.specs.Running.{Running, running, IsState, Mover}
 use Rattle.store_core.specs.Sessions.{own_of, with_own, with_pending, with_current}
 use Rattle.store_core.specs.Events.{BeforeOrAfter, Does}
 use Rattle.sound_laws.proofs.Committed.{committed_sound}
@@ -88,10 +88,10 @@ current_stands disk r now state n here sound = record {
 commits : (state : State) (b : Bool) → has_changes (own_changes state) ≡ b → changes_committed state ≡ with_changes [] (cond b (record state { database = committed (own_changes state) state.database }) state)
 commits state b is = ap (λ (x : Bool). with_changes [] (cond x (record state { database = committed (own_changes state) state.database }) state)) is
 
-closed : {D : Type 0} (disk : Ghosts D) (now : D) (was is : Seen) (sessions : List (List Changes)) (current : ℕ) (old : D) (state : State) (n : ℕ) → IsState disk (running was sessions current) old state → is.catalogue ≡ at_epoch n was.catalogue
+closed : {D : Type 0} (disk : Ghosts D) (now : D) (was is : Seen) (sessions : List (List Changes)) (current : ℕ) (mover : Mover) (old : D) (state : State) (n : ℕ) → IsState disk (running was sessions current mover) old state → is.catalogue ≡ at_epoch n was.catalogue
     → Stands disk is now (committed (own_changes state) state.database) → IsSound (with_changes [] (record state { database = committed (own_changes state) state.database }))
-    → IsState disk (running is (put_at [] sessions current) current) now (with_changes [] (record state { database = committed (own_changes state) state.database }))
-closed disk now was is sessions current old state n here catalogue stands sound = record {
+    → IsState disk (running is (put_at [] sessions current) current mover) now (with_changes [] (record state { database = committed (own_changes state) state.database }))
+closed disk now was is sessions current mover old state n here catalogue stands sound = record {
   database = stands;
   sessions = put_alike sessions state.sessions current state.current [] [] here.sessions here.current tt;
   current = here.current;
@@ -103,13 +103,13 @@ closed disk now was is sessions current old state n here catalogue stands sound 
 }
 
 -- one that closes an epoch, done or not
-pub commit_does : {D : Type 0} (disk : Ghosts D) {old new : D} (was is : Seen) (sessions : List (List Changes)) (current : ℕ) (result : Result (Unit {0}) StoreFault) (state : State) (n : ℕ)
-    → IsState disk (running was sessions current) old state → has_changes (own_changes state) ≡ true
+pub commit_does : {D : Type 0} (disk : Ghosts D) {old new : D} (was is : Seen) (sessions : List (List Changes)) (current : ℕ) (mover : Mover) (result : Result (Unit {0}) StoreFault) (state : State) (n : ℕ)
+    → IsState disk (running was sessions current mover) old state → has_changes (own_changes state) ≡ true
     → Makes disk fault.Memory was is old new result state.database (committed (own_changes state) state.database) → OnOk result (is.catalogue ≡ at_epoch n was.catalogue) → IsSound (changes_committed state)
-    → Does disk fault.Memory (running was sessions current) (running is (put_at [] sessions current) current) old new result state (λ after. after ≡ changes_committed state)
-commit_does {D} disk {old} {new} was is sessions current result state n here has makes catalogue sound = record {
+    → Does disk fault.Memory (running was sessions current mover) (running is (put_at [] sessions current) current mover) old new result state (λ after. after ≡ changes_committed state)
+commit_does {D} disk {old} {new} was is sessions current mover result state n here has makes catalogue sound = record {
   done = by result makes.done catalogue;
-  undone = λ wants. still disk (running was sessions current) old new state here (makes.undone wants);
+  undone = λ wants. still disk (running was sessions current mover) old new state here (makes.undone wants);
   any_moment = leaves_wider disk (λ x reopens. either x reopens) makes.any_moment;
 }
   where
@@ -120,8 +120,8 @@ commit_does {D} disk {old} {new} was is sessions current result state n here has
     is_whole = commits state true has
 
     by : (r : Result (Unit {0}) StoreFault) → OnOk r (Stands disk is new (committed (own_changes state) state.database)) → OnOk r (is.catalogue ≡ at_epoch n was.catalogue)
-        → OnOk r ((after : State) × (after ≡ changes_committed state) × IsState disk (running is (put_at [] sessions current) current) new after)
-    by (Ok u) stands same = (whole, sym is_whole, closed disk new was is sessions current old state n here same stands (subst IsSound is_whole sound))
+        → OnOk r ((after : State) × (after ≡ changes_committed state) × IsState disk (running is (put_at [] sessions current) current mover) new after)
+    by (Ok u) stands same = (whole, sym is_whole, closed disk new was is sessions current mover old state n here same stands (subst IsSound is_whole sound))
     by (Err f) stands same = tt
 
     either : (x : Contents) → ReopensToEither state.database (committed (own_changes state) state.database) x → BeforeOrAfter state (λ after. after ≡ changes_committed state) x
@@ -135,11 +135,11 @@ abbrev pub short_of : Result (Unit {0}) StoreFault
 short_of = Err fault.Memory
 
 -- one that closes none
-pub idle_does : {D : Type 0} (disk : Ghosts D) (now : D) (was : Seen) (sessions : List (List Changes)) (current : ℕ) (state : State)
-    → IsState disk (running was sessions current) now state → has_changes (own_changes state) ≡ false → IsSound (changes_committed state)
-    → Does disk fault.Memory (running was sessions current) (running was (put_at [] sessions current) current) now now done_so state (λ after. after ≡ changes_committed state)
-idle_does {D} disk now was sessions current state here none sound = record {
-  done = (with_changes [] state, sym same, changed disk (running was sessions current) now state [] [] tt here (subst IsSound same sound));
+pub idle_does : {D : Type 0} (disk : Ghosts D) (now : D) (was : Seen) (sessions : List (List Changes)) (current : ℕ) (mover : Mover) (state : State)
+    → IsState disk (running was sessions current mover) now state → has_changes (own_changes state) ≡ false → IsSound (changes_committed state)
+    → Does disk fault.Memory (running was sessions current mover) (running was (put_at [] sessions current) current mover) now now done_so state (λ after. after ≡ changes_committed state)
+idle_does {D} disk now was sessions current mover state here none sound = record {
+  done = (with_changes [] state, sym same, changed disk (running was sessions current mover) now state [] [] tt here (subst IsSound same sound));
   undone = λ wants. absurd (cc);
   any_moment = leaves_wider disk (λ x reopens. either x reopens) quiet.any_moment;
 }
@@ -159,20 +159,20 @@ idle_does {D} disk now was sessions current state here none sound = record {
 pub own_view : {D : Type 0} (disk : Ghosts D) (old : D) (r now : Running) (state : State) → r ≡ now → IsState disk now old state → IsState disk r old state
 own_view disk old r now state view here = subst (λ (x : Running). IsState disk x old state) (sym view) here
 
-pub commit_at : {D : Type 0} (disk : Ghosts D) {old new : D} (was is : Seen) (sessions others : List (List Changes)) (current : ℕ) (now : Running) (result : Result (Unit {0}) StoreFault) (state : State) (changes : List Changes) (n : ℕ)
-    → running was sessions current ≡ now → changes ≡ own_at sessions current → has_changes changes ≡ true → IsState disk now old state → IsSound (changes_committed state) → others ≡ put_at [] sessions current
+pub commit_at : {D : Type 0} (disk : Ghosts D) {old new : D} (was is : Seen) (sessions others : List (List Changes)) (current : ℕ) (mover : Mover) (now : Running) (result : Result (Unit {0}) StoreFault) (state : State) (changes : List Changes) (n : ℕ)
+    → running was sessions current mover ≡ now → changes ≡ own_at sessions current → has_changes changes ≡ true → IsState disk now old state → IsSound (changes_committed state) → others ≡ put_at [] sessions current
     → ((d : Database) → Stands disk was old d → IsSoundSession d changes → has_changes changes ≡ true → IsSoundDatabase (committed changes d) → Makes disk fault.Memory was is old new result d (committed changes d))
-    → OnOk result (is.catalogue ≡ at_epoch n was.catalogue) → Does disk fault.Memory now (running is others current) old new result state (λ after. after ≡ changes_committed state)
-commit_at {D} disk {old} {new} was is sessions others current now result state changes n view mine has here sound left makes catalogue =
-    subst (λ (r : Running). Does disk fault.Memory r (running is others current) old new result state (λ after. after ≡ changes_committed state)) view
-    (subst (λ (ss : List (List Changes)). Does disk fault.Memory (running was sessions current) (running is ss current) old new result state (λ after. after ≡ changes_committed state)) (sym left)
-    (commit_does disk was is sessions current result state n own (sym (has_alike changes (own_changes state) alike) ∙ has) made catalogue sound))
+    → OnOk result (is.catalogue ≡ at_epoch n was.catalogue) → Does disk fault.Memory now (running is others current mover) old new result state (λ after. after ≡ changes_committed state)
+commit_at {D} disk {old} {new} was is sessions others current mover now result state changes n view mine has here sound left makes catalogue =
+    subst (λ (r : Running). Does disk fault.Memory r (running is others current mover) old new result state (λ after. after ≡ changes_committed state)) view
+    (subst (λ (ss : List (List Changes)). Does disk fault.Memory (running was sessions current mover) (running is ss current mover) old new result state (λ after. after ≡ changes_committed state)) (sym left)
+    (commit_does disk was is sessions current mover result state n own (sym (has_alike changes (own_changes state) alike) ∙ has) made catalogue sound))
   where
-    own : IsState disk (running was sessions current) old state
-    own = own_view disk old (running was sessions current) now state view here
+    own : IsState disk (running was sessions current mover) old state
+    own = own_view disk old (running was sessions current mover) now state view here
 
     alike : Alike changes (own_changes state)
-    alike = subst (λ (cs : List Changes). Alike cs (own_changes state)) (sym mine) (own_alike disk (running was sessions current) old state own)
+    alike = subst (λ (cs : List Changes). Alike cs (own_changes state)) (sym mine) (own_alike disk (running was sessions current mover) old state own)
 
     session : IsSoundSession state.database (own_changes state)
     session = own_is_sound state own.sound
@@ -186,11 +186,11 @@ commit_at {D} disk {old} {new} was is sessions others current now result state c
         (committed_sound state.database (own_changes state) own.sound.database session)
         (makes state.database own.database its has (committed_sound state.database changes own.sound.database its))
 
-pub idle_at : {D : Type 0} (disk : Ghosts D) (old : D) (was : Seen) (sessions others : List (List Changes)) (current : ℕ) (now : Running) (state : State) (changes : List Changes) → running was sessions current ≡ now → changes ≡ own_at sessions current → has_changes changes ≡ false
-    → IsState disk now old state → IsSound (changes_committed state) → others ≡ put_at [] sessions current → Does disk fault.Memory now (running was others current) old old done_so state (λ after. after ≡ changes_committed state)
-idle_at disk old was sessions others current now state changes view mine none here sound left =
-    let own = own_view disk old (running was sessions current) now state view here in
-    let alike : Alike changes (own_changes state) = subst (λ (cs : List Changes). Alike cs (own_changes state)) (sym mine) (own_alike disk (running was sessions current) old state own) in
-    subst (λ (r : Running). Does disk fault.Memory r (running was others current) old old done_so state (λ after. after ≡ changes_committed state)) view
-    (subst (λ (ss : List (List Changes)). Does disk fault.Memory (running was sessions current) (running was ss current) old old done_so state (λ after. after ≡ changes_committed state)) (sym left)
-    (idle_does disk old was sessions current state own (sym (has_alike changes (own_changes state) alike) ∙ none) sound))
+pub idle_at : {D : Type 0} (disk : Ghosts D) (old : D) (was : Seen) (sessions others : List (List Changes)) (current : ℕ) (mover : Mover) (now : Running) (state : State) (changes : List Changes) → running was sessions current mover ≡ now → changes ≡ own_at sessions current → has_changes changes ≡ false
+    → IsState disk now old state → IsSound (changes_committed state) → others ≡ put_at [] sessions current → Does disk fault.Memory now (running was others current mover) old old done_so state (λ after. after ≡ changes_committed state)
+idle_at disk old was sessions others current mover now state changes view mine none here sound left =
+    let own = own_view disk old (running was sessions current mover) now state view here in
+    let alike : Alike changes (own_changes state) = subst (λ (cs : List Changes). Alike cs (own_changes state)) (sym mine) (own_alike disk (running was sessions current mover) old state own) in
+    subst (λ (r : Running). Does disk fault.Memory r (running was others current mover) old old done_so state (λ after. after ≡ changes_committed state)) view
+    (subst (λ (ss : List (List Changes)). Does disk fault.Memory (running was sessions current mover) (running was ss current mover) old old done_so state (λ after. after ≡ changes_committed state)) (sym left)
+    (idle_does disk old was sessions current mover state own (sym (has_alike changes (own_changes state) alike) ∙ none) sound))

@@ -41,7 +41,7 @@ use Rattle.table_store.specs.declared.shaping.NewProjection.{NewProjection}
 use Rattle.table_store.specs.Drawing.{DrawsOne}
 use Rattle.table_store.specs.Held.{at_epoch}
 use Rattle.table_store.specs.Shaping.{RetainsNone, new_shape, shaped_at, shaped_in}
-use Rattle.store_core.specs.Running.{Running, running, IsState}
+use Rattle.store_core.specs.Running.{Running, running, IsState, Mover}
 use Rattle.store_core.specs.Events.{BeforeOrAfter, Does}
 use Rattle.store_core.specs.Shaping.{is_fresh, part_of}
 use Rattle.store_core.proofs.Doing.{drawn_does}
@@ -224,19 +224,19 @@ shapes_are disk old was state table p q shape stands decides named columns sort 
 abbrev with_tables_of : Database → List Table → Database
 with_tables_of d ts = record d { tables = ts }
 
-pub shape_does : {D F : Type 0} (disk : Ghosts D) (short : F) {old new : D} (was is : Seen) (sessions : List (List Changes)) (current : ℕ) (now : Running) (table : ℕ) (p : asked.NewProjection) (q : NewProjection) (shape : ProjectionShape) (result : Result (Unit {0}) F) (state : State)
-    → running was sessions current ≡ now → IsState disk now old state → IsSound (projection_created p state) → Decides was was.catalogue.ahm table q.fresh → p.name ≡ q.name → q.columns ≡ map part_of shape.columns → q.sort ≡ shape.sort
+pub shape_does : {D F : Type 0} (disk : Ghosts D) (short : F) {old new : D} (was is : Seen) (sessions : List (List Changes)) (current : ℕ) (mover : Mover) (now : Running) (table : ℕ) (p : asked.NewProjection) (q : NewProjection) (shape : ProjectionShape) (result : Result (Unit {0}) F) (state : State)
+    → running was sessions current mover ≡ now → IsState disk now old state → IsSound (projection_created p state) → Decides was was.catalogue.ahm table q.fresh → p.name ≡ q.name → q.columns ≡ map part_of shape.columns → q.sort ≡ shape.sort
     → IsProjectionOf state p table shape
     → ((d : Database) → Stands disk was old d → (q.fresh ≡ true → RetainsNone table d) → IsSoundDatabase (shaped_at table (new_shape q was.catalogue.last) d) → Makes disk short was is old new result d (shaped_at table (new_shape q was.catalogue.last) d))
     → OnOk result (DrawsOne was.catalogue is.catalogue)
-    → Does disk short now (running is sessions current) old new result state (IsDrawn state (projection_created p state))
-shape_does disk short {old} {new} was is sessions current now table p q shape result state view here sound decides named columns sort of makes draws =
-    let own = viewed disk old (running was sessions current) now state view here in
+    → Does disk short now (running is sessions current mover) old new result state (IsDrawn state (projection_created p state))
+shape_does disk short {old} {new} was is sessions current mover now table p q shape result state view here sound decides named columns sort of makes draws =
+    let own = viewed disk old (running was sessions current mover) now state view here in
     let d = state.database in
     let shapes = shapes_are disk old was state table p q shape own.database decides named columns sort of in
     let made : (projection_created p state).database ≡ shaped_at table (new_shape q was.catalogue.last) d = ap (with_tables_of d) shapes.same in
-    subst (λ (r : Running). Does disk short r (running is sessions current) old new result state (IsDrawn state (projection_created p state))) view
-    (drawn_does disk short was is sessions sessions current result state (projection_created p state) state.parts own
+    subst (λ (r : Running). Does disk short r (running is sessions current mover) old new result state (IsDrawn state (projection_created p state))) view
+    (drawn_does disk short was is sessions sessions current mover mover result state (projection_created p state) state.parts own
     (subst (λ (e : Database). Makes disk short was is old new result d e) (sym made) (makes d own.database shapes.none (subst IsSoundDatabase made sound.database)))
     (grown_by_one result state was is own.next own.parts draws)
     (record { sessions = own.sessions; current = own.current; asked = own.asked; busy = own.busy; sound = renumbered (projection_created p state) sound }))
@@ -285,9 +285,9 @@ decides_by was root ts table parts seen fresh roots stores lt at same is =
     (subst (λ (ps : List Loaded). (m : Contents) (rows : List Stamped) → All (HasRows m root.ahm rows) (stored_of ps) → list_any is_fresh (stored_of ps) ≡ true → fresh ≡ is_empty_list (retained root.ahm rows)) same is))
 
 -- there are as many stores as tables
-pub table_there : (was : Seen) (root : Catalogue) (ts : List (List Loaded)) (sessions : List (List Changes)) (current : ℕ) (now : Running) (table : ℕ) → running was sessions current ≡ now → was.catalogue ≡ at_epoch was.catalogue.last root
+pub table_there : (was : Seen) (root : Catalogue) (ts : List (List Loaded)) (sessions : List (List Changes)) (current : ℕ) (mover : Mover) (now : Running) (table : ℕ) → running was sessions current mover ≡ now → was.catalogue ≡ at_epoch was.catalogue.last root
     → map (λ ps. map (λ p. p.entry) ps) was.stores ≡ map (λ t. t.projections) root.tables → map stored_of ts ≡ was.stores → table < length now.seen.catalogue.tables → table < length ts
-table_there was root ts sessions current now table view roots entries stores lt =
+table_there was root ts sessions current mover now table view roots entries stores lt =
     let here : table < length was.catalogue.tables = subst (λ (r : Running). table < length r.seen.catalogue.tables) (sym view) lt in
     let tables : length was.catalogue.tables ≡ length root.tables = ap (λ (c : Catalogue). length c.tables) roots in
     let all : length was.stores ≡ length root.tables = sym (length_map (λ (ps : List Projected). map (λ p. p.entry) ps) was.stores) ∙ ap (λ (xs : List (List Projection)). length xs) entries ∙ length_map (λ (t : kept.Table). t.projections) root.tables in

@@ -1,5 +1,5 @@
 -- Jobs of a statement one after the other, over a running store.
-use Rattle.std.proofs.Common.{◌≡◌, ◌<◌, ◌≤◌, ◌+◌, ◌*◌, inl, inr, ℕ, zero, suc, Bool, true, false, List, [], refl, sym, ◌∙◌, ap, subst, arith}
+use Rattle.std.proofs.Common.{◌≡◌, ◌<◌, ◌≤◌, ◌+◌, ◌*◌, inl, inr, ℕ, zero, suc, Bool, true, false, refl, sym, ◌∙◌, ap, subst, arith}
 use Rattle.std.specs.Prelude.{nat_le, Result, Ok, Err, IsErrOf}
 use Rattle.std.proofs.Math.Nat.{le-mul_of_pos_right}
 use Rattle.common_laws.specs.Maps.{Contents}
@@ -17,7 +17,7 @@ use Rattle.store_commit.specs.Making.{ReopensToEither, Makes}
 use Rattle.table_store.specs.Drawing.{FewContainers}
 use Rattle.table_store.proofs.Standing.{reads_only}
 use Rattle.store_core.specs.Events.{BeforeOrAfter, Does, ReopensTo}
-use Rattle.store_core.specs.Jobs.{AreDone, JobsOf}
+use Rattle.store_core.specs.Jobs.{JobsOf}
 use Rattle.store_core.specs.Running.{Running, IsState}
 use Rattle.store_core.proofs.Events.{renumbered}
 
@@ -86,10 +86,10 @@ failed f = Err f
 abbrev pub answered : Bool → Result Bool StoreFault
 answered b = Ok b
 
-pub worked_begins : {D : Type 0} (disk : Ghosts D) (Job : State → State → Type 0) (Kept : ℕ → State → Type 0) (Leave : Contents → Type 0) (r : Running) (now : D) (start : State) → IsState disk r now start → Kept 0 start → Leaving Job Kept Leave start
+pub worked_begins : {D : Type 0} (disk : Ghosts D) (Job : State → State → Type 0) (Kept : ℕ → State → Type 0) (Leave : Contents → Type 0) (r : Running) (now : D) (start : State) → IsState disk r now (given_up start) → Kept 0 (given_up start) → Leaving Job Kept Leave start
     → WorkedTo disk Job Kept Leave start 0 r now now
 worked_begins {D} disk Job Kept Leave r now start here kept leaving = record {
-  mid = start;
+  mid = given_up start;
   here = here;
   done = none;
   kept = kept;
@@ -97,19 +97,16 @@ worked_begins {D} disk Job Kept Leave r now start here kept leaving = record {
   upto = omega (arith, here.next);
   least = omega arith;
   most = omega arith;
-  any_moment = leaves_wider disk (λ x reopens. leaving 0 start x none kept (either x reopens)) quiet.any_moment;
+  any_moment = leaves_wider disk (λ x reopens. leaving 0 (given_up start) x none kept (either x reopens)) quiet.any_moment;
 }
   where
-    busy_with : ℕ → State
-    busy_with n = record start { busy = n }
-
-    none : Jobs Job 0 (given_up start) false start
-    none = (refl, ap busy_with here.busy)
+    none : Jobs Job 0 (given_up start) false (given_up start)
+    none = (refl, refl)
 
     quiet : Makes disk fault.Memory r.seen r.seen now now short_of start.database start.database
     quiet = reads_only disk r.seen r.seen fault.Memory start.database start.database here.database (moved_none disk now)
 
-    either : (x : Contents) → ReopensToEither start.database start.database x → ReopensTo start x
+    either : (x : Contents) → ReopensToEither start.database start.database x → ReopensTo (given_up start) x
     either x (inl before) = before
     either x (inr before) = before
 

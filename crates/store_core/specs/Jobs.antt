@@ -1,5 +1,5 @@
 -- The jobs of MERGEOUT, PURGE_TABLE and REFRESH, one after the other over a running store.
-use Rattle.std.specs.Prelude.{ℕ, ◌≡◌, not, Bool, true, false, List, length, Option, Result, IfOk, IfErr, IsErrOf, IsSomeAnd, option_and_then, position}
+use Rattle.std.specs.Prelude.{ℕ, not, Bool, false, List, Option, Result, IfOk, IfErr, IsErrOf, IsSomeAnd, option_and_then, position}
 use Rattle.std.specs.List.{slice_get}
 use Rattle.common_laws.specs.Maps.{Contents}
 use Rattle.col_disk.specs.Faults.{IsUnblamed}
@@ -7,12 +7,11 @@ use Rattle.col_disk.specs.Moved.{Leaves}
 use Rattle.col_disk.specs.declared.disk.Disk.{Ghosts}
 use Rattle.col_disk.specs.declared.disk.StoreFault.{StoreFault}
 use Rattle.col_disk.specs.declared.disk.StoreFault.TheVariants.{Memory}
-use Rattle.catalog_types.specs.declared.catalogue.Projection.{Projection}
 use Rattle.catalog_types.specs.declared.catalogue.Table as kept
 use Rattle.db_model.specs.Database.{Shape}
 use Rattle.db_model.specs.Epochs.{last_good}
 use Rattle.db_model.specs.Events.{is_of_table}
-use Rattle.db_model.specs.Mover.{given_up, stale_of, Jobs, RaisesOne, RaisesAll, RefreshesFirst, RefreshesAll}
+use Rattle.db_model.specs.Mover.{given_up, refreshed, stale_of, Jobs, RaisesOne, RaisesAll, RefreshesFirst, RefreshesAll}
 use Rattle.db_model.specs.Numbers.{IsDrawn}
 use Rattle.db_model.specs.State.{State}
 use Rattle.sound_laws.specs.Moves.{reached_at}
@@ -26,9 +25,9 @@ pub record RisesAt (i j : ℕ) (old new : State) : Type 0 where
   pub rises : IsRiseAt epoch i j old.database
   pub drawn : IsDrawn old (record old { database = reached_at epoch i j old.database }) new
 
--- the projection at a place of the table at a place is up to date then, and all its data is on disk
+-- the projection at a place of the table at a place is up to date then, and all its data is on disk; it waits for the mover no more
 abbrev pub RefreshesAt : ℕ → ℕ → State → State → Type 0
-RefreshesAt i j old new = IsDrawn old (record old { database = reached_at old.database.last i j old.database }) new
+RefreshesAt i j old new = IsSomeAnd (slice_get old.database.tables i) (λ t. IsSomeAnd (slice_get t.shapes j) (λ s. IsDrawn old (refreshed s.name old) new))
 
 -- the first projection of a table that isn't up to date is refreshed
 abbrev pub RefreshesOne : List ℕ → State → State → Type 0

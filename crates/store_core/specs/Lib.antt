@@ -6,6 +6,8 @@ pub mod Cuts
 pub mod Moving
 pub mod Shaping
 pub mod Jobs
+pub mod Waiting
+pub mod Stepping
 pub use Rattle.row_matching.specs.Matching
 pub use Rattle.store_commit.specs.Seen
 pub use Rattle.store_opening.specs.Opening

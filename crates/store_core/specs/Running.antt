@@ -1,5 +1,5 @@
 -- A running store: its tables over a disk, and what its sessions have changed and not committed.
-use Rattle.std.specs.Prelude.{ℕ, ◌≡◌, List, []}
+use Rattle.std.specs.Prelude.{ℕ, ◌≡◌, List, [], Option, None}
 use Rattle.col_disk.specs.declared.disk.Disk.{Ghosts}
 use Rattle.db_model.specs.State.{State, Changes}
 use Rattle.db_model.specs.Sound.{IsSound}
@@ -8,23 +8,41 @@ use Rattle.statement_plan.specs.Bare.{bare_state}
 use Rattle.store_commit.specs.Seen.{Seen, Stands}
 use Rattle.table_store.specs.Drawing.{FewContainers}
 
+-- The names of the projections that wait for the mover, how many steps are left of its job in flight, and which projection that job
+-- refreshes; where it refreshes none, it merges.
+pub record Mover : Type 0 where
+  pub asked : List (List ℕ)
+  pub busy : ℕ
+  pub refreshing : Option (List ℕ)
+
+abbrev pub mover_of : List (List ℕ) → ℕ → Option (List ℕ) → Mover
+mover_of asked busy refreshing = record { asked = asked; busy = busy; refreshing = refreshing }
+
+-- no projection waits, and no job is in flight
+abbrev pub idle_mover : Mover
+idle_mover = mover_of [] 0 None
+
+-- without its job
+abbrev pub job_dropped : Mover → Mover
+job_dropped mover = mover_of mover.asked 0 None
+
 pub record Running : Type 0 where
   pub seen : Seen
   pub sessions : List (List Changes)
   pub current : ℕ
+  pub mover : Mover
 
-abbrev pub running : Seen → List (List Changes) → ℕ → Running
-running seen sessions current = record { seen = seen; sessions = sessions; current = current }
+abbrev pub running : Seen → List (List Changes) → ℕ → Mover → Running
+running seen sessions current mover = record { seen = seen; sessions = sessions; current = current; mover = mover }
 
--- A running store over a disk is this state, where what the sessions have changed is known up to the order of rows. No projection waits for
--- the mover, and no job of the mover is in flight.
+-- A running store over a disk is this state, where what the sessions have changed is known up to the order of rows.
 pub record IsState {D : Type 0} (disk : Ghosts D) (r : Running) (now : D) (state : State) : Type 0 where
   pub database : Stands disk r.seen now state.database
   pub sessions : AreAlikeSessions r.sessions state.sessions
   pub current : state.current ≡ r.current
-  pub asked : state.asked ≡ []
+  pub asked : state.asked ≡ r.mover.asked
   pub next : state.next ≡ r.seen.catalogue.next
-  pub busy : state.busy ≡ 0
+  pub busy : state.busy ≡ r.mover.busy
   pub parts : FewContainers state.parts r.seen.catalogue
   pub sound : IsSound state
 

@@ -10,7 +10,7 @@ ghost use Rattle.sql_bound.specs.declared.expr.Expr.{Expr};
 ghost use Rattle.sql_bound.specs.Outputs.{is_kept};
 ghost use Rattle.row_matching.specs.Matching.{committed_matches};
 ghost use Rattle.db_model.specs.State.{State, own_changes, pending_rows};
-ghost use Rattle.db_model.specs.Events.{changes_dropped, rows_marked, rows_pending};
+ghost use Rattle.db_model.specs.Events.{changes_dropped, refresh_started, rows_marked, rows_pending};
 ghost use Rattle.db_model.specs.Refusals.{load_refusal, locked};
 ghost use Rattle.db_model.specs.Sound.{IsSound, IsSoundDatabase, RowFits};
 ghost use Rattle.sql_tree.specs.declared.statement.Statement.{Statement};
@@ -24,10 +24,13 @@ ghost use Rattle.db_model.specs.Epochs.{last_good};
 ghost use Rattle.db_model.specs.Loading.{Load};
 ghost use Rattle.db_model.specs.Mover.{MovesAll};
 ghost use Rattle.db_model.specs.Run.{all_dropped};
+ghost use Rattle.store_core.specs.Stepping.{all_stale, with_asked};
 ghost use Rattle.store_core.specs.Sessions.{own_of, with_current, with_marked, with_none, with_own, with_pending};
 
 use col_disk::Disk;
-use state_laws::{changes_may_be_dropped, pending_rows_are_sound, sessions_may_change};
+use state_laws::{
+    changes_may_be_dropped, pending_rows_are_sound, refreshed_states_are_sound, sessions_may_change,
+};
 use statement_plan::{catalogues_give_frames, rows_decide_nothing_here};
 
 /// Where rows that fit become pending in a table that no other session holds in mode X, the store is the state with these rows pending.
@@ -91,3 +94,10 @@ pub fn planned_projections_have_places()
     ensures drop { (r : Running) (name : List ℕ) (table place : ℕ) → IsPlanned (frame_of r) (Statement.DropProjection name) (Plan.DropProjection table place)
         → IsSomeAnd (slice_get r.seen.catalogue.tables table) (λ t. place < length t.projections) }
 {}
+
+/// Where all projections that aren't up to date wait for the mover, the store is the state in which they do.
+pub fn refreshes_may_be_asked_for<D: Disk>()
+    ensures { (disk : D) (r : Running) (state : State) → IsState ⟦<D as Disk>⟧ r disk state → IsState ⟦<D as Disk>⟧ (with_asked (all_stale r.seen.catalogue.tables) r) disk (refresh_started state) }
+{
+    refreshed_states_are_sound();
+}

@@ -5,6 +5,9 @@
 //! and that whatever a crash left at any moment of it reopens to the database before the event or to one after it, cut at its last good
 //! epoch (`Does` of `specs/Events.antt`). A statement of several jobs may have done some of them then (`JobsOf` of `specs/Jobs.antt`).
 //! Whether a statement is refused is looked at above, before its event.
+//!
+//! The mover's job in flight (`Mover` of `specs/Running.antt`) counts its steps: all its files are written in its last one, and until then
+//! nothing of it is on the disk.
 #![tactic(auto)]
 
 mod laws;
@@ -12,8 +15,8 @@ mod store;
 
 pub use laws::{
     all_moved_reach_the_last_epoch, all_rollbacks_stand, changed_rows_stand,
-    frames_are_of_the_state, pending_rows_stand, planned_projections_have_places, rollbacks_stand,
-    sessions_stand,
+    frames_are_of_the_state, pending_rows_stand, planned_projections_have_places,
+    refreshes_may_be_asked_for, rollbacks_stand, sessions_stand,
 };
 pub use row_matching::{Matched, matches_are_the_matched_rows};
 pub use store::Store;

@@ -1,6 +1,6 @@
 //! The store, and its events.
 
-ghost use Rattle.std.specs.Prelude.{◌≡◌, ◌≤◌, ◌<◌, ℕ, Bool, [], true, None, Some, List as Items, length, IfOk, IfErr, IfSome, OnOk, OnErr, IsErrOf, IsSomeAnd};
+ghost use Rattle.std.specs.Prelude.{◌≡◌, ◌≤◌, ◌<◌, ℕ, Bool, [], true, not, filter, None, Some, List as Items, length, IfOk, IfErr, IfSome, OnOk, OnErr, IsErrOf, IsSomeAnd};
 ghost use Rattle.std.specs.Bool.{OnTrue};
 ghost use Rattle.std.specs.List.{All, slice_get, slice_index_or};
 ghost use Rattle.common_laws.specs.Causes.{HasCause};
@@ -25,6 +25,7 @@ ghost use Rattle.table_store.specs.Moving.{IsFreshAt};
 ghost use Rattle.folder_model.specs.Reopening.{Reopens};
 ghost use Rattle.store_opening.specs.Opening.{BlamesOpening, IsStartOf, IsStill};
 ghost use Rattle.store_core.specs.Running.{IsState, frame_of};
+ghost use Rattle.store_core.specs.Waiting.{has_name};
 ghost use Rattle.store_core.specs.Sessions.{with_current, with_own, with_pending};
 ghost use Rattle.store_query.specs.Faults.{IsUnblamed};
 ghost use Rattle.store_core.specs.Asking.{IsAsked};
@@ -40,8 +41,7 @@ use mover_policy::first_behind;
 use sql_bound::BoundQuery;
 use sql_tree::At;
 use state_laws::{
-    a_new_table_is_sound, an_event_may_draw, commits_of_a_session_are_sound,
-    moved_states_are_sound, tables_may_be_dropped,
+    a_new_table_is_sound, an_event_may_draw, commits_of_a_session_are_sound, tables_may_be_dropped,
 };
 use statement_plan::Frame;
 use std::alloc::{AllocError, Global};
@@ -57,15 +57,20 @@ mod jobs;
 mod loading;
 mod looking;
 mod marking;
+mod mover;
 mod moving;
 mod shaping;
+mod stepping;
 
-/// The tables of a folder, what the eight sessions have changed and not committed, and the current one of these.
+use mover::Mover;
+
+/// The tables of a folder, what the eight sessions have changed and not committed, the current one of these, and what the mover has to do.
 #[derive(Drop)]
 pub struct Store {
     tables: TableStore,
     txns: Txns,
     current: usize,
+    mover: Mover,
 }
 
 impl Model for Store {
@@ -74,7 +79,7 @@ impl Model for Store {
 
     ghost Value = { Running };
 
-    ghost view = { λ s. running s.tables s.txns s.current };
+    ghost view = { λ s. running s.tables s.txns s.current s.mover };
 
     ghost invariant = { λ s. (1 ≤ s.current) × (s.current ≤ 8) };
 }
@@ -109,6 +114,7 @@ impl Store {
                 tables,
                 txns,
                 current: 1,
+                mover: Mover::idle(alloc),
             }),
             Err(fault) => Err(fault),
         }
@@ -177,12 +183,28 @@ impl Store {
     {
         tables_may_be_dropped();
         an_event_may_draw();
+        let asked = match self.asked_beside(alloc, table) {
+            Ok(asked) => asked,
+            Err(AllocError) => return Err(DiskFault::Memory),
+        };
         match self.tables.drop_table(alloc, table, disk) {
             Ok(()) => {}
             Err(fault) => return Err(fault),
         }
         self.txns.forget(self.current, name);
+        self.mover.ask(asked);
+        self.mover.drop_job();
         Ok(())
+    }
+
+    /// The names of the projections that wait for the mover, but for those of the table at a place.
+    fn asked_beside(&self, alloc: Global, table: usize) -> Result<Vec<Name>, AllocError>
+        ensures { IfOk result (λ v. IsSomeAnd (slice_get self.now.seen.catalogue.tables table) (λ t. v.items ≡ filter (λ n. not (has_name n t.projections)) self.now.mover.asked)) }
+    {
+        match self.tables().get(table) {
+            Some(table) => self.mover.asked_beside(alloc, table.projections.as_slice()),
+            None => Err(AllocError),
+        }
     }
 
     /// Rows join the current session's pending rows of the table of a name. The disk isn't called.
@@ -250,7 +272,6 @@ impl Store {
         ensures same { OnErr result (self.new ≡ self.old) }
         ensures cause { HasCause StoreFault.Disk (D.faults disk.old) (D.faults disk.new) result }
     {
-        moved_states_are_sound();
         an_event_may_draw();
         self.tables.move_out(alloc, table, place, disk)
     }

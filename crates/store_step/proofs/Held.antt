@@ -22,7 +22,7 @@ use Rattle.db_model.specs.Database.{Shape, Table, table_named}
 use Rattle.db_model.specs.State.{State}
 use Rattle.db_model.specs.Sound.{RowFits}
 use Rattle.db_model.specs.Epochs.{last_good}
-use Rattle.db_model.specs.Events.{changes_dropped, rows_pending}
+use Rattle.db_model.specs.Events.{changes_dropped, refresh_started, rows_pending}
 use Rattle.db_model.specs.Loading.{Files}
 use Rattle.db_model.specs.Printing.{counted_line, explain_text}
 use Rattle.db_model.specs.Refusals.{joining_limit, locked, query_refusal_in, rows_inserted_refusal}
@@ -31,6 +31,7 @@ use Rattle.folder_model.specs.Tables.{StandForTables}
 use Rattle.state_laws.specs.Rows.{AreStored}
 use Rattle.statement_text.specs.Explained.{shapes_of, HaveShapes}
 use Rattle.store_core.specs.Running.{Running, IsState}
+use Rattle.store_core.specs.Stepping.{all_stale, with_asked}
 use Rattle.store_core.specs.Sessions.{with_current, with_own, with_pending}
 use Rattle.store_step.specs.declared.answer.Answer.{Answer}
 use Rattle.store_step.specs.Arms.{Holds}
@@ -116,6 +117,13 @@ rollback_holds disk files r now a state says there =
 pub session_holds : {D E : Type 0} (disk : Ghosts D) (files : Files) (n : ℕ) (r : Running) (now : D) (a : Answer) (state : State) → Says [] a → IsState disk (with_current n r) now (record state { current = n })
     → Holds {E = E} disk files (Statement.Session n) (with_current n r) now (Ok a) state
 session_holds disk files n r now a state says there = said_holds disk files (Statement.Session n) (with_current n r) now a state (record state { current = n }) [] says (record { decided = refl; effect = (refl, refl) }) there
+
+-- ---- START_REFRESH
+
+pub start_holds : {D E : Type 0} (disk : Ghosts D) (files : Files) (r : Running) (now : D) (a : Answer) (state : State) → Says (codes "START REFRESH\n") a → IsState disk (with_asked (all_stale r.seen.catalogue.tables) r) now (refresh_started state)
+    → Holds {E = E} disk files (Statement.Call Function.StartRefresh) (with_asked (all_stale r.seen.catalogue.tables) r) now (Ok a) state
+start_holds disk files r now a state says there =
+    said_holds disk files (Statement.Call Function.StartRefresh) (with_asked (all_stale r.seen.catalogue.tables) r) now a state (refresh_started state) (codes "START REFRESH\n") says (record { decided = refl; effect = (refl, refl) }) there
 
 -- ---- EXPLAIN
 

@@ -1,6 +1,6 @@
--- What moveouts come to.
-use Rattle.std.proofs.Common.{◌≡◌, ℕ, inl, inr, [], Bool, true, false, refl, sym, ◌∙◌, subst, ap}
-use Rattle.std.specs.Prelude.{Option, Some, None, Result, Ok, Err, IfErr, OnErr, nat_le, nat_lt, codes}
+-- What the steps of the mover and moveouts come to.
+use Rattle.std.proofs.Common.{◌≡◌, Bool, inl, inr, [], true, false, refl, ap}
+use Rattle.std.specs.Prelude.{None, Result, Ok, Err, codes}
 use Rattle.common_laws.specs.Maps.{Contents}
 use Rattle.col_disk.specs.Moved.{Leaves}
 use Rattle.col_disk.specs.declared.disk.Disk.{Ghosts}
@@ -10,27 +10,25 @@ use Rattle.col_disk.proofs.Moving.{leaves_wider}
 use Rattle.sql_tree.specs.declared.refusal.Refusal.{Refusal}
 use Rattle.sql_tree.specs.declared.statement.Function.{Function}
 use Rattle.sql_tree.specs.declared.statement.Statement.{Statement}
-use Rattle.db_model.specs.Database.{Shape}
 use Rattle.db_model.specs.State.{State}
-use Rattle.db_model.specs.Sound.{IsSoundDatabase}
+use Rattle.db_model.specs.Sound.{IsSound}
 use Rattle.db_model.specs.Epochs.{last_good}
 use Rattle.db_model.specs.Loading.{Files}
-use Rattle.db_model.specs.Mover.{first_behind, MovesAll, MovesFirst, MovesOrBegins, MoverSteps, StepsOn, StepsUnless}
-use Rattle.db_model.specs.Numbers.{are_spent}
+use Rattle.db_model.specs.Mover.{MovesAll, MoverSteps}
 use Rattle.db_model.specs.Run.{all_dropped}
 use Rattle.db_laws.proofs.Goods.{good_itself, good_least, good_mover}
 use Rattle.col_disk.specs.Faults as disk_faults
 use Rattle.store_core.specs.Running.{Running, IsState}
 use Rattle.store_core.specs.Cuts.{ReopensFrom, CutBeforeOrAfter}
-use Rattle.store_core.specs.Events.{BeforeOrAfter, MovesIf, MovesFirstOf}
+use Rattle.store_core.specs.Events.{BeforeOrAfter}
 use Rattle.store_core.specs.Moving.{MovesAllOf}
-use Rattle.store_core.proofs.Placed.{first_moved, sound_moved}
+use Rattle.store_core.specs.Stepping.{MoverStepsOf}
 use Rattle.store_step.specs.declared.answer.Answer.{Answer}
 use Rattle.store_step.specs.Arms.{moved, stopped_or, told, Answers, IsAnswer, MayLeave}
 use Rattle.col_disk.specs.Faults.{IsUnblamed as IsUnblamedStore}
 use Rattle.store_step.specs.Steps.{EndedAs, Ends, MoverStepped}
 use Rattle.store_step.specs.Texts.{Refused, Says}
-use Rattle.store_step.proofs.Answered.{from_good, good_closed, refused_answer, says_answer, still_leaves, Images}
+use Rattle.store_step.proofs.Answered.{from_good, good_closed, refused_answer, says_answer}
 
 -- the two definitions of a fault that blames no file
 pub unblamed_here : (f : StoreFault) → disk_faults.IsUnblamed f → IsUnblamedStore f
@@ -46,73 +44,31 @@ err_same e f is = cc
 
 -- ---- a step of the mover
 
--- nothing waits, and no job is in flight
-steps_unless : (old new : State) → are_spent old ≡ false → old.busy ≡ 0 → MovesOrBegins (first_behind old.database) old new → MoverSteps old new
-steps_unless old new left idle is =
-    subst (λ (b : Bool). StepsUnless b old new) (sym left) (subst (λ (n : ℕ). StepsOn (nat_lt 0 n) old new) (sym idle) is)
-
-begins_if : (o : Option Shape) (old new : State) (b : Bool) → old.asked ≡ [] → first_behind old.database ≡ o → MovesIf b old new → MovesOrBegins o old new
-begins_if None old new true asked first is = absurd (subst (λ (o : Option Shape). MovesFirst o old new) first is)
-begins_if None old new false asked first (none, same) = inl (asked, same)
-begins_if (Some s) old new true asked first is = subst (λ (o : Option Shape). MovesFirst o old new) first is
-begins_if (Some s) old new false asked first (none, same) = absurd (some_none (sym first ∙ none))
-  where
-    some_none : Some s ≡ None → ⊥
-    some_none is = absurd (cc)
-
-steps_if : {D : Type 0} (disk : Ghosts D) (r : Running) (now : D) (old new : State) (b : Bool) → IsState disk r now old → are_spent old ≡ false → MovesIf b old new → MoverSteps old new
-steps_if disk r now old new b here left is = steps_unless old new left here.busy (begins_if (first_behind old.database) old new b here.asked refl is)
-
-first_leaves : {D : Type 0} (disk : Ghosts D) (r : Running) {old new : D} (state : State) → IsState disk r old state → are_spent state ≡ false → Leaves disk (BeforeOrAfter state (MovesFirst (first_behind state.database) state)) old new
+-- whatever a crash leaves of a step
+step_leaves : {D : Type 0} (disk : Ghosts D) (r : Running) {old new : D} (state : State) → ((made : State) → MoverSteps state made → IsSound state → IsSound made) → IsState disk r old state → Leaves disk (BeforeOrAfter state (MoverSteps state)) old new
     → Leaves disk (CutBeforeOrAfter state (MoverSteps state)) old new
-first_leaves disk r {old} state here left leaves = leaves_wider disk (λ x either. by x either) leaves
+step_leaves disk r {old} state keeps here leaves = leaves_wider disk (λ x either. by x either) leaves
   where
-    by : (x : Contents) → BeforeOrAfter state (MovesFirst (first_behind state.database) state) x → CutBeforeOrAfter state (MoverSteps state) x
+    by : (x : Contents) → BeforeOrAfter state (MoverSteps state) x → CutBeforeOrAfter state (MoverSteps state) x
     by x (inl before) = inl (from_good state x here.sound.database before)
-    by x (inr (made, moves, reopens)) =
-        let steps : MoverSteps state made = steps_if disk r old state made true here left moves in
-        let sound : IsSoundDatabase made.database = sound_moved state.database made.database (first_moved (first_behind state.database) state made here.sound.database refl moves) here.sound.database in
-        inr (
-          made,
-          steps,
-          record {
-            epoch = last_good made.database;
-            from = good_least (last_good state.database) made.database (good_mover (last_good state.database) state made steps (good_itself state.database here.sound.database));
-            closed = good_closed made.database sound;
-            reopens = reopens;
-          },
-        )
+    by x (inr (made, steps, reopens)) = inr (
+      made,
+      steps,
+      record {
+        epoch = last_good made.database;
+        from = good_least (last_good state.database) made.database (good_mover (last_good state.database) state made steps (good_itself state.database here.sound.database));
+        closed = good_closed made.database (keeps made steps here.sound).database;
+        reopens = reopens;
+      },
+    )
 
--- a store and its state have the same numbers
-pub spent_by : {D : Type 0} (disk : Ghosts D) (r : Running) (now : D) (state : State) (b : Bool) → IsState disk r now state → nat_le 1152921504606846976 r.seen.catalogue.next ≡ b → are_spent state ≡ b
-spent_by disk r now state b here is = ap (nat_le 1152921504606846976) here.next ∙ is
-
-abbrev stood : Result (Unit {0}) StoreFault
-stood = Ok tt
-
-pub spent_stepped : {D : Type 0} (disk : Ghosts D) (r : Running) (now : D) (state : State) → IsState disk r now state → Images disk now state → are_spent state ≡ true → MoverStepped disk r now now stood state
-spent_stepped disk r now state here images spent = record {
-  done = (state, subst (λ (b : Bool). StepsUnless b state state) (sym spent) refl, here);
-  undone = λ wants. absurd (cc);
-  unblamed = tt;
-  any_moment = still_leaves disk now state (MoverSteps state) here.sound.database images;
-}
-
-pub first_stepped : {D : Type 0} (disk : Ghosts D) (was is : Running) {old new : D} (r : Result Bool StoreFault) (state : State) → IsState disk was old state → are_spent state ≡ false → OnErr r (is ≡ was) → IfErr r disk_faults.IsUnblamed
-    → MovesFirstOf disk store.Memory was is old new r state → MoverStepped disk is old new (moved r) state
-first_stepped disk was is {old} {new} (Ok b) state here left same unblamed first =
-    let (after, moves, there) = first.done in
-    record {
-      done = (after, steps_if disk was old state after b here left moves, there);
-      undone = λ wants. absurd (cc);
-      unblamed = tt;
-      any_moment = first_leaves disk was state here left first.any_moment;
-    }
-first_stepped disk was is {old} {new} (Err f) state here left same unblamed first = record {
-  done = tt;
-  undone = λ wants. subst (λ (r : Running). IsState disk r new state) (sym same) (first.undone (ap (λ (e : StoreFault). Err e) (err_same {X = Unit {0}} f store.Memory wants)));
-  unblamed = unblamed_here f unblamed;
-  any_moment = first_leaves disk was state here left first.any_moment;
+pub mover_stepped : {D : Type 0} (disk : Ghosts D) (was is : Running) {old new : D} (r : Result (Unit {0}) StoreFault) (state : State) → ((made : State) → MoverSteps state made → IsSound state → IsSound made) → IsState disk was old state → MoverStepsOf disk is old new r state
+    → MoverStepped disk is old new r state
+mover_stepped disk was is r state keeps here steps = record {
+  done = steps.done;
+  undone = steps.undone;
+  unblamed = steps.unblamed;
+  any_moment = step_leaves disk was state keeps here steps.any_moment;
 }
 
 -- ---- \step

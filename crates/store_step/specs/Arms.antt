@@ -29,7 +29,7 @@ pub record IsAnswer (state : State) (files : Files) (s : Statement) (printed : L
 abbrev pub AnsweredTo : Files → Statement → State → State → Type 0
 AnsweredTo files s state new = (printed : List ℕ) × (why : Option Refusal) × IsAnswer state files s printed why new
 
--- some jobs of a statement that has several were done, each of them as a whole
+-- Some jobs of a statement that has several were done, each of them as a whole.
 abbrev pub PartlyDone : Statement → State → State → Type 0
 PartlyDone (Statement.Call Function.Moveout) old new = (jobs : ℕ) × (stopped : Bool) × MovesOut jobs (given_up old) stopped new
 PartlyDone (Statement.Call Function.Mergeout) old new = AreDone (RaisesOne (λ s. true)) old new
@@ -37,13 +37,18 @@ PartlyDone (Statement.Call (Function.Purge table)) old new = AreDone (RaisesOne 
 PartlyDone (Statement.Call (Function.Refresh table)) old new = AreDone (RefreshesOne table) old new
 PartlyDone s old new = ⊥
 
+-- Of these jobs a crash tells those of a REFRESH alone: the others change no row and no cut of the tables.
+abbrev pub PartlyRefreshed : Statement → State → State → Type 0
+PartlyRefreshed (Statement.Call (Function.Refresh table)) old new = AreDone (RefreshesOne table) old new
+PartlyRefreshed s old new = ⊥
+
 -- where memory was short: nothing changed, but for such jobs
 abbrev pub IsKeptBy : Statement → State → State → Type 0
 IsKeptBy s old new = (new ≡ old) ⊎ PartlyDone s old new
 
 -- what a crash may leave of a state
 abbrev pub MayLeave : Files → Statement → State → State → Type 0
-MayLeave files s state new = AnsweredTo files s state new ⊎ PartlyDone s state new
+MayLeave files s state new = AnsweredTo files s state new ⊎ PartlyRefreshed s state new
 
 -- A statement over a state.
 pub record Answers {D : Type 0} (disk : Ghosts D) (files : Files) (s : Statement) (is : Running) (old new : D) (result : Result Answer StoreFault) (state : State) : Type 0 where

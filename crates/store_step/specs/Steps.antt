@@ -18,7 +18,7 @@ use Rattle.store_core.specs.Cuts.{CutBeforeOrAfter, IsKept}
 use Rattle.store_step.specs.declared.answer.Answer.{Answer}
 use Rattle.store_step.specs.declared.answer.StepFault.{StepFault}
 use Rattle.store_step.specs.declared.answer.StepFault.TheVariants as step
-use Rattle.store_step.specs.Arms.{PartlyDone}
+use Rattle.store_step.specs.Arms.{PartlyDone, PartlyRefreshed}
 use Rattle.store_step.specs.Forms.{is_served}
 use Rattle.col_disk.specs.Faults.{IsUnblamed as IsUnblamedStore}
 use Rattle.store_step.specs.Faults.{IsUnblamed}
@@ -39,9 +39,13 @@ PartlyStepped text old new = (s : Statement) × Spells (symbols_of text) s × Pa
 abbrev pub IsKeptIn : List ℕ → State → State → Type 0
 IsKeptIn text old new = (new ≡ old) ⊎ PartlyStepped text old new
 
+-- some projections were refreshed by the REFRESH that the text says
+abbrev pub PartlyRefreshedBy : List ℕ → State → State → Type 0
+PartlyRefreshedBy text old new = (s : Statement) × Spells (symbols_of text) s × PartlyRefreshed s old new
+
 -- what a crash may leave of a state
 abbrev pub TextMayLeave : Files → List ℕ → State → State → Type 0
-TextMayLeave files text state new = SteppedTo files text state new ⊎ PartlyStepped text state new
+TextMayLeave files text state new = SteppedTo files text state new ⊎ PartlyRefreshedBy text state new
 
 -- A statement text over a state: it is a step, with the text that was answered. Where memory was short the store is the state as before, but
 -- for jobs of the statement that were done. A load file that can't be read is a COPY's, and then the store is the state as before.

@@ -21,9 +21,13 @@ use folder_model::last_good_is_reached;
 use sql_bound::BoundQuery;
 use sql_tree::{Insert, Query};
 use state_laws::inserted_rows_fit;
-use statement_text::{epoch_text, explain, insert_text, lge_text, mark_text, rollback_text};
+use statement_text::{
+    epoch_text, explain, insert_text, lge_text, mark_text, rollback_text, start_refresh_text,
+};
 use std::alloc::{AllocError, Global};
-use store_core::{Store, pending_rows_stand, rollbacks_stand, sessions_stand};
+use store_core::{
+    Store, pending_rows_stand, refreshes_may_be_asked_for, rollbacks_stand, sessions_stand,
+};
 
 /// An INSERT that isn't refused.
 pub fn insert_rows<D: Disk>(
@@ -59,6 +63,21 @@ pub fn roll_back<D: Disk>(alloc: Global, store: &mut Store) -> Result<Answer, Al
     };
     store.roll_back(alloc);
     Ok(printed(text))
+}
+
+/// START_REFRESH.
+pub fn start_refresh<D: Disk>(alloc: Global, store: &mut Store) -> Result<Answer, AllocError>
+    ensures { (files : LoadFiles) (disk : D) (state : State) → IsState ⟦<D as Disk>⟧ store.old disk state → Holds ⟦<D as Disk>⟧ files (Statement.Call Function.StartRefresh) store.new disk result state }
+{
+    refreshes_may_be_asked_for::<D>();
+    let text = match start_refresh_text(alloc) {
+        Ok(text) => text,
+        Err(AllocError) => return Err(AllocError),
+    };
+    match store.start_refresh(alloc) {
+        Ok(()) => Ok(printed(text)),
+        Err(AllocError) => Err(AllocError),
+    }
 }
 
 /// `\session n`.

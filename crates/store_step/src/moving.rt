@@ -17,6 +17,7 @@ use folder_model::every_image_reopens;
 use sql_tree::Refusal;
 use statement_text::moveout_text;
 use std::alloc::{AllocError, Global};
+use step_laws::moves_keep_states_sound;
 use store_core::{Store, all_rollbacks_stand};
 
 /// What a moveout came to, whether it moved a projection or not.
@@ -29,17 +30,13 @@ fn moved(done: Result<bool, StoreFault>) -> Result<(), StoreFault>
     }
 }
 
-/// One step of the mover: the projection that comes first of those that are behind is moved out. Where there is none, or the numbers of
-/// files are spent, nothing is done.
+/// One step of the mover.
 pub fn mover_step<D: Disk>(alloc: Global, store: &mut Store, disk: &mut D) -> Result<(), StoreFault>
     ensures moves { (state : State) → IsState ⟦<D as Disk>⟧ store.old disk.old state → MoverStepped ⟦<D as Disk>⟧ store.new disk.old disk.new result state }
     ensures cause { HasCause StoreFault.Disk (D.faults disk.old) (D.faults disk.new) result }
 {
-    every_image_reopens::<D>();
-    if store.are_spent() {
-        return Ok(());
-    }
-    moved(store.move_first(alloc, disk))
+    moves_keep_states_sound();
+    store.step_mover(alloc, disk)
 }
 
 /// `\step`.

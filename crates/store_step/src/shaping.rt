@@ -106,6 +106,6 @@ pub fn drop_projection<D: Disk>(
     };
     on_disk(
         printed(text),
-        store.drop_projection(alloc, table, place, disk),
+        store.drop_projection(alloc, name, table, place, disk),
     )
 }

@@ -11,7 +11,7 @@ ghost use Rattle.sql_tree.specs.declared.statement.Statement.{Statement as AStat
 ghost use Rattle.statement_plan.specs.Planned.{early_call_refusal, early_refusal, IsCallOn, IsPlainCall, IsPlanned};
 ghost use Rattle.store_core.specs.Running.{frame_of, IsState};
 ghost use Rattle.store_step.specs.Arms.{Answers};
-ghost use Rattle.store_step.specs.Forms.{is_copy, is_served, is_served_call};
+ghost use Rattle.store_step.specs.Forms.{is_copy};
 ghost use Rattle.store_step.specs.Steps.{Steps};
 ghost use Rattle.store_step.specs.Texts.{HasRange};
 
@@ -20,13 +20,14 @@ use crate::answering::{in_memory, of_text, refused, unplanned};
 use crate::changing::{delete_rows, update_rows};
 use crate::events::{commit, create_table, drop_table, select};
 use crate::holding::{
-    ahm_epoch, current_epoch, explain_query, insert_rows, last_good_epoch, roll_back, use_session,
+    ahm_epoch, current_epoch, explain_query, insert_rows, last_good_epoch, roll_back,
+    start_refresh, use_session,
 };
 use crate::jobs::{mergeout, purge_table, refresh_table};
 use crate::loading::copy;
 use crate::marking::set_mark;
 use crate::moving::{moveout, step_mover};
-use crate::reading::{Reading, is_served, read_statement};
+use crate::reading::{Reading, read_statement};
 use crate::shaping::{add_column, create_projection, drop_projection};
 use col_disk::{Disk, StoreFault};
 use col_io::Files;
@@ -37,14 +38,13 @@ use statement_plan::{Plan, early_refusals_stand, make_plan};
 use std::alloc::{AllocError, Global};
 use store_core::{Store, frames_are_of_the_state};
 
-/// A function that is served, is of no table, and isn't refused for what it says.
+/// A function that is of no table and isn't refused for what it says.
 fn call<D: Disk>(
     alloc: Global,
     store: &mut Store,
     function: &Function,
     disk: &mut D,
 ) -> Result<Answer, StoreFault>
-    requires served { is_served_call function.now ≡ true }
     requires plain { IsPlainCall function.now }
     ensures answers { (files : LoadFiles) (state : State) → IsState ⟦<D as Disk>⟧ store.old disk.old state → early_call_refusal state function.now ≡ None
         → Answers ⟦<D as Disk>⟧ files (AStatement.Call function.now) store.new disk.old disk.new result state }
@@ -63,6 +63,7 @@ fn call<D: Disk>(
         Function::SetAhm(mark) => set_mark(alloc, store, *mark, disk),
         Function::Moveout => moveout(alloc, store, disk),
         Function::Mergeout => mergeout(alloc, store, disk),
+        Function::StartRefresh => in_memory(start_refresh::<D>(alloc, store)),
         _ => unreachable!(),
     }
 }
@@ -95,7 +96,6 @@ fn perform<D: Disk>(
     plan: Plan,
     disk: &mut D,
 ) -> Result<Answer, StoreFault>
-    requires served { is_served statement ≡ true }
     requires file { is_copy statement ≡ false }
     requires range { HasRange statement }
     requires planned { IsPlanned (frame_of store.old) statement plan }
@@ -150,34 +150,10 @@ fn perform<D: Disk>(
 
 /// What a statement does by the tables of the store, or why it is refused before a row is looked at.
 fn plan(alloc: Global, store: &Store, statement: &Statement) -> Result<Plan, BindFault>
-    requires { is_served statement.now ≡ true }
     ensures planned { IfOk result (IsPlanned (frame_of store.now) statement.now) }
     ensures refused { IfErr result (RefusesBy (early_refusal (frame_of store.now) statement.now)) }
 {
     make_plan(alloc, &store.frame(), statement)
-}
-
-/// Runs a statement of a form that is served and looks at no load file.
-fn answer_served<D: Disk>(
-    alloc: Global,
-    store: &mut Store,
-    statement: Statement,
-    disk: &mut D,
-) -> Result<Answer, StoreFault>
-    requires served { is_served statement ≡ true }
-    requires file { is_copy statement ≡ false }
-    requires range { HasRange statement }
-    ensures answers { (files : LoadFiles) (state : State) → IsState ⟦<D as Disk>⟧ store.old disk.old state
-        → Answers ⟦<D as Disk>⟧ files statement store.new disk.old disk.new result state }
-    ensures cause { HasCause StoreFault.Disk (D.faults disk.old) (D.faults disk.new) result }
-{
-    every_image_reopens::<D>();
-    frames_are_of_the_state::<D>();
-    early_refusals_stand();
-    match plan(alloc, store, &statement) {
-        Ok(plan) => perform(alloc, store, statement, plan, disk),
-        Err(fault) => in_memory(unplanned(alloc, fault)),
-    }
 }
 
 /// Runs a statement that looks at no load file.
@@ -194,10 +170,11 @@ fn answer<D: Disk>(
     ensures cause { HasCause StoreFault.Disk (D.faults disk.old) (D.faults disk.new) result }
 {
     every_image_reopens::<D>();
-    if is_served(&statement) {
-        answer_served(alloc, store, statement, disk)
-    } else {
-        in_memory(refused(alloc, Refusal::NotBuilt))
+    frames_are_of_the_state::<D>();
+    early_refusals_stand();
+    match plan(alloc, store, &statement) {
+        Ok(plan) => perform(alloc, store, statement, plan, disk),
+        Err(fault) => in_memory(unplanned(alloc, fault)),
     }
 }
 

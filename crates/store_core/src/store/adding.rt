@@ -38,6 +38,11 @@ impl Store {
     {
         a_new_column_is_sound();
         an_event_may_draw();
-        self.tables.add_column(alloc, table, column, default, disk)
+        match self.tables.add_column(alloc, table, column, default, disk) {
+            Ok(()) => {}
+            Err(fault) => return Err(fault),
+        }
+        self.mover.drop_job();
+        Ok(())
     }
 }

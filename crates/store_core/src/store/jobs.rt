@@ -1,11 +1,12 @@
 //! The jobs of MERGEOUT, PURGE_TABLE and REFRESH.
 
-ghost use Rattle.std.specs.Prelude.{◌≡◌, ◌≤◌, ℕ, true, false, length, List, MatchOption, IfErr, IfSome, OnOk, OnErr, IsSomeAnd};
+ghost use Rattle.std.specs.Prelude.{◌≡◌, ◌≤◌, ℕ, true, false, filter, length, List, MatchOption, IfErr, IfOk, IfSome, OnOk, OnErr, IsSomeAnd};
 ghost use Rattle.std.specs.Bool.{OnTrue};
 ghost use Rattle.std.specs.List.{slice_get, All};
 ghost use Rattle.common_laws.specs.Causes.{HasCause};
 ghost use Rattle.col_disk.specs.Faults.{IsUnblamed as IsUnblamedStore};
 ghost use Rattle.col_disk.specs.declared.disk.StoreFault.TheVariants.{Memory as no_memory};
+ghost use Rattle.db_model.specs.Events.{is_not_named};
 ghost use Rattle.db_model.specs.State.{State};
 ghost use Rattle.mover_policy.specs.First.{all_projections};
 ghost use Rattle.table_jobs.specs.Jobs.{DrawsAnew, DrawsMerged, OfProjection};
@@ -18,9 +19,10 @@ ghost use Rattle.store_core.specs.Running.{IsState};
 use super::Store;
 use catalog_types::Table;
 use col_disk::{Disk, StoreFault};
+use col_value::Name;
 use mover_policy::{Merge, Place, next_merge, next_stale, projection_at};
 use state_laws::{refreshed_states_are_sound, risen_states_are_sound};
-use std::alloc::Global;
+use std::alloc::{AllocError, Global};
 use table_jobs::{has_gone, merge, purge, refresh};
 
 // A table has no more projections.
@@ -45,7 +47,7 @@ impl Store {
     }
 
     /// The merge that comes next.
-    fn next_merge(&self) -> Option<Merge>
+    pub(crate) fn next_merge(&self) -> Option<Merge>
         ensures fresh { IfSome result (λ m. IsFreshAt self.now.seen.stores m.at.table m.at.place) }
         ensures four { IfSome result (λ m. OfProjection m.at.table m.at.place self.now.seen.catalogue (λ p. HasFour m.level p.containers)) }
     {
@@ -72,7 +74,7 @@ impl Store {
     }
 
     /// One merge: what it makes is there after a stop once this has answered Ok.
-    fn merge_one<D: Disk>(
+    pub(crate) fn merge_one<D: Disk>(
         &mut self,
         alloc: Global,
         next: Merge,
@@ -117,7 +119,7 @@ impl Store {
     }
 
     /// The refresh of one projection.
-    fn refresh_one<D: Disk>(
+    pub(crate) fn refresh_one<D: Disk>(
         &mut self,
         alloc: Global,
         table: usize,
@@ -132,7 +134,26 @@ impl Store {
         ensures cause { HasCause StoreFault.Disk (D.faults disk.old) (D.faults disk.new) result }
     {
         refreshed_states_are_sound();
-        refresh(alloc, &mut self.tables, table, place, disk)
+        let asked = match self.asked_without(alloc, Place { table, place }) {
+            Ok(asked) => asked,
+            Err(AllocError) => return Err(StoreFault::Memory),
+        };
+        match refresh(alloc, &mut self.tables, table, place, disk) {
+            Ok(()) => {}
+            Err(fault) => return Err(fault),
+        }
+        self.mover.ask(asked);
+        Ok(())
+    }
+
+    /// The names of the projections that wait for the mover, but for that of the one at a place.
+    fn asked_without(&self, alloc: Global, at: Place) -> Result<Vec<Name>, AllocError>
+        ensures { IfOk result (λ v. OfProjection at.table at.place self.now.seen.catalogue (λ p. v.items ≡ filter (is_not_named p.name) self.now.mover.asked)) }
+    {
+        match projection_at(self.tables.root().tables.as_slice(), at) {
+            Some(p) => self.mover.asked_but(alloc, p.name.as_slice()),
+            None => Err(AllocError),
+        }
     }
 
     /// MERGEOUT: as long as some projection has four containers of a level, these give way to one, up to a merge that would draw where the
@@ -143,6 +164,7 @@ impl Store {
         ensures cause { HasCause StoreFault.Disk (D.faults disk.old) (D.faults disk.new) result }
     {
         self.projections_fit();
+        self.mover.drop_job();
         for _ in 0..u64::MAX {
             let next = match self.next_merge() {
                 Some(next) => next,
@@ -171,6 +193,7 @@ impl Store {
             → RaisesAllOf ⟦<D as Disk>⟧ (is_of name state) self.new disk.old disk.new result state }
         ensures cause { HasCause StoreFault.Disk (D.faults disk.old) (D.faults disk.new) result }
     {
+        self.mover.drop_job();
         for place in 0..MOST_OF_TABLE {
             if !self.is_purged(table, place) {
                 continue;
@@ -198,6 +221,7 @@ impl Store {
         ensures cause { HasCause StoreFault.Disk (D.faults disk.old) (D.faults disk.new) result }
     {
         self.places_fit();
+        self.mover.drop_job();
         for _ in 0..MOST_OF_TABLE {
             let place = match self.next_stale(table) {
                 Some(place) => place,

@@ -66,6 +66,7 @@ impl Store {
         ensures cause { HasCause StoreFault.Disk (D.faults disk.old) (D.faults disk.new) result }
     {
         self.projections_fit();
+        self.mover.drop_job();
         for _ in 0..MOST_PROJECTIONS {
             if self.are_spent() {
                 return Ok(self.is_behind());

@@ -1,6 +1,6 @@
 //! Projections that come and go.
 
-ghost use Rattle.std.specs.Prelude.{◌≡◌, ◌<◌, ℕ, true, map, length, None, Some, List as Items, IfOk, OnErr, IsSomeAnd};
+ghost use Rattle.std.specs.Prelude.{◌≡◌, ◌<◌, true, map, length, None, Some, List as Items, IfOk, OnErr, IsSomeAnd};
 ghost use Rattle.std.specs.List.{All, list_any, slice_get};
 ghost use Rattle.common_laws.specs.Causes.{HasCause};
 ghost use Rattle.common_laws.specs.Maps.{Contents};
@@ -99,22 +99,33 @@ impl Store {
             .create_projection(alloc, table, projection, disk)
     }
 
-    /// DROP PROJECTION of the one at a place of the table at a place; it is gone after a stop once this has answered Ok.
+    /// DROP PROJECTION of the one of this name, at a place of the table at a place; it is gone after a stop once this has answered Ok.
     pub fn drop_projection<D: Disk>(
         &mut self,
         alloc: Global,
+        name: &[u8],
         table: usize,
         place: usize,
         disk: &mut D,
     ) -> Result<(), DiskFault>
         requires { IsSomeAnd (slice_get self.old.seen.catalogue.tables table) (λ t. place < length t.projections) }
-        ensures does { (state : State) (name : Items ℕ) → IsState ⟦<D as Disk>⟧ self.old disk.old state → projection_dropped_refusal state name ≡ None → projection_places name state.database.tables ≡ Some (table, place)
-            → Does ⟦<D as Disk>⟧ Memory self.old self.new disk.old disk.new result state (IsDrawn state (projection_dropped name state)) }
+        ensures does { (state : State) → IsState ⟦<D as Disk>⟧ self.old disk.old state → projection_dropped_refusal state name.now ≡ None → projection_places name.now state.database.tables ≡ Some (table, place)
+            → Does ⟦<D as Disk>⟧ Memory self.old self.new disk.old disk.new result state (IsDrawn state (projection_dropped name.now state)) }
         ensures same { OnErr result (self.new ≡ self.old) }
         ensures cause { HasCause DiskFault.Failed (D.faults disk.old) (D.faults disk.new) result }
     {
         projections_may_be_dropped();
         an_event_may_draw();
-        self.tables.drop_projection(alloc, table, place, disk)
+        let asked = match self.mover.asked_but(alloc, name) {
+            Ok(asked) => asked,
+            Err(AllocError) => return Err(DiskFault::Memory),
+        };
+        match self.tables.drop_projection(alloc, table, place, disk) {
+            Ok(()) => {}
+            Err(fault) => return Err(fault),
+        }
+        self.mover.ask(asked);
+        self.mover.drop_job();
+        Ok(())
     }
 }

@@ -22,4 +22,4 @@ returns-in-Ok-rows_left g c = λ files disk state here accepted matches.
     let pending = c.args.matched.pending.items in
     changed_holds g.D.Disk files (Statement.Delete d) r c.change.new.store (with_marked d.table left committed r) disk c.change.result state (counted_line (codes "DELETE ") (length committed + length pending))
     (search rules) c.change.ensures.kept
-    (λ a says. deleted_holds g.D.Disk files d r disk a state c.args.keep.now committed pending left c.matches_are_the_matched_rows.ensures.count c.changed_rows_stand.ensures (c.deletes_are_sound.ensures state d here.asked) says here accepted matches (search rules)) here
+    (λ a says. deleted_holds g.D.Disk files d r disk a state c.args.keep.now committed pending left c.matches_are_the_matched_rows.ensures.count c.changed_rows_stand.ensures (c.deletes_are_sound.ensures state d) says here accepted matches (search rules)) here

@@ -97,4 +97,4 @@ returns-in-Ok-append g c = λ files disk state here early matches.
     let made_is : made ≡ map (set_row b.assigned.columns) old = rw c.as_slice-sets.ensures at c.in-Ok-made_rows.ensures.made in
     let accepted : rows_updated_refusal state u ≡ None = behind_values state u (frame_of r) c.args.place b.rows.keep b.assigned.columns committed pending left known none ∙ sym values ∙ free in
     changed_holds g.D.Disk files (Statement.Update u) r c.change.new.store (with_marked u.table rows committed r) disk c.change.result state (counted_line (codes "UPDATE ") (length committed + length pending)) (search rules) c.change.ensures.kept
-    (λ a says. updated_holds g.D.Disk files u r disk a state c.args.place b.rows.keep b.assigned.columns committed pending left made rows known c.changed_rows_stand.ensures c.settings_see_a_bag.ensures.rows (c.updates_are_sound.ensures state u here.asked) says here accepted left_is made_is rows_are) here
+    (λ a says. updated_holds g.D.Disk files u r disk a state c.args.place b.rows.keep b.assigned.columns committed pending left made rows known c.changed_rows_stand.ensures c.settings_see_a_bag.ensures.rows (c.updates_are_sound.ensures state u) says here accepted left_is made_is rows_are) here

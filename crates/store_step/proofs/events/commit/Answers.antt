@@ -27,5 +27,5 @@ returns-clause-answers g c = λ files state here accepted.
     let unblamed : IfErr c.commit.result IsUnblamed = IfErr-weaker c.commit.result _ _ (λ fault none. none state here) c.commit.ensures.unblamed in
     subst (λ (o : Result Answer StoreFault). Answers g.D.Disk files Statement.Commit c.commit.new.self c.args.disk.now c.commit.new.disk o state) (sym c.in_store.ensures)
     (event_answers g.D.Disk Memory (λ fault. fault) r c.commit.new.self c.commit.result c.printed.result state files Statement.Commit (commit_text state) (λ new. new ≡ changes_committed state) here
-    (commit_says g.D.Disk r c.args.disk.now state c.printed.result here told) (committed_event state files accepted here.sound (c.commits_of_a_session_are_sound.ensures state here.asked here.sound))
+    (commit_says g.D.Disk r c.args.disk.now state c.printed.result here told) (committed_event state files accepted here.sound (c.commits_of_a_session_are_sound.ensures state here.sound))
     store_short (store_unblamed c.commit.result unblamed) c.commit.ensures.same (c.commit.ensures.does state here))

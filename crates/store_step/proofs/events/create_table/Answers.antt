@@ -23,5 +23,5 @@ returns-clause-answers g c = λ files state here accepted.
     let says : Says (codes "CREATE TABLE\n") c.printed.result = search rules in
     subst (λ (r : Result Answer StoreFault). Answers g.D.Disk files s c.create_table.new.self c.args.disk.now c.create_table.new.disk r state) (sym c.on_disk.ensures)
     (event_answers g.D.Disk Memory store_fault c.args.store.now c.create_table.new.self c.create_table.result c.printed.result state files s (codes "CREATE TABLE\n") (IsDrawn state made) here says
-    (created_event state files c.args.name c.args.columns accepted here.sound (c.a_new_table_is_sound.ensures state c.args.name c.args.columns here.asked accepted here.sound) c.an_event_may_draw.ensures)
+    (created_event state files c.args.name c.args.columns accepted here.sound (c.a_new_table_is_sound.ensures state c.args.name c.args.columns accepted here.sound) c.an_event_may_draw.ensures)
     disk_short (disk_unblamed c.create_table.result) c.create_table.ensures.same (c.create_table.ensures.does state here accepted))

@@ -26,5 +26,5 @@ returns-clause-answers g c = λ files state here accepted.
     let says : Says (codes "DROP TABLE\n") c.printed.result = search rules in
     subst (λ (r : Result Answer StoreFault). Answers g.D.Disk files s c.drop_table.new.self c.args.disk.now c.drop_table.new.disk r state) (sym c.on_disk.ensures)
     (event_answers g.D.Disk Memory store_fault c.args.store.now c.drop_table.new.self c.drop_table.result c.printed.result state files s (codes "DROP TABLE\n") (IsDrawn state made) here says
-    (dropped_event state files c.args.name.now accepted here.sound (c.tables_may_be_dropped.ensures state c.args.name.now here.asked accepted here.sound) c.an_event_may_draw.ensures)
+    (dropped_event state files c.args.name.now accepted here.sound (c.tables_may_be_dropped.ensures state c.args.name.now accepted here.sound) c.an_event_may_draw.ensures)
     disk_short (disk_unblamed c.drop_table.result) c.drop_table.ensures.same (c.drop_table.ensures.does state here accepted))

@@ -29,4 +29,4 @@ returns-in-Err-clause-steps g c = λ text there state spelled told here.
     subst (λ (o : Result Answer StepFault). Steps g.D.Disk there text r c.args.disk.now c.args.disk.now o state) (sym c.of_text.ensures)
     (steps_of g.D.Disk there text s r c.in_memory.result state spelled
     (memory_answers g.D.Disk there s s r c.args.disk.now c.unplanned.result c.in_memory.result state refl c.in_memory.ensures here.sound.database (c.every_image_reopens.ensures r.seen.catalogue r.seen.stores c.args.disk.now state.database here.database)
-    (unplanned_holds g.D.Disk there s r c.args.disk.now c.in-Err.fault c.unplanned.result state refl early c.unplanned.ensures (λ why is. c.early_refusals_stand.ensures.refused state there s why is) here)))
+    (unplanned_holds g.D.Disk there s r c.args.disk.now c.in-Err.fault c.unplanned.result state early c.unplanned.ensures (λ why is. c.early_refusals_stand.ensures.refused state there s why is) here)))

@@ -32,5 +32,5 @@ returns-clause-answers g c = λ files state f here is free.
     let says : Says (counted_line (codes "AHM ") epoch) c.printed.result = search rules in
     subst (λ (r : Result Answer StoreFault). Answers g.D.Disk files s c.set_mark.new.self c.args.disk.now c.set_mark.new.disk r state) (sym c.on_disk.ensures)
     (event_answers g.D.Disk Memory store_fault c.args.store.now c.set_mark.new.self c.set_mark.result c.printed.result state files s (counted_line (codes "AHM ") epoch) (MarkLeaves (rises epoch state.database) epoch state) here says
-    (marked_event state files f epoch is_epoch free here.sound (c.marks_up_to_the_last_good_epoch_are_sound.ensures state epoch here.asked epoch_within here.sound) c.an_event_may_draw.ensures)
+    (marked_event state files f epoch is_epoch free here.sound (c.marks_up_to_the_last_good_epoch_are_sound.ensures state epoch epoch_within here.sound) c.an_event_may_draw.ensures)
     disk_short (disk_unblamed c.set_mark.result) c.set_mark.ensures.same (c.set_mark.ensures.does state here epoch_within))

@@ -32,5 +32,5 @@ returns-clause-answers g c = λ files state here.
     let says : Says (codes "CREATE PROJECTION\n") c.printed.result = search rules in
     subst (λ (r : Result Answer StoreFault). Answers g.D.Disk files s c.create_projection.new.self c.args.disk.now c.create_projection.new.disk r state) (sym c.on_disk.ensures)
     (event_answers g.D.Disk Memory store_fault c.args.store.now c.create_projection.new.self c.create_projection.result c.printed.result state files s (codes "CREATE PROJECTION\n") (IsDrawn state made) here says
-    (projected_event state files p planned.accepted here.sound (c.a_new_projection_is_sound.ensures state p here.asked planned.accepted here.sound) c.an_event_may_draw.ensures)
+    (projected_event state files p planned.accepted here.sound (c.a_new_projection_is_sound.ensures state p planned.accepted here.sound) c.an_event_may_draw.ensures)
     disk_short (disk_unblamed c.create_projection.result) c.create_projection.ensures.same (c.create_projection.ensures.does state p here planned.accepted refl planned.of))

@@ -29,5 +29,5 @@ returns-clause-answers g c = λ files state here.
     let says : Says (codes "DROP PROJECTION\n") c.printed.result = search rules in
     subst (λ (r : Result Answer StoreFault). Answers g.D.Disk files s c.drop_projection.new.self c.args.disk.now c.drop_projection.new.disk r state) (sym c.on_disk.ensures)
     (event_answers g.D.Disk Memory store_fault c.args.store.now c.drop_projection.new.self c.drop_projection.result c.printed.result state files s (codes "DROP PROJECTION\n") (IsDrawn state made) here says
-    (bared_event state files name planned.accepted here.sound (c.projections_may_be_dropped.ensures state name here.asked planned.accepted here.sound) c.an_event_may_draw.ensures)
-    disk_short (disk_unblamed c.drop_projection.result) c.drop_projection.ensures.same (c.drop_projection.ensures.does state name here planned.accepted planned.of))
+    (bared_event state files name planned.accepted here.sound (c.projections_may_be_dropped.ensures state name planned.accepted here.sound) c.an_event_may_draw.ensures)
+    disk_short (disk_unblamed c.drop_projection.result) c.drop_projection.ensures.same (c.drop_projection.ensures.does state here planned.accepted planned.of))

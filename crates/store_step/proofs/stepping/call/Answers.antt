@@ -47,3 +47,8 @@ returns-in-SetAhm-clause-answers g c = λ files state here free.
     let refuses : early_call_refusal state (Function.SetAhm n) ≡ None = search (rules, free) in
     same_answers g.D.Disk files _ (Statement.Call (Function.SetAhm n)) c.set_mark-in-SetAhm.new.store c.set_mark-in-SetAhm.result state is
     (c.set_mark-in-SetAhm.ensures.answers files state (Function.SetAhm n) here refl (sym refuses))
+
+pub returns-in-StartRefresh-clause-answers : goal.returns-in-StartRefresh-clause-answers
+returns-in-StartRefresh-clause-answers g c = λ files state here free.
+    let is : Statement.Call c.args.function.now ≡ Statement.Call Function.StartRefresh = search rules in
+    memory_answers g.D.Disk files _ (Statement.Call Function.StartRefresh) c.start_refresh.new.store c.args.disk.now c.start_refresh.result c.in_memory-in-StartRefresh.result state is c.in_memory-in-StartRefresh.ensures here.sound.database (c.every_image_reopens.ensures c.args.store.now.seen.catalogue c.args.store.now.seen.stores c.args.disk.now state.database here.database) (c.start_refresh.ensures files c.args.disk.now state here)

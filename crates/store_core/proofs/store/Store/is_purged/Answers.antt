@@ -12,6 +12,6 @@ returns-then-p c =
     let s = c.self.inside.tables in
     let tables : s.catalogue.tables ≡ c.as_slice.result.now = ap (λ (x : Catalogue). x.tables) c.root.ensures.root ∙ sym c.as_slice.ensures in
     purged_fresh c.as_slice.result.now c.args.self.now.seen.stores (place_of c.args.table c.args.place) c.in-Some.p.now c.has_gone.result
-    (entries_now c.as_slice.result.now s c.self.inside.txns c.self.inside.current c.args.self.now tables c.self.view_is (c.root.ensures.entries ∙ ap (λ (ts : List kept.Table). map (λ t. t.projections) ts) (sym c.as_slice.ensures))
-    ∙ ap (map (λ (t : kept.Table). t.projections)) (sym (tables_at c.as_slice.result.now s c.self.inside.txns c.self.inside.current c.args.self.now tables c.self.view_is)))
+    (entries_now c.as_slice.result.now s c.self.inside.txns c.self.inside.current c.self.inside.mover c.args.self.now tables c.self.view_is (c.root.ensures.entries ∙ ap (λ (ts : List kept.Table). map (λ t. t.projections) ts) (sym c.as_slice.ensures))
+    ∙ ap (map (λ (t : kept.Table). t.projections)) (sym (tables_at c.as_slice.result.now s c.self.inside.txns c.self.inside.current c.self.inside.mover c.args.self.now tables c.self.view_is)))
     c.in-Some.ensures c.if-p.true

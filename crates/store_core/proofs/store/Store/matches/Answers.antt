@@ -8,7 +8,7 @@ use Rattle.store_core.proofs.store.Store.matches.Goals as goal
 
 pub returns-clause-matched : goal.returns-clause-matched
 returns-clause-matched g c = IfOk-weaker c.match_rows.result _ _ (λ r found state here.
-    let now = running c.self.inside.tables c.self.inside.txns c.self.inside.current in
+    let now = running c.self.inside.tables c.self.inside.txns c.self.inside.current c.self.inside.mover in
     let own = viewed g.D.Disk c.args.disk.now now c.args.self.now state c.self.view_is here in
     let changes = c.session.result.now in
     let can = can_match g.D.Disk now c.args.disk.now state changes c.session.ensures own in
@@ -17,6 +17,6 @@ returns-clause-matched g c = IfOk-weaker c.match_rows.result _ _ (λ r found sta
 
 pub returns-clause-unblamed : goal.returns-clause-unblamed
 returns-clause-unblamed g c = IfErr-weaker c.match_rows.result _ _ (λ fault none state here.
-    let now = running c.self.inside.tables c.self.inside.txns c.self.inside.current in
+    let now = running c.self.inside.tables c.self.inside.txns c.self.inside.current c.self.inside.mover in
     let own = viewed g.D.Disk c.args.disk.now now c.args.self.now state c.self.view_is here in
     none state.database (can_match g.D.Disk now c.args.disk.now state c.session.result.now c.session.ensures own)) c.match_rows.ensures.unblamed

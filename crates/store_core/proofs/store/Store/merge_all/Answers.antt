@@ -1,9 +1,12 @@
-use Rattle.std.proofs.Common.{arith}
+use Rattle.std.proofs.Common.{◌≤◌, length, arith, subst, sym}
+use Rattle.mover_policy.specs.First.{all_projections}
+use Rattle.store_core.specs.Running.{running, Running}
 use Rattle.store_core.proofs.Raising.{merging_begins, merging_done, merging_fails, merging_more, merging_stops}
+use Rattle.store_core.proofs.Stepping.{gave_up_at}
 use Rattle.store_core.proofs.store.Store.merge_all.Goals as goal
 
 pub loop-init : goal.loop-init
-loop-init g c = record { chain = λ state here. merging_begins g.D.Disk c.args.self.now c.args.disk.now state here c.projections_fit.ensures; count = omega arith }
+loop-init g c = record { chain = λ state here. merging_begins g.D.Disk (running c.self.inside.tables c.self.inside.txns c.self.inside.current c.drop_job.new.self) c.args.disk.now state (gave_up_at g.D.Disk c.self.inside.tables c.self.inside.txns c.self.inside.current c.self.inside.mover c.drop_job.new.self c.args.self.now c.args.disk.now state c.self.view_is c.drop_job.ensures here) (subst (λ (x : Running). length (all_projections x.seen.catalogue.tables) ≤ 16384) (sym c.self.view_is) c.projections_fit.ensures); count = omega arith }
 
 pub returns-in-None-clause-jobs : goal.returns-in-None-clause-jobs
 returns-in-None-clause-jobs g c = λ state here. merging_done g.D.Disk state c.loop.self (c.loop.invariant.chain state here)

@@ -12,7 +12,7 @@ pub returns-clause-does : goal.returns-clause-does
 returns-clause-does g c = λ state here.
     let i = c.args.next.at.table in
     let j = c.args.next.at.place in
-    rise_does g.D.Disk Memory c.self.inside.tables c.merge.new.store c.self.inside.txns c.self.inside.current c.args.self.now i j 0 c.merge.result state c.self.view_is here (omega arith) c.merge.ensures.made
+    rise_does g.D.Disk Memory c.self.inside.tables c.merge.new.store c.self.inside.txns c.self.inside.current c.self.inside.mover c.args.self.now i j 0 c.merge.result state c.self.view_is here (omega arith) c.merge.ensures.made
     (on_merged c.merge.result i j c.self.inside.tables.catalogue c.merge.new.store.catalogue c.merge.ensures.drawn)
 
 pub returns-clause-drawn : goal.returns-clause-drawn

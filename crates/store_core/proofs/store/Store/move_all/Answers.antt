@@ -2,12 +2,14 @@ use Rattle.std.proofs.Common.{Bool, subst, arith}
 use Rattle.std.specs.Bool.{OnTrue}
 use Rattle.col_disk.specs.declared.disk.StoreFault.TheVariants.{Memory}
 use Rattle.store_core.specs.Events.{MovesFirstOf}
+use Rattle.store_core.specs.Running.{running}
 use Rattle.store_core.specs.Moving.{MovedBehind}
 use Rattle.store_core.proofs.Chain.{answered, chain_begins, chain_fails, chain_full, chain_goes_on, chain_over, chain_spent}
+use Rattle.store_core.proofs.Stepping.{gave_up_at}
 use Rattle.store_core.proofs.store.Store.move_all.Goals as goal
 
 pub loop-init : goal.loop-init
-loop-init g c = record { chain = λ state here. chain_begins g.D.Disk c.args.self.now c.args.disk.now state here; count = omega arith }
+loop-init g c = record { chain = λ state here. chain_begins g.D.Disk (running c.self.inside.tables c.self.inside.txns c.self.inside.current c.drop_job.new.self) c.args.disk.now state (gave_up_at g.D.Disk c.self.inside.tables c.self.inside.txns c.self.inside.current c.self.inside.mover c.drop_job.new.self c.args.self.now c.args.disk.now state c.self.view_is c.drop_job.ensures here); count = omega arith }
 
 pub returns-then-are_spent-clause-moves : goal.returns-then-are_spent-clause-moves
 returns-then-are_spent-clause-moves g c = λ state here.

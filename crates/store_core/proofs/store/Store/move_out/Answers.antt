@@ -1,5 +1,8 @@
 use Rattle.col_disk.specs.declared.disk.StoreFault.TheVariants.{Memory}
+use Rattle.sound_laws.specs.Moves.{moved_at}
+use Rattle.state_laws.proofs.Reached.{risen_state}
 use Rattle.store_core.proofs.Events.{move_does}
+use Rattle.store_core.proofs.Raising.{moved_rises}
 use Rattle.std.proofs.Common.{sym, subst}
 use Rattle.std.specs.Prelude.{OnOk}
 use Rattle.std.proofs.lemmas.Result.{IfErr-weaker}
@@ -10,8 +13,8 @@ use Rattle.store_core.proofs.store.Store.move_out.Goals as goal
 
 pub returns-clause-does : goal.returns-clause-does
 returns-clause-does g c = λ state here.
-    move_does g.D.Disk Memory c.self.inside.tables c.move_out.new.self c.self.inside.txns c.self.inside.current c.args.self.now c.args.table c.args.place c.move_out.result state c.self.view_is here
-    (c.moved_states_are_sound.ensures state c.args.table c.args.place here.asked here.sound) c.move_out.ensures.made c.move_out.ensures.drawn
+    move_does g.D.Disk Memory c.self.inside.tables c.move_out.new.self c.self.inside.txns c.self.inside.current c.self.inside.mover c.args.self.now c.args.table c.args.place c.move_out.result state c.self.view_is here
+    (risen_state state (moved_at c.args.table c.args.place state.database) (moved_rises g.D.Disk c.args.self.now c.args.disk.now state c.args.table c.args.place here c.requires) here.sound) c.move_out.ensures.made c.move_out.ensures.drawn
 
 pub returns-clause-job : goal.returns-clause-job
 returns-clause-job g c = subst (λ (r : Running). OnOk c.move_out.result (DrawsJob c.args.table c.args.place r.seen.catalogue c.move_out.new.self.catalogue)) c.self.view_is c.move_out.ensures.job

@@ -11,12 +11,12 @@ returns-clause-fresh c =
     let s = c.self.inside.tables in
     let tables : s.catalogue.tables ≡ c.as_slice.result.now = ap (λ (x : Catalogue). x.tables) c.root.ensures.root ∙ sym c.as_slice.ensures in
     merge_fresh c.as_slice.result.now c.args.self.now.seen.stores c.next_merge.result
-    (entries_now c.as_slice.result.now s c.self.inside.txns c.self.inside.current c.args.self.now tables c.self.view_is (c.root.ensures.entries ∙ ap (λ (ts : List kept.Table). map (λ t. t.projections) ts) (sym c.as_slice.ensures))
-    ∙ ap (map (λ (t : kept.Table). t.projections)) (sym (tables_at c.as_slice.result.now s c.self.inside.txns c.self.inside.current c.args.self.now tables c.self.view_is)))
+    (entries_now c.as_slice.result.now s c.self.inside.txns c.self.inside.current c.self.inside.mover c.args.self.now tables c.self.view_is (c.root.ensures.entries ∙ ap (λ (ts : List kept.Table). map (λ t. t.projections) ts) (sym c.as_slice.ensures))
+    ∙ ap (map (λ (t : kept.Table). t.projections)) (sym (tables_at c.as_slice.result.now s c.self.inside.txns c.self.inside.current c.self.inside.mover c.args.self.now tables c.self.view_is)))
     c.next_merge.ensures
 
 pub returns-clause-four : goal.returns-clause-four
 returns-clause-four c =
     let s = c.self.inside.tables in
     let tables : s.catalogue.tables ≡ c.as_slice.result.now = ap (λ (x : Catalogue). x.tables) c.root.ensures.root ∙ sym c.as_slice.ensures in
-    merge_four c.args.self.now.seen.catalogue c.as_slice.result.now c.next_merge.result (tables_at c.as_slice.result.now s c.self.inside.txns c.self.inside.current c.args.self.now tables c.self.view_is) c.next_merge.ensures
+    merge_four c.args.self.now.seen.catalogue c.as_slice.result.now c.next_merge.result (tables_at c.as_slice.result.now s c.self.inside.txns c.self.inside.current c.self.inside.mover c.args.self.now tables c.self.view_is) c.next_merge.ensures

@@ -1,9 +1,13 @@
-use Rattle.std.proofs.Common.{arith}
+use Rattle.std.proofs.Common.{◌≡◌, arith, subst, sym}
+use Rattle.std.specs.Prelude.{IsSomeAnd}
+use Rattle.std.specs.List.{slice_get}
+use Rattle.store_core.specs.Running.{running, Running}
 use Rattle.store_core.proofs.Purging.{purging_begins, purging_done, purging_fails, purging_more, purging_on, purging_stops}
+use Rattle.store_core.proofs.Stepping.{gave_up_at}
 use Rattle.store_core.proofs.store.Store.purge.Goals as goal
 
 pub loop-place-init : goal.loop-place-init
-loop-place-init g c = record { chain = λ state name here named. purging_begins g.D.Disk c.args.self.now c.args.disk.now state c.args.table name here named; count = omega arith }
+loop-place-init g c = record { chain = λ state name here named. purging_begins g.D.Disk (running c.self.inside.tables c.self.inside.txns c.self.inside.current c.drop_job.new.self) c.args.disk.now state c.args.table name (gave_up_at g.D.Disk c.self.inside.tables c.self.inside.txns c.self.inside.current c.self.inside.mover c.drop_job.new.self c.args.self.now c.args.disk.now state c.self.view_is c.drop_job.ensures here) (subst (λ (x : Running). IsSomeAnd (slice_get x.seen.catalogue.tables c.args.table) (λ t. t.name ≡ name)) (sym c.self.view_is) named); count = omega arith }
 
 pub returns-then-are_spent-clause-jobs : goal.returns-then-are_spent-clause-jobs
 returns-then-are_spent-clause-jobs g c = λ state name here named.

@@ -12,7 +12,7 @@ pub returns-clause-does : goal.returns-clause-does
 returns-clause-does g c = λ state here.
     let i = c.args.table in
     let j = c.args.place in
-    rise_does g.D.Disk Memory c.self.inside.tables c.purge.new.store c.self.inside.txns c.self.inside.current c.args.self.now i j 1 c.purge.result state c.self.view_is here (omega arith) c.purge.ensures.made
+    rise_does g.D.Disk Memory c.self.inside.tables c.purge.new.store c.self.inside.txns c.self.inside.current c.self.inside.mover c.args.self.now i j 1 c.purge.result state c.self.view_is here (omega arith) c.purge.ensures.made
     c.purge.ensures.drawn
 
 pub returns-clause-drawn : goal.returns-clause-drawn

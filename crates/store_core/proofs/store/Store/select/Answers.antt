@@ -6,7 +6,7 @@ use Rattle.store_core.proofs.store.Store.select.Goals as goal
 
 pub returns-clause-listed : goal.returns-clause-listed
 returns-clause-listed g c = IfOk-weaker c.select.result _ _ (λ v printed state q here asked.
-    let r = running c.self.inside.tables c.self.inside.txns c.self.inside.current in
+    let r = running c.self.inside.tables c.self.inside.txns c.self.inside.current c.self.inside.mover in
     let own = viewed g.D.Disk c.args.disk.now r c.args.self.now state c.self.view_is here in
     let law = c.bound_queries_read_their_tables.ensures in
     listed_so state c.args.at q c.args.query.now _ _ asked.tree (rows_same g.D.Disk r c.args.disk.now state c.args.at q c.args.query.now c.session.result.now c.session.ensures (law.rows c.args.at state q) own asked)
@@ -14,7 +14,7 @@ returns-clause-listed g c = IfOk-weaker c.select.result _ _ (λ v printed state 
 
 pub returns-clause-in_range : goal.returns-clause-in_range
 returns-clause-in_range g c = on_ok_weaker c.select.result (λ within state q here asked.
-    let r = running c.self.inside.tables c.self.inside.txns c.self.inside.current in
+    let r = running c.self.inside.tables c.self.inside.txns c.self.inside.current c.self.inside.mover in
     let own = viewed g.D.Disk c.args.disk.now r c.args.self.now state c.self.view_is here in
     let law = c.bound_queries_read_their_tables.ensures in
     not_too_great state c.args.at q c.args.query.now _ asked.tree (rows_same g.D.Disk r c.args.disk.now state c.args.at q c.args.query.now c.session.result.now c.session.ensures (law.rows c.args.at state q) own asked)
@@ -22,7 +22,7 @@ returns-clause-in_range g c = on_ok_weaker c.select.result (λ within state q he
 
 pub returns-clause-great : goal.returns-clause-great
 returns-clause-great g c = λ is state q here asked.
-    let r = running c.self.inside.tables c.self.inside.txns c.self.inside.current in
+    let r = running c.self.inside.tables c.self.inside.txns c.self.inside.current c.self.inside.mover in
     let own = viewed g.D.Disk c.args.disk.now r c.args.self.now state c.self.view_is here in
     let law = c.bound_queries_read_their_tables.ensures in
     too_great state c.args.at q c.args.query.now _ asked.tree (rows_same g.D.Disk r c.args.disk.now state c.args.at q c.args.query.now c.session.result.now c.session.ensures (law.rows c.args.at state q) own asked)
@@ -30,6 +30,6 @@ returns-clause-great g c = λ is state q here asked.
 
 pub returns-clause-unblamed : goal.returns-clause-unblamed
 returns-clause-unblamed g c = IfErr-weaker c.select.result _ _ (λ fault none state q here asked.
-    let r = running c.self.inside.tables c.self.inside.txns c.self.inside.current in
+    let r = running c.self.inside.tables c.self.inside.txns c.self.inside.current c.self.inside.mover in
     let own = viewed g.D.Disk c.args.disk.now r c.args.self.now state c.self.view_is here in
     none state.database (can_read g.D.Disk r c.args.disk.now state c.args.at q c.args.query.now c.session.result.now c.session.ensures (c.bound_queries_read_their_tables.ensures.over state q) own asked)) c.select.ensures.unblamed

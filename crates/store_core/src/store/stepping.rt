@@ -1,0 +1,285 @@
+//! The steps of the mover.
+
+ghost use Rattle.std.specs.Prelude.{◌≡◌, ◌≤◌, ◌<◌, ◌++◌, [], false, length, Contains, MatchOption, IfErr, IfOk, IfSome, OnErr, OnOk, IsSomeAnd};
+ghost use Rattle.std.specs.Bool.{OnTrue};
+ghost use Rattle.std.specs.List.{slice_get};
+ghost use Rattle.common_laws.specs.Causes.{HasCause};
+ghost use Rattle.col_disk.specs.Faults.{IsUnblamed as IsUnblamedStore};
+ghost use Rattle.col_disk.specs.declared.disk.StoreFault.TheVariants.{Memory as no_memory};
+ghost use Rattle.db_model.specs.Numbers.{are_spent};
+ghost use Rattle.db_model.specs.State.{State};
+ghost use Rattle.store_core.specs.Events.{Does};
+ghost use Rattle.store_core.specs.Running.{IsState};
+ghost use Rattle.store_core.specs.Stepping.{all_stale, stale_in, with_asked, Begins, FinishesJob, InstallsJob, IsStaleNamed, MoverStepsOf};
+ghost use Rattle.table_jobs.specs.Jobs.{OfProjection};
+
+use super::Store;
+use catalog_types::{Projection, Table};
+use col_disk::{Disk, StoreFault};
+use col_value::Name;
+use mover_policy::{Place, projection_at};
+use std::alloc::{AllocError, Global};
+
+/// The names of those that aren't up to date join some.
+fn add_stale(
+    alloc: Global,
+    out: &mut Vec<Name>,
+    projections: &[Projection],
+) -> Result<(), AllocError>
+    ensures { OnOk result (out.new.items ≡ out.old.items ++ stale_in projections.now) }
+{
+    for projection in projections {
+        if !projection.fresh {
+            out.push(projection.name.copy(alloc)?)?;
+        }
+    }
+    Ok(())
+}
+
+/// The names of all projections that aren't up to date.
+fn all_stale(alloc: Global, tables: &[Table]) -> Result<Vec<Name>, AllocError>
+    ensures { IfOk result (λ v. v.items ≡ all_stale tables.now) }
+{
+    let mut out = Vec::new(alloc);
+    for table in tables {
+        add_stale(alloc, &mut out, table.projections.as_slice())?;
+    }
+    Ok(out)
+}
+
+/// The place of the least of some names, byte by byte; there is none where there are no names.
+fn least(names: &[Name]) -> Option<usize>
+    ensures { MatchOption result (names.now ≡ []) (λ place. place < length names.now) }
+{
+    if names.is_empty() {
+        return None;
+    }
+    let mut best = 0;
+    for place in 1..names.len() {
+        if names[place].as_slice() < names[best].as_slice() {
+            best = place;
+        }
+    }
+    Some(best)
+}
+
+/// Whether a name is among some.
+fn is_among(names: &[Name], name: &Name) -> bool
+    ensures { OnTrue result (Contains names.now name.now) }
+{
+    for place in 0..names.len() {
+        if names[place] == *name {
+            return true;
+        }
+    }
+    false
+}
+
+/// Whether a projection isn't up to date and has this name.
+fn is_stale_named(projection: &Projection, name: &Name) -> bool
+    ensures { OnTrue result (IsStaleNamed name.now projection.now) }
+{
+    !projection.fresh && projection.name == *name
+}
+
+/// The place of a projection of this name among some, which isn't up to date.
+fn stale_named(projections: &[Projection], name: &Name) -> Option<usize>
+    ensures { IfSome result (λ j. IsSomeAnd (slice_get projections.now j) (IsStaleNamed name.now)) }
+{
+    for place in 0..projections.len() {
+        if is_stale_named(&projections[place], name) {
+            return Some(place);
+        }
+    }
+    None
+}
+
+/// The same among those of some tables.
+fn stale_place(tables: &[Table], name: &Name) -> Option<Place>
+    ensures { IfSome result (λ at. IsSomeAnd (slice_get tables.now at.table) (λ t. IsSomeAnd (slice_get t.projections at.place) (IsStaleNamed name.now))) }
+{
+    for table in 0..tables.len() {
+        match stale_named(tables[table].projections.as_slice(), name) {
+            Some(place) => return Some(Place { table, place }),
+            None => {}
+        }
+    }
+    None
+}
+
+impl Store {
+    /// START_REFRESH: all projections that aren't up to date wait for the mover. The disk isn't called.
+    pub fn start_refresh(&mut self, alloc: Global) -> Result<(), AllocError>
+        ensures asked { OnOk result (self.new ≡ with_asked (all_stale self.old.seen.catalogue.tables) self.old) }
+        ensures kept { OnErr result (self.new ≡ self.old) }
+    {
+        let asked = all_stale(alloc, self.tables())?;
+        self.mover.ask(asked);
+        Ok(())
+    }
+
+    /// How many steps the job of the projection at a place has behind its begin: one for each column, one for the epochs, and the last one.
+    fn steps_at(&self, at: Place) -> Option<usize>
+        ensures { IfSome result (λ steps. (3 ≤ steps) × (steps ≤ 66)) }
+    {
+        match projection_at(self.tables.root().tables.as_slice(), at) {
+            Some(projection) => Some(projection.columns.as_slice().len() + 2),
+            None => None,
+        }
+    }
+
+    /// The job of the projection at a place begins.
+    fn begin_at(&mut self, at: Place, refreshing: Option<Name>) -> Result<(), AllocError>
+        ensures begun { OnOk result (Begins self.old self.new) }
+        ensures same { OnErr result (self.new ≡ self.old) }
+    {
+        match self.steps_at(at) {
+            Some(steps) => {
+                self.mover.begin(steps, refreshing);
+                Ok(())
+            }
+            None => Err(AllocError),
+        }
+    }
+
+    /// The refresh of the projection that waits and has the least name begins, if one waits.
+    fn begin_refresh(&mut self, alloc: Global) -> Result<(), AllocError>
+        ensures begun { OnOk result (Begins self.old self.new) }
+        ensures same { OnErr result (self.new ≡ self.old) }
+    {
+        let asked = self.mover.asked();
+        let name = match least(asked) {
+            Some(place) => asked[place].copy(alloc)?,
+            None => return Ok(()),
+        };
+        match stale_place(self.tables.root().tables.as_slice(), &name) {
+            Some(at) => self.begin_at(at, Some(name)),
+            None => Err(AllocError),
+        }
+    }
+
+    /// A job begins: the merge that comes next, or else a refresh, if one waits.
+    fn begin_job(&mut self, alloc: Global) -> Result<(), AllocError>
+        ensures begun { OnOk result (Begins self.old self.new) }
+        ensures same { OnErr result (self.new ≡ self.old) }
+    {
+        match self.next_merge() {
+            Some(next) => self.begin_at(next.at, None),
+            None => self.begin_refresh(alloc),
+        }
+    }
+
+    /// The merge that comes next, if there is one.
+    fn merge_due<D: Disk>(&mut self, alloc: Global, disk: &mut D) -> Result<(), StoreFault>
+        ensures does { (state : State) → IsState ⟦<D as Disk>⟧ self.old disk.old state → Does ⟦<D as Disk>⟧ no_memory self.old self.new disk.old disk.new result state (InstallsJob state) }
+        ensures unblamed { IfErr result (λ fault. (state : State) → IsState ⟦<D as Disk>⟧ self.old disk.old state → IsUnblamedStore fault) }
+        ensures same { OnErr result (self.new ≡ self.old) }
+        ensures cause { HasCause StoreFault.Disk (D.faults disk.old) (D.faults disk.new) result }
+    {
+        match self.next_merge() {
+            Some(next) => self.merge_one(alloc, next, disk),
+            None => Ok(()),
+        }
+    }
+
+    /// The place of the projection that the job in flight refreshes.
+    fn refreshed_place(&self, name: &Name) -> Option<Place>
+        ensures waits { IfSome result (λ at. Contains self.now.mover.asked name.now) }
+        ensures stale { IfSome result (λ at. OfProjection at.table at.place self.now.seen.catalogue (IsStaleNamed name.now)) }
+    {
+        if !is_among(self.mover.asked(), name) {
+            return None;
+        }
+        stale_place(self.tables.root().tables.as_slice(), name)
+    }
+
+    /// The refresh of the projection of a name, if it waits.
+    fn refresh_due<D: Disk>(
+        &mut self,
+        alloc: Global,
+        name: &Name,
+        disk: &mut D,
+    ) -> Result<(), StoreFault>
+        ensures does { (state : State) → IsState ⟦<D as Disk>⟧ self.old disk.old state → Does ⟦<D as Disk>⟧ no_memory self.old self.new disk.old disk.new result state (InstallsJob state) }
+        ensures unblamed { IfErr result (λ fault. (state : State) → IsState ⟦<D as Disk>⟧ self.old disk.old state → IsUnblamedStore fault) }
+        ensures same { OnErr result (self.new ≡ self.old) }
+        ensures cause { HasCause StoreFault.Disk (D.faults disk.old) (D.faults disk.new) result }
+    {
+        match self.refreshed_place(name) {
+            Some(at) => self.refresh_one(alloc, at.table, at.place, disk),
+            None => Ok(()),
+        }
+    }
+
+    /// The projection that the job in flight refreshes, as a name of its own.
+    fn refreshing(&self, alloc: Global) -> Result<Option<Name>, AllocError> {
+        match self.mover.refreshing() {
+            Some(name) => Ok(Some(name.copy(alloc)?)),
+            None => Ok(None),
+        }
+    }
+
+    /// What the job in flight is for: what it makes is there after a stop once this has answered Ok.
+    fn install<D: Disk>(&mut self, alloc: Global, disk: &mut D) -> Result<(), StoreFault>
+        ensures does { (state : State) → IsState ⟦<D as Disk>⟧ self.old disk.old state → Does ⟦<D as Disk>⟧ no_memory self.old self.new disk.old disk.new result state (InstallsJob state) }
+        ensures unblamed { IfErr result (λ fault. (state : State) → IsState ⟦<D as Disk>⟧ self.old disk.old state → IsUnblamedStore fault) }
+        ensures same { OnErr result (self.new ≡ self.old) }
+        ensures cause { HasCause StoreFault.Disk (D.faults disk.old) (D.faults disk.new) result }
+    {
+        match self.refreshing(alloc) {
+            Ok(Some(name)) => self.refresh_due(alloc, &name, disk),
+            Ok(None) => self.merge_due(alloc, disk),
+            Err(AllocError) => Err(StoreFault::Memory),
+        }
+    }
+
+    /// The last step of the job in flight.
+    fn finish<D: Disk>(&mut self, alloc: Global, disk: &mut D) -> Result<(), StoreFault>
+        ensures does { (state : State) → IsState ⟦<D as Disk>⟧ self.old disk.old state → Does ⟦<D as Disk>⟧ no_memory self.old self.new disk.old disk.new result state (FinishesJob state) }
+        ensures unblamed { IfErr result (λ fault. (state : State) → IsState ⟦<D as Disk>⟧ self.old disk.old state → IsUnblamedStore fault) }
+        ensures same { OnErr result (self.new ≡ self.old) }
+        ensures cause { HasCause StoreFault.Disk (D.faults disk.old) (D.faults disk.new) result }
+    {
+        match self.install(alloc, disk) {
+            Ok(()) => {}
+            Err(fault) => return Err(fault),
+        }
+        self.mover.drop_job();
+        Ok(())
+    }
+
+    /// One step of the mover: where the numbers of files are spent nothing; else the job in flight goes on, or the projection that comes
+    /// first of those that are behind is moved out, or a job begins.
+    pub fn step_mover<D: Disk>(&mut self, alloc: Global, disk: &mut D) -> Result<(), StoreFault>
+        ensures steps { (state : State) → IsState ⟦<D as Disk>⟧ self.old disk.old state → MoverStepsOf ⟦<D as Disk>⟧ self.new disk.old disk.new result state }
+        ensures cause { HasCause StoreFault.Disk (D.faults disk.old) (D.faults disk.new) result }
+    {
+        if self.are_spent() {
+            return Ok(());
+        }
+        let busy = self.mover.busy();
+        if busy == 0 {
+            return self.move_or_begin(alloc, disk);
+        }
+        if busy == 1 {
+            return self.finish(alloc, disk);
+        }
+        self.mover.go_on();
+        Ok(())
+    }
+
+    /// The same where no job is in flight and numbers are left.
+    fn move_or_begin<D: Disk>(&mut self, alloc: Global, disk: &mut D) -> Result<(), StoreFault>
+        ensures steps { (state : State) → IsState ⟦<D as Disk>⟧ self.old disk.old state → are_spent state ≡ false → state.busy ≡ 0 → MoverStepsOf ⟦<D as Disk>⟧ self.new disk.old disk.new result state }
+        ensures cause { HasCause StoreFault.Disk (D.faults disk.old) (D.faults disk.new) result }
+    {
+        match self.move_first(alloc, disk) {
+            Ok(true) => Ok(()),
+            Ok(false) => match self.begin_job(alloc) {
+                Ok(()) => Ok(()),
+                Err(AllocError) => Err(StoreFault::Memory),
+            },
+            Err(fault) => Err(fault),
+        }
+    }
+}

@@ -1,0 +1,74 @@
+-- START_REFRESH and the steps of the mover, with statements between them.
+CREATE TABLE t (a INTEGER, b INTEGER);
+INSERT INTO t VALUES (1, 10), (2, 20);
+COMMIT;
+CREATE PROJECTION q (b) AS SELECT b FROM t ORDER BY b;
+CREATE PROJECTION p (a) AS SELECT a FROM t ORDER BY a;
+EXPLAIN SELECT b FROM t;
+\step;
+\step;
+SELECT START_REFRESH();
+SELECT GET_LAST_GOOD_EPOCH();
+-- The refresh of p begins, and goes on beside a commit, a new table and a mark.
+\step;
+INSERT INTO t VALUES (3, 30);
+COMMIT;
+CREATE TABLE u (a INTEGER);
+\step;
+SELECT MAKE_AHM_NOW();
+\step;
+EXPLAIN SELECT a FROM t;
+\step;
+EXPLAIN SELECT a FROM t;
+SELECT a FROM t;
+AT EPOCH 1 SELECT a FROM t;
+-- A moveout goes before the refresh of q.
+\step;
+SELECT GET_LAST_GOOD_EPOCH();
+\step;
+-- Its job is dropped, and begins once more.
+DROP TABLE u;
+\step;
+DELETE FROM t WHERE a = 1;
+COMMIT;
+\step;
+\step;
+EXPLAIN SELECT b FROM t;
+\step;
+EXPLAIN SELECT b FROM t;
+SELECT b FROM t;
+AT EPOCH 2 SELECT b FROM t;
+-- A projection that was dropped waits no more, nor does another one of its name.
+CREATE PROJECTION r (b, a) AS SELECT b, a FROM t ORDER BY b;
+SELECT START_REFRESH();
+DROP PROJECTION r;
+CREATE PROJECTION r (b, a) AS SELECT b, a FROM t ORDER BY b;
+\step;
+\step;
+\step;
+\step;
+\step;
+\step;
+\step;
+\step;
+EXPLAIN SELECT a, b FROM t WHERE b = 20;
+SELECT START_REFRESH();
+\step;
+\step;
+\step;
+\step;
+EXPLAIN SELECT a, b FROM t WHERE b = 20;
+\step;
+EXPLAIN SELECT a, b FROM t WHERE b = 20;
+SELECT a, b FROM t WHERE b = 20;
+-- What REFRESH made waits no more; a column that is added drops the job.
+CREATE PROJECTION s (a, b) AS SELECT a, b FROM t ORDER BY a, b;
+SELECT START_REFRESH();
+\step;
+SELECT REFRESH('t');
+\step;
+ALTER TABLE t ADD COLUMN c INTEGER DEFAULT 7;
+SELECT a, c FROM t ORDER BY a;
+SELECT START_REFRESH();
+\step;
+SELECT GET_LAST_GOOD_EPOCH();
