@@ -56,6 +56,7 @@ SETS = [
         [
             ("filter", "SELECT id, price FROM orders WHERE region = 'west' AND qty > 7 AND price < 100", ""),
             ("sum in a filter", "SELECT id FROM orders WHERE qty * price > 89000 OR price IS NULL", ""),
+            ("one of 4,000 prices", "SELECT COUNT(*), SUM(qty) FROM orders WHERE price IN (" + ", ".join(str(5 * n // 2) for n in range(4000)) + ")", ""),
             ("all in order", "SELECT region, qty, price, id FROM orders ORDER BY price DESC, qty", ", region, id"),
             ("first 10 in order", "SELECT region, qty, price, id FROM orders ORDER BY price DESC, qty LIMIT 10", ", region, id"),
         ],

@@ -54,8 +54,11 @@ def main():
         partition = [c for c, _ in chance.sample(columns, chance.choice([0, 1, 1, 2]))]
         order = [(c, chance.choice(["", "", " ASC", " DESC"])) for c, _ in chance.sample(columns, chance.choice([0, 1, 1, 2]))]
         head = chance.choice(["ROW_NUMBER()", "RANK()", "COUNT(*)", "COUNT({})", "SUM({})", "SUM({} + 1)", "SUM(-{} * 2)"])
-        if "{}" in head:
-            head = head.format(chance.choice([c for c in columns if c[1] == "n" or "COUNT" in head])[0])
+        numbers = [c for c, kind in columns if kind == "n"]
+        if "COUNT" in head or not numbers:
+            head = head.replace("SUM({} + 1)", "COUNT({})").replace("SUM(-{} * 2)", "COUNT({})").replace("SUM", "COUNT").format(chance.choice(columns)[0])
+        elif "{}" in head:
+            head = head.format(chance.choice(numbers))
         return head, partition, [c for c, _ in order], [d for _, d in order]
 
     def written(head, partition, keys, directions):
@@ -100,15 +103,15 @@ def main():
         found = db.execute(sqlite(f"SELECT {other} FROM {source}{where} ORDER BY {by} LIMIT {limit}")).fetchall()
         say(f"{at}SELECT {mine} FROM {source}{where}{keyed} LIMIT {limit}", *[line(r, "".join(k for _, k in items) + "n" * len(made)) for r in found], f"({len(found)} rows)")
 
-    for _ in range(70):
+    for _ in range(170):
         ask()
     gone = db.execute("SELECT COUNT(*) FROM turns WHERE n < 10").fetchone()[0]
     say("DELETE FROM turns WHERE n < 10", f"DELETE {gone}")
     say("COMMIT", "COMMIT EPOCH 3")
-    for _ in range(8):
+    for _ in range(20):
         ask("AT EPOCH 2 ")
     db.execute("DELETE FROM turns WHERE n < 10")
-    for _ in range(40):
+    for _ in range(110):
         ask()
     with open("tests/windows.sql", "w", encoding="utf-8") as it:
         it.write("\n".join(sql) + "\n")

@@ -46,9 +46,24 @@ impl Accumulator {
     pub fn take(&mut self, alloc: Global, value: &Worth<'_>) -> Result<(), AllocError>
         ensures { OnOk result (self.new ≡ taken self.old (wide_of value.now)) }
     {
+        if self.takes_at_once(value) {
+            return Ok(());
+        }
         let before = std::mem::replace(self, Accumulator::TooGreat);
         *self = before.taken(alloc, value)?;
         Ok(())
+    }
+
+    /// Takes the value where the aggregate stands, if a count or a sum there is only to be raised; answers whether it did.
+    fn takes_at_once(&mut self, value: &Worth<'_>) -> bool
+        ensures { self.new ≡ (if result then taken self.old (wide_of value.now) else self.old) }
+    {
+        match self {
+            Accumulator::Rows(n) => raises(n),
+            Accumulator::Values(n) if !value.is_null() => raises(n),
+            Accumulator::Sum(Some(total)) if !value.is_null() => total.adds(number_or_zero(value)),
+            _ => false,
+        }
     }
 
     /// The same over a row more.
@@ -103,6 +118,17 @@ fn or_null(alloc: Global, found: &Option<Wide>) -> Result<Wide, AllocError>
         Some(value) => value.copy(alloc),
         None => Ok(Wide::Null),
     }
+}
+
+/// Raises a count, where a u64 holds it then; answers whether it did.
+fn raises(n: &mut u64) -> bool
+    ensures { n.new ≡ (if result then n.old + 1 else n.old) }
+{
+    if *n == u64::MAX {
+        return false;
+    }
+    *n += 1;
+    true
 }
 
 fn raised(n: u64) -> Result<u64, AllocError>

@@ -11,7 +11,7 @@ ghost use Rattle.exec_group.specs.declared.fault.GroupFault.{GroupFault};
 use crate::{Accumulator, GroupFault};
 use col_value::{List, Value, Wide, WideRow};
 use expr_value::{Sight, Worth, value_of};
-use sql_bound::Aggregate;
+use sql_bound::{Aggregate, Expr};
 use std::alloc::{AllocError, Global};
 use std::marker::Model;
 
@@ -94,6 +94,7 @@ pub fn argument_of<'a>(a: &'a Aggregate, row: &'a [Value]) -> Worth<'a>
     ensures { wide_of result ≡ argument_in a.now.arg row.now }
 {
     match &a.arg {
+        Some(Expr::Col(i)) => Sight::of_row(row).column(*i),
         Some(arg) => value_of(arg, &Sight::of_row(row)),
         None => Worth::Null,
     }

@@ -1,6 +1,6 @@
 //! A sum that never passes what a result holds.
 
-ghost use Rattle.std.specs.Prelude.{◌≡◌, ℕ, ℤ, pos, ◌+◌, ◌+ℤ◌, ◌<◌, ◌≤◌, MatchOption};
+ghost use Rattle.std.specs.Prelude.{◌≡◌, ℕ, ℤ, pos, ◌+◌, ◌+ℤ◌, ◌<◌, ◌≤◌, if◌then◌else◌, IsTrue, MatchOption};
 ghost use Rattle.sql_bound.specs.Bounds.{magnitude, result_bound};
 
 use std::marker::Model;
@@ -53,5 +53,19 @@ impl Total {
             sum: self.sum + number,
             size,
         })
+    }
+
+    /// Adds a number where the magnitudes then add to no more than a result holds; answers whether it did.
+    pub fn adds(&mut self, number: i128) -> bool
+        ensures added { self.new ≡ (if result then (self.old.0 +ℤ number, self.old.1 + magnitude number) else self.old) }
+        ensures fits { IsTrue result → self.old.1 + magnitude number ≤ result_bound }
+    {
+        match self.with(number) {
+            Some(total) => {
+                *self = total;
+                true
+            },
+            None => false,
+        }
     }
 }

@@ -1,11 +1,12 @@
 -- The rows of a block that are alive.
 use Rattle.std.proofs.Common.{◌≡◌, ℕ, suc, ◌+◌, ◌≤◌, ◌<◌, ◌++◌, nat_le, not, Bool, true, false, cond, List, [], ◌∷◌, length, map, filter, take, get_or, refl, sym, ap, ap₂, ◌∙◌, arith, subst}
-use Rattle.std.specs.Prelude.{Option, Some, None, ◌&&◌}
+use Rattle.std.specs.Prelude.{Option, Some, None, option_map, ◌&&◌}
 use Rattle.std.specs.List.{All, range_with_len, slice_get}
-use Rattle.std.specs.Option.{IfSome, option_map_or}
+use Rattle.std.specs.Option.{IfSome, IsSomeAnd, option_map_or}
+use Rattle.std.proofs.lemmas.Option.{slice_get-get_or, slice_get-map}
 use Rattle.std.proofs.lemmas.List.{length-map, length-take-le, take_more}
-use Rattle.std.proofs.lemmas.List.Elements.{All-append, All-cons, All-get_or, All-head, All-nil, All-tail}
-use Rattle.std.proofs.lemmas.List.FromFn.{length-map-range_with_len, map-range_with_len_more}
+use Rattle.std.proofs.lemmas.List.Elements.{All-cons, All-get_or, All-head, All-nil, All-tail, All-weaker}
+use Rattle.std.proofs.lemmas.List.FromFn.{get_or-range_with_len, length-range_with_len, map-range_with_len_more}
 use Rattle.common_laws.specs.Bags.{SameBag}
 use Rattle.common_laws.proofs.BagLaws.{count_append, count_cons}
 use Rattle.col_value.specs.Order.{IsValue}
@@ -18,9 +19,8 @@ use Rattle.stored_rows.specs.Held.{stamped_from}
 use Rattle.row_bounds.specs.Bounds.{within}
 use Rattle.row_bounds.specs.declared.bound.Bound.{Bound}
 use Rattle.query_cover.specs.Seen.{placed}
-use Rattle.exec_scan.specs.Batches.{chosen, IsBatch, is_shown, Shown}
-use Rattle.exec_scan.specs.Reading.{AreInserted, AreLong, cell, HaveRows, IsLong, Narrows, row_of, rows_of, ShowsRows}
-use Rattle.exec_scan.proofs.Batched.{batch_joined}
+use Rattle.exec_scan.specs.Batches.{AreLong, cell, chosen, HaveAll, IsLong, is_shown, row_of, Shown}
+use Rattle.exec_scan.specs.Reading.{AreInserted, HaveRows, Narrows, rows_of, ShowsRows}
 
 -- ---- element by element
 
@@ -45,14 +45,50 @@ epochs_next alive inserted epochs next i b lt told is was =
     is ∙ ap₂ (λ (ns : List ℕ) (x : Bool). ns ++ cond x (ins ∷ []) []) was (told ∙ ap (λ (n : ℕ). get_or alive n false) (sym long))
     ∙ sym (ap (chosen alive) (take_more inserted i 0 lt) ∙ chosen_more alive (take i inserted) ins)
 
--- one row more
-pub rows_next : (alive : List Bool) (columns : List (Option (List Value))) (made next : List (List Value)) (i : ℕ) (b : Bool) → b ≡ get_or alive i false → next ≡ made ++ cond b (row_of columns i ∷ []) []
-    → made ≡ chosen alive (rows_of columns i) → next ≡ chosen alive (rows_of columns (i + 1))
-rows_next alive columns made next i b told is was =
+-- one place more
+same_all : {X : Type 0} (xs : List X) → map (λ (x : X). x) xs ≡ xs
+same_all [] = refl
+same_all {X} (x ∷ xs) = ap (λ (ys : List X). x ∷ ys) (same_all xs)
+
+range_more : (i : ℕ) → range_with_len 0 (i + 1) ≡ range_with_len 0 i ++ i ∷ []
+range_more i =
     let same : 0 + i ≡ i = omega arith in
-    let long : length (rows_of columns i) ≡ i = length-map-range_with_len (row_of columns) 0 i in
-    is ∙ ap₂ (λ (rs : List (List Value)) (x : Bool). rs ++ cond x (row_of columns i ∷ []) []) was (told ∙ ap (λ (n : ℕ). get_or alive n false) (sym long))
-    ∙ sym (ap (chosen alive) (map-range_with_len_more (row_of columns) 0 i i same) ∙ chosen_more alive (rows_of columns i) (row_of columns i))
+    sym (same_all (range_with_len 0 (i + 1))) ∙ map-range_with_len_more (λ (n : ℕ). n) 0 i i same ∙ ap (λ (ns : List ℕ). ns ++ i ∷ []) (same_all (range_with_len 0 i))
+
+pub places_next : (alive : List Bool) (places next : List ℕ) (i : ℕ) (b : Bool) → b ≡ get_or alive i false → next ≡ places ++ cond b (i ∷ []) [] → places ≡ chosen alive (range_with_len 0 i) → next ≡ chosen alive (range_with_len 0 (i + 1))
+places_next alive places next i b told is was =
+    is ∙ ap₂ (λ (ns : List ℕ) (x : Bool). ns ++ cond x (i ∷ []) []) was (told ∙ ap (λ (n : ℕ). get_or alive n false) (sym (length-range_with_len 0 i)))
+    ∙ sym (ap (chosen alive) (range_more i) ∙ chosen_more alive (range_with_len 0 i) i)
+
+-- ---- the rows at the places of those that are alive
+
+chosen_map : {X Y : Type 0} (f : X → Y) (bs : List Bool) (xs : List X) → map f (chosen bs xs) ≡ chosen bs (map f xs)
+chosen_map f [] xs = refl
+chosen_map f (b ∷ bs) [] = refl
+chosen_map {X} {Y} f (true ∷ bs) (x ∷ xs) = ap (λ (ys : List Y). f x ∷ ys) (chosen_map f bs xs)
+chosen_map f (false ∷ bs) (x ∷ xs) = chosen_map f bs xs
+
+chosen_all : {X : Type 0} (P : X → Type 0) (bs : List Bool) (xs : List X) → All P xs → All P (chosen bs xs)
+chosen_all P [] xs all = All-nil P
+chosen_all P (b ∷ bs) [] all = All-nil P
+chosen_all P (true ∷ bs) (x ∷ xs) all = All-cons P x (chosen bs xs) (All-head P x xs all) (chosen_all P bs xs (All-tail P x xs all))
+chosen_all P (false ∷ bs) (x ∷ xs) all = chosen_all P bs xs (All-tail P x xs all)
+
+range_inside : (n : ℕ) → All (λ i. i < n) (range_with_len 0 n)
+range_inside n = λ i d lt.
+    let long : i < n = omega (arith, lt, length-range_with_len 0 n) in
+    let is : get_or (range_with_len 0 n) i d ≡ 0 + i = get_or-range_with_len 0 n i d long in
+    subst (λ (k : ℕ). k < n) (sym is) (omega (arith, long))
+
+pub places_have : (alive : List Bool) (columns : List (Option (List Value))) (places : List ℕ) → AreLong (length alive) columns → places ≡ chosen alive (range_with_len 0 (length alive)) → HaveAll columns places
+places_have alive columns places long is = record {
+  count = length alive;
+  long = long;
+  within = subst (λ (ns : List ℕ). All (λ i. i < length alive) ns) (sym is) (chosen_all (λ (i : ℕ). i < length alive) alive (range_with_len 0 (length alive)) (range_inside (length alive)));
+}
+
+pub places_rows : (alive : List Bool) (columns : List (Option (List Value))) (places : List ℕ) (rows : List (List Value)) → rows ≡ map (row_of columns) places → places ≡ chosen alive (range_with_len 0 (length alive)) → rows ≡ chosen alive (rows_of columns (length alive))
+places_rows alive columns places rows are is = are ∙ ap (map (row_of columns)) is ∙ chosen_map (row_of columns) alive (range_with_len 0 (length alive))
 
 -- ---- which rows are shown
 
@@ -206,16 +242,23 @@ cells_valid count i [] lt long = All-nil IsValue
 cells_valid count i (v ∷ columns) lt long =
     All-cons IsValue (cell i v) (row_of columns i) (cell_valid count i v lt (All-head (IsLong count) v columns long)) (cells_valid count i columns lt (All-tail (IsLong count) v columns long))
 
--- the values of a row that is alive, behind those of others
-pub cells_joined : (count i from : ℕ) (columns : List (Option (List Value))) (values next : List Value) (starts later : List ℕ) → i < count → AreLong count columns → IsBatch (length columns) values starts
-    → from ≡ length values → next ≡ values ++ row_of columns i → later ≡ starts ++ from ∷ [] → IsBatch (length columns) next later
-cells_joined count i from columns values next starts later lt long is at are begin =
-    subst (λ (vs : List Value). IsBatch (length columns) vs later) (sym are)
-    (subst (λ (ss : List ℕ). IsBatch (length columns) (values ++ row_of columns i) ss) (sym (begin ∙ ap (λ (n : ℕ). starts ++ n ∷ []) at))
-    (batch_joined (length columns) values (row_of columns i) starts is (length-map columns (cell i)) (All-append IsValue values (row_of columns i) is.valid (cells_valid count i columns lt long))))
+-- a row of columns that have one at its place
+column_there : (count i : ℕ) (column : Option (List Value)) → i < count → IsLong count column → IfSome column (λ vs. i < length vs)
+column_there count i None lt long = tt
+column_there count i (Some vs) lt long = omega (arith, lt, long.0)
 
-pub no_cells : (width : ℕ) (values : List Value) (starts : List ℕ) → values ≡ [] → starts ≡ [] → IsBatch width values starts
-no_cells width values starts none empty = record {
-  within = subst (λ (ss : List ℕ). All (λ at. at + width ≤ length values) ss) (sym empty) (All-nil (λ at. at + width ≤ length values));
-  valid = subst (λ (vs : List Value). All IsValue vs) (sym none) (All-nil IsValue);
-}
+pub columns_there : (columns : List (Option (List Value))) (places : List ℕ) (at i : ℕ) → HaveAll columns places → at < length places → i ≡ get_or places at 0 → All (λ o. IfSome o (λ vs. i < length vs)) columns
+columns_there columns places at i have lt is =
+    let inside : i < have.count = subst (λ (n : ℕ). n < have.count) (sym is) (have.within at 0 lt) in
+    All-weaker (IsLong have.count) (λ o. IfSome o (λ vs. i < length vs)) (λ o long. column_there have.count i o inside long) columns have.long
+
+pub row_valid : (columns : List (Option (List Value))) (places : List ℕ) (at i : ℕ) (row : List Value) → HaveAll columns places → at < length places → i ≡ get_or places at 0 → row ≡ row_of columns i → All IsValue row
+row_valid columns places at i row have lt is made =
+    let inside : i < have.count = subst (λ (n : ℕ). n < have.count) (sym is) (have.within at 0 lt) in
+    subst (λ (vs : List Value). All IsValue vs) (sym made) (cells_valid have.count i columns inside have.long)
+
+pub row_found : (columns : List (Option (List Value))) (places : List ℕ) (at i : ℕ) (row : List Value) → at < length places → i ≡ get_or places at 0 → row ≡ row_of columns i → IsSomeAnd (slice_get (map (row_of columns) places) at) (λ r. row ≡ r)
+row_found columns places at i row lt is made =
+    subst (λ (o : Option (List Value)). IsSomeAnd o (λ r. row ≡ r))
+    (sym (slice_get-map (row_of columns) places at ∙ ap (option_map (row_of columns)) (slice_get-get_or places at 0 lt)))
+    (made ∙ ap (row_of columns) is)

@@ -9,7 +9,8 @@ use Rattle.col_value.specs.declared.row.Asked.{Asked}
 use Rattle.col_value.specs.declared.value.Value.{Value}
 use Rattle.col_value.specs.declared.value.Value.TheVariants as value
 use Rattle.query_cover.specs.Seen.{placed, value_at}
-use Rattle.exec_scan.specs.Reading.{AreColumns, AreFilled, AreLong, cell, column_of, Fills, HaveRows, IsColumn, IsLong, row_of, values_at}
+use Rattle.exec_scan.specs.Batches.{AreLong, cell, IsLong, row_of}
+use Rattle.exec_scan.specs.Reading.{AreColumns, AreFilled, column_of, Fills, HaveRows, IsColumn, values_at}
 
 -- ---- none is read
 

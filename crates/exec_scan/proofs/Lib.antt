@@ -11,3 +11,4 @@ pub mod Narrowing
 pub mod Passed
 pub mod Stepping
 pub mod Within
+pub mod Replaced

@@ -11,7 +11,8 @@ use Rattle.col_value.specs.declared.value.Value.TheVariants as value
 use Rattle.row_bounds.specs.Bounds.{lies_in, within}
 use Rattle.row_bounds.specs.declared.bound.Bound.{Bound}
 use Rattle.query_cover.specs.Seen.{placed, value_at}
-use Rattle.exec_scan.specs.Reading.{cell, Fills, HaveRows, Narrows, NarrowsBy, RulesOut, Stays}
+use Rattle.exec_scan.specs.Batches.{cell}
+use Rattle.exec_scan.specs.Reading.{Fills, HaveRows, Narrows, NarrowsBy, RulesOut, Stays}
 use Rattle.exec_scan.proofs.Filled.{cell_here, columns_filled, equal_or}
 use Rattle.exec_scan.proofs.Passed.{out_of_one, placed_at}
 

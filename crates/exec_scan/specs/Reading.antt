@@ -15,7 +15,7 @@ use Rattle.container_blocks.specs.Blocks.{rows_in}
 use Rattle.row_bounds.specs.Bounds.{lies_in, within}
 use Rattle.row_bounds.specs.declared.bound.Bound.{Bound}
 use Rattle.query_cover.specs.Seen.{placed}
-use Rattle.exec_scan.specs.Batches.{Shown}
+use Rattle.exec_scan.specs.Batches.{cell, row_of, Shown}
 use Rattle.exec_scan.specs.Scanning.{Shows, start}
 
 -- where a disk tells its contents, and the container holds rows, P holds of the rows of block b
@@ -56,21 +56,7 @@ pub record AreFilled (places : List (Option ℕ)) (upto : ℕ) (columns : List (
   pub read : AreColumns places columns rows
   pub whole : (c : ℕ) → c < upto → IsColumn (slice_index_or places c None) (slice_index_or columns c None) rows
 
--- a column that was read has so many values, all of a table
-abbrev pub IsLong : ℕ → Option (List Value) → Type 0
-IsLong count column = IfSome column (λ vs. (length vs ≡ count) × All IsValue vs)
-
-abbrev pub AreLong : ℕ → List (Option (List Value)) → Type 0
-AreLong count columns = All (IsLong count) columns
-
--- the value of a column in a row, NULL where the column wasn't read
-abbrev pub cell : ℕ → Option (List Value) → Value
-cell i column = option_map_or (λ vs. slice_index_or vs i value.Null) column value.Null
-
--- the row at a place, and the first rows
-abbrev pub row_of : List (Option (List Value)) → ℕ → List Value
-row_of columns i = map (cell i) columns
-
+-- the first rows
 abbrev pub rows_of : List (Option (List Value)) → ℕ → List (List Value)
 rows_of columns count = map (row_of columns) (range_with_len 0 count)
 

@@ -5,30 +5,38 @@ ghost use Rattle.std.specs.List.{All, slice_get};
 ghost use Rattle.std.specs.Option.{IfSome};
 ghost use Rattle.col_value.specs.Order.{IsRow, IsValue};
 ghost use Rattle.query_cover.specs.Seen.{placed, value_at};
-ghost use Rattle.exec_scan.specs.Batches.{IsBatch, rows_at};
+ghost use Rattle.exec_scan.specs.Batches.{HaveAll, IsBatch, row_of, rows_at};
 
+use crate::slots::{set_cells, set_values};
+use block_codec::Block;
 use col_value::Value;
 use std::alloc::{AllocError, Global};
 use std::marker::Model;
 
-/// Up to 1,024 rows of a table's columns, and the epochs that inserted them, where these are told. The values of a row stand behind each
-/// other.
+/// How the rows of a batch are held.
+#[derive(Drop)]
+pub enum Form {
+    /// Rows of so many values, which stand behind each other, and where each row begins.
+    Made(usize, Vec<Value>, Vec<usize>),
+    /// Columns, none where all values are NULL, and the places of the rows in them.
+    Columns(Vec<Option<Block>>, Vec<usize>),
+}
+
+/// Up to 1,024 rows of a table's columns, and the epochs that inserted them, where these are told.
 #[derive(Drop)]
 pub struct Batch {
-    width: usize,
-    values: Vec<Value>,
-    starts: Vec<usize>,
+    form: Form,
     inserted: Vec<u64>,
 }
 
 impl Model for Batch {
-    ghost use Rattle.exec_scan.specs.Batches.{IsBatch, rows_at, Shown};
+    ghost use Rattle.exec_scan.specs.Batches.{AreRows, rows_in, Shown};
 
     ghost Value = { Shown };
 
-    ghost view = { λ b. record { rows = rows_at b.width b.values.items b.starts.items; inserted = b.inserted.items } };
+    ghost view = { λ b. record { rows = rows_in b.form; inserted = b.inserted.items } };
 
-    ghost invariant = { λ b. IsBatch b.width b.values.items b.starts.items };
+    ghost invariant = { λ b. AreRows b.form };
 }
 
 /// The value of a row at a place, NULL where there is none.
@@ -64,6 +72,41 @@ pub fn put_row(
     Ok(())
 }
 
+/// Makes `row` the row at a place of rows that begin at these places of a list of values.
+fn copy_made(
+    alloc: Global,
+    width: usize,
+    values: &[Value],
+    starts: &[usize],
+    place: usize,
+    row: &mut Vec<Value>,
+) -> Result<(), AllocError>
+    requires there { place < length starts.now }
+    requires batch { IsBatch width values.now starts.now }
+    ensures row { OnOk result (IsSomeAnd (slice_get (rows_at width values.now starts.now) place) (λ r. row.new.items ≡ r)) }
+    ensures valid { OnOk result (IsRow row.new.items) }
+{
+    let first = starts[place];
+    set_values(alloc, row, &values[first..first + width])
+}
+
+/// Makes `row` the row at a place of the rows of columns at these places.
+#[tactic(auto, using(crate::proofs::Alive::columns_there, crate::proofs::Alive::row_valid, crate::proofs::Alive::row_found))]
+fn copy_cells(
+    alloc: Global,
+    columns: &[Option<Block>],
+    places: &[usize],
+    place: usize,
+    row: &mut Vec<Value>,
+) -> Result<(), AllocError>
+    requires there { place < length places.now }
+    requires have { HaveAll columns.now places.now }
+    ensures row { OnOk result (IsSomeAnd (slice_get (map (row_of columns.now) places.now) place) (λ r. row.new.items ≡ r)) }
+    ensures valid { OnOk result (IsRow row.new.items) }
+{
+    set_cells(alloc, row, columns, places[place])
+}
+
 impl Batch {
     /// No row.
     pub(crate) fn empty(alloc: Global) -> Batch
@@ -71,9 +114,7 @@ impl Batch {
         ensures inserted { result.inserted ≡ [] }
     {
         Batch {
-            width: 0,
-            values: Vec::new(alloc),
-            starts: Vec::new(alloc),
+            form: Form::Made(0, Vec::new(alloc), Vec::new(alloc)),
             inserted: Vec::new(alloc),
         }
     }
@@ -90,9 +131,23 @@ impl Batch {
         ensures inserted { result.inserted ≡ inserted.items }
     {
         Batch {
-            width,
-            values,
-            starts,
+            form: Form::Made(width, values, starts),
+            inserted,
+        }
+    }
+
+    /// The rows of columns at these places, and these insert epochs.
+    pub(crate) fn of_columns(
+        columns: Vec<Option<Block>>,
+        places: Vec<usize>,
+        inserted: Vec<u64>,
+    ) -> Batch
+        requires { HaveAll columns.items places.items }
+        ensures rows { result.rows ≡ map (row_of columns.items) places.items }
+        ensures inserted { result.inserted ≡ inserted.items }
+    {
+        Batch {
+            form: Form::Columns(columns, places),
             inserted,
         }
     }
@@ -101,17 +156,38 @@ impl Batch {
     pub fn len(&self) -> usize
         ensures { result ≡ length self.now.rows }
     {
-        self.starts.len()
+        match &self.form {
+            Form::Made(_, _, starts) => starts.len(),
+            Form::Columns(_, places) => places.len(),
+        }
     }
 
-    /// The row at a place.
-    pub fn row(&self, place: usize) -> &[Value]
+    /// Makes `row` the row at a place. A text that it has there already isn't copied again.
+    pub fn copy_row(
+        &self,
+        alloc: Global,
+        place: usize,
+        row: &mut Vec<Value>,
+    ) -> Result<(), AllocError>
         requires { place < length self.now.rows }
-        ensures row { IsSomeAnd (slice_get self.now.rows place) (λ row. result.now ≡ row) }
-        ensures valid { IsRow result.now }
+        ensures row { OnOk result (IsSomeAnd (slice_get self.now.rows place) (λ r. row.new.items ≡ r)) }
+        ensures valid { OnOk result (IsRow row.new.items) }
     {
-        let first = self.starts[place];
-        &self.values[first..first + self.width]
+        match &self.form {
+            Form::Made(width, values, starts) => {
+                copy_made(
+                    alloc,
+                    *width,
+                    values.as_slice(),
+                    starts.as_slice(),
+                    place,
+                    row,
+                )
+            },
+            Form::Columns(columns, places) => {
+                copy_cells(alloc, columns.as_slice(), places.as_slice(), place, row)
+            },
+        }
     }
 
     /// The epoch that inserted the row at a place, 0 where it isn't told.

@@ -1,68 +1,14 @@
 //! The rows of a block that are alive, as a batch.
 
-ghost use Rattle.std.specs.Prelude.{◌≡◌, ◌<◌, ◌++◌, ◌∷◌, [], if◌then◌else◌, false, true, length, slice_index_or, IfOk, OnOk};
-ghost use Rattle.std.specs.List.{All};
-ghost use Rattle.std.specs.Option.{IfSome};
-ghost use Rattle.col_value.specs.Order.{IsValue};
-ghost use Rattle.exec_scan.specs.Batches.{chosen, IsBatch, rows_at};
-ghost use Rattle.exec_scan.specs.Reading.{AreLong, cell, row_of, rows_of};
+ghost use Rattle.std.specs.Prelude.{◌≡◌, ◌++◌, ◌∷◌, [], if◌then◌else◌, false, true, length, slice_index_or, IfOk, OnOk};
+ghost use Rattle.std.specs.List.{range_with_len};
+ghost use Rattle.exec_scan.specs.Batches.{AreLong, chosen};
+ghost use Rattle.exec_scan.specs.Reading.{rows_of};
 
 use crate::batch::Batch;
 use crate::shown::put_epoch;
 use block_codec::Block;
-use col_value::Value;
 use std::alloc::{AllocError, Global};
-
-/// The value of a column in a row, NULL where the column wasn't read.
-fn cell(alloc: Global, column: &Option<Block>, i: usize) -> Result<Value, AllocError>
-    requires { IfSome column.now (λ vs. i < length vs) }
-    ensures { IfOk result (λ v. v ≡ cell i column.now) }
-{
-    match column {
-        Some(values) => values.copy_at(alloc, i),
-        None => Ok(Value::Null),
-    }
-}
-
-/// Appends the values of columns in a row.
-fn put_cells(
-    alloc: Global,
-    values: &mut Vec<Value>,
-    columns: &[Option<Block>],
-    i: usize,
-) -> Result<(), AllocError>
-    requires { All (λ o. IfSome o (λ vs. i < length vs)) columns.now }
-    ensures { OnOk result (values.new.items ≡ values.old.items ++ row_of columns.now i) }
-{
-    for column in columns {
-        values.push(cell(alloc, column, i)?)?;
-    }
-    Ok(())
-}
-
-/// Appends the values of columns in a row and where they begin, if the row is alive.
-fn put_row_alive(
-    alloc: Global,
-    values: &mut Vec<Value>,
-    starts: &mut Vec<usize>,
-    alive: bool,
-    columns: &[Option<Block>],
-    count: usize,
-    i: usize,
-) -> Result<(), AllocError>
-    requires place { i < count }
-    requires long { AreLong count columns.now }
-    requires batch { IsBatch (length columns.now) values.old.items starts.old.items }
-    ensures rows { OnOk result (rows_at (length columns.now) values.new.items starts.new.items ≡ rows_at (length columns.now) values.old.items starts.old.items ++ (if alive then row_of columns.now i ∷ [] else [])) }
-    ensures batch { OnOk result (IsBatch (length columns.now) values.new.items starts.new.items) }
-{
-    if alive {
-        starts.push(values.len())?;
-        put_cells(alloc, values, columns, i)?;
-        return Ok(());
-    }
-    Ok(())
-}
 
 /// How many rows are alive.
 fn count_alive(alive: &[bool]) -> usize {
@@ -73,32 +19,26 @@ fn count_alive(alive: &[bool]) -> usize {
     count
 }
 
-/// Those of so many rows that are alive, and their epochs.
-fn rows_alive(
-    alloc: Global,
-    alive: &[bool],
-    columns: &[Option<Block>],
-    epochs: Vec<u64>,
-) -> Result<Batch, AllocError>
-    requires { AreLong (length alive.now) columns.now }
-    ensures rows { IfOk result (λ b. b.rows ≡ chosen alive.now (rows_of columns.now (length alive.now))) }
-    ensures inserted { IfOk result (λ b. b.inserted ≡ epochs.items) }
+/// Appends a place, if its row is alive.
+fn put_place(places: &mut Vec<usize>, alive: bool, place: usize) -> Result<(), AllocError>
+    ensures { OnOk result (places.new.items ≡ places.old.items ++ (if alive then place ∷ [] else [])) }
 {
-    let count = count_alive(alive);
-    let mut starts = Vec::with_capacity(alloc, count)?;
-    let mut values = Vec::with_capacity(alloc, count.saturating_mul(columns.len()))?;
-    for i in 0..alive.len() {
-        put_row_alive(
-            alloc,
-            &mut values,
-            &mut starts,
-            alive[i],
-            columns,
-            alive.len(),
-            i,
-        )?;
+    if alive {
+        places.push(place)?;
+        return Ok(());
     }
-    Ok(Batch::of(columns.len(), values, starts, epochs))
+    Ok(())
+}
+
+/// The places of the rows that are alive.
+fn places_alive(alloc: Global, alive: &[bool]) -> Result<Vec<usize>, AllocError>
+    ensures { IfOk result (λ v. v.items ≡ chosen alive.now (range_with_len 0 (length alive.now))) }
+{
+    let mut places = Vec::with_capacity(alloc, count_alive(alive))?;
+    for i in 0..alive.len() {
+        put_place(&mut places, alive[i], i)?;
+    }
+    Ok(places)
 }
 
 /// Whether the row at a place is alive.
@@ -139,17 +79,19 @@ fn epochs_alive(
 }
 
 /// Those of the rows of a block that are alive, made of its columns, and their epochs, where they are told.
+#[tactic(auto, using(crate::proofs::Alive::places_have, crate::proofs::Alive::places_rows))]
 pub fn batch_alive(
     alloc: Global,
     stamps: bool,
     alive: &[bool],
-    columns: &[Option<Block>],
+    columns: Vec<Option<Block>>,
     inserted: &[u64],
 ) -> Result<Batch, AllocError>
-    requires { AreLong (length alive.now) columns.now }
-    ensures rows { IfOk result (λ b. b.rows ≡ chosen alive.now (rows_of columns.now (length alive.now))) }
+    requires { AreLong (length alive.now) columns.items }
+    ensures rows { IfOk result (λ b. b.rows ≡ chosen alive.now (rows_of columns.items (length alive.now))) }
     ensures inserted { IfOk result (λ b. stamps ≡ true → b.inserted ≡ chosen alive.now inserted.now) }
 {
     let epochs = epochs_alive(alloc, stamps, alive, inserted)?;
-    rows_alive(alloc, alive, columns, epochs)
+    let places = places_alive(alloc, alive)?;
+    Ok(Batch::of_columns(columns, places, epochs))
 }

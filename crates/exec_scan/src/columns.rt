@@ -10,7 +10,8 @@ ghost use Rattle.ros_container.specs.Encodings.{written_of};
 ghost use Rattle.ros_container.specs.Held.{BlamesContainer};
 ghost use Rattle.ros_container.specs.Readable.{IsReadable};
 ghost use Rattle.exec_scan.specs.Opened.{HoldsAll, HoldsNeeded, IsNeeded};
-ghost use Rattle.exec_scan.specs.Reading.{AreLong, Fills, FillsRows, FillsUpto, IsColumn, IsLong, NarrowsBy, OfBlock, ReadsAlive};
+ghost use Rattle.exec_scan.specs.Batches.{AreLong, IsLong};
+ghost use Rattle.exec_scan.specs.Reading.{Fills, FillsRows, FillsUpto, IsColumn, NarrowsBy, OfBlock, ReadsAlive};
 ghost use Rattle.exec_scan.specs.Scanning.{AreOwn};
 
 use crate::ruling::{covers, rule_out};

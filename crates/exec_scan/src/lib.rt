@@ -5,7 +5,8 @@
 //! (`Gives` of `specs/Scanning.antt`), until no row is left. Blocks whose rows lie out of the bounds that the scan has, by the least and
 //! greatest values in the indexes, are passed over unread: those rows are told apart by `Shows`. Of a container only the columns that are
 //! needed are read, block by block; its epochs only where they are told, or some of them are later than the epoch that is asked for. A
-//! `Batch` holds up to 1,024 rows; none of them is a vector of its own.
+//! `Batch` holds up to 1,024 rows: those of a block in its columns, with the places of the rows that are left. None of them is made before
+//! `copy_row` asks for it, and that replaces the values of a row that is used again.
 //! `scan_rows` is all batches together: exactly the visible rows of the projection. `retains` says whether a row is retained from a mark on,
 //! and reads nothing.
 #![tactic(auto)]
@@ -20,6 +21,7 @@ mod retained;
 mod ruling;
 mod scan;
 mod shown;
+mod slots;
 mod whole;
 
 pub use batch::Batch;

@@ -104,13 +104,7 @@ pub fn read_block<D: Disk>(
         Ok(columns) => columns,
         Err(fault) => return Err(fault),
     };
-    match batch_alive(
-        alloc,
-        stamps,
-        alive,
-        columns.as_slice(),
-        inserted.as_slice(),
-    ) {
+    match batch_alive(alloc, stamps, alive, columns, inserted.as_slice()) {
         Ok(batch) => Ok(batch),
         Err(AllocError) => Err(StoreFault::Memory),
     }

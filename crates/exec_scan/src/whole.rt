@@ -1,7 +1,7 @@
 //! All rows of a scan.
 
-ghost use Rattle.std.specs.Prelude.{◌≡◌, ◌++◌, List, Some, length, map, IfOk, IfErr, OnOk};
-ghost use Rattle.std.specs.List.{All};
+ghost use Rattle.std.specs.Prelude.{◌≡◌, ◌<◌, ◌++◌, List, Some, length, map, IfOk, IfErr, OnOk, IsSomeAnd};
+ghost use Rattle.std.specs.List.{All, slice_get};
 ghost use Rattle.common_laws.specs.Causes.{HasCause};
 ghost use Rattle.common_laws.specs.Maps.{Contents};
 ghost use Rattle.col_disk.specs.Moved.{Moved, NoName};
@@ -16,20 +16,19 @@ ghost use Rattle.exec_scan.specs.Scanning.{AreOwn};
 use crate::batch::Batch;
 use crate::scan::Scan;
 use col_disk::{Disk, StoreFault};
-use col_value::{Row, Value};
+use col_value::Row;
 use proj_store::ProjStore;
 use std::alloc::{AllocError, Global};
 
-fn row_copy(alloc: Global, values: &[Value]) -> Result<Row, AllocError>
-    requires { IsRow values.now }
-    ensures row { IfOk result (λ r. r ≡ values.now) }
+/// The row of a batch at a place.
+fn row_at(alloc: Global, batch: &Batch, place: usize) -> Result<Row, AllocError>
+    requires { place < length batch.now.rows }
+    ensures row { IfOk result (λ r. IsSomeAnd (slice_get batch.now.rows place) (λ x. r ≡ x)) }
     ensures valid { IfOk result IsRow }
 {
-    let mut out = Vec::with_capacity(alloc, values.len())?;
-    for value in values {
-        out.push(value.copy(alloc)?)?;
-    }
-    Ok(Row::new(out))
+    let mut row = Vec::new(alloc);
+    batch.copy_row(alloc, place, &mut row)?;
+    Ok(Row::new(row))
 }
 
 /// Appends the rows of a batch.
@@ -39,7 +38,7 @@ fn add_batch(alloc: Global, out: &mut Vec<Row>, batch: &Batch) -> Result<(), All
     ensures valid { OnOk result (All IsRow out.new.items) }
 {
     for i in 0..batch.len() {
-        out.push(row_copy(alloc, batch.row(i))?)?;
+        out.push(row_at(alloc, batch, i)?)?;
     }
     Ok(())
 }

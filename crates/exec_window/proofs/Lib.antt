@@ -1,5 +1,7 @@
 pub mod Orders
 pub mod Walking
+pub mod Ranks
+pub mod Leading
 pub mod Whole
 pub mod Settling
 pub mod Placing

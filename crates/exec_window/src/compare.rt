@@ -5,6 +5,7 @@ ghost use Rattle.std.specs.Ordering.{is_eq};
 ghost use Rattle.col_value.specs.Order.{row_cmp, value_cmp};
 ghost use Rattle.col_value.specs.declared.value.Value.TheVariants.{Null};
 ghost use Rattle.sql_bound.specs.Outputs.{in_partition, keys_of, window_cmp, window_key_cmp};
+ghost use Rattle.exec_window.specs.Leads.{led_cmp};
 ghost use Rattle.exec_window.specs.Walks.{pair_of, walk_cmp};
 
 use crate::tuples::Tuple;
@@ -72,7 +73,7 @@ pub fn are_peers(window: &BoundWindow, row: &Row, other: &Row) -> bool
 }
 
 /// The order in which a window walks its rows.
-pub fn compare(window: &BoundWindow, a: &Tuple<'_>, b: &Tuple<'_>) -> Ordering
+fn compare_rows(window: &BoundWindow, a: &Tuple<'_>, b: &Tuple<'_>) -> Ordering
     ensures { result ≡ walk_cmp window.now (pair_of a.now) (pair_of b.now) }
 {
     match compare_parts(a.row, b.row, window.partition.as_slice()) {
@@ -88,4 +89,19 @@ pub fn compare(window: &BoundWindow, a: &Tuple<'_>, b: &Tuple<'_>) -> Ordering
         order => return order,
     }
     a.place.cmp(&b.place)
+}
+
+/// The same by what the leads tell, and only where they are alike by the rows.
+pub fn compare(window: &BoundWindow, a: &Tuple<'_>, b: &Tuple<'_>) -> Ordering
+    ensures { result ≡ led_cmp window.now a.now b.now }
+{
+    match a.lead.first.cmp(&b.lead.first) {
+        Ordering::Equal => {}
+        order => return order,
+    }
+    match a.lead.second.cmp(&b.lead.second) {
+        Ordering::Equal => {}
+        order => return order,
+    }
+    compare_rows(window, a, b)
 }

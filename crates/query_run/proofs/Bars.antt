@@ -23,7 +23,7 @@ use Rattle.sql_bound.specs.Used.{blanked, is_used}
 use Rattle.sql_bound.specs.Printed.{printed_cmp, IsPrinted}
 use Rattle.sql_bound.specs.Values.{of_row}
 use Rattle.query_order.proofs.OneList.{printed_total}
-use Rattle.query_order.proofs.Enough.{enough_front, enough_more}
+use Rattle.query_order.proofs.Enough.{enough_front, enough_itself, enough_more}
 use Rattle.query_order.proofs.Ordered.{Rises, rises_take}
 use Rattle.query_order.specs.Enough.{count_up_to, AreFew, IsEnough}
 use Rattle.query_run.specs.Outputs.{items_in, HoldsOutput, IsAdded, IsBar, IsPlain, IsWindowed}
@@ -178,6 +178,23 @@ row_barred order (Some n) all kept bar row is before enough = record {
       (All-cons (λ r. n ≤ count_up_to order r kept) row []
       (omega (arith, is, more_pass (λ k. is_le (printed_cmp order k bar)) (λ k. is_le (printed_cmp order k row)) kept (λ k passes. chained order bar row k before passes))) (All-nil (λ r. n ≤ count_up_to order r kept)));
 }
+
+-- so that it needn't join them
+pub row_behind : (q : BoundQuery) (row : List Wide) (rows : Rows) (bar : Option (List Wide)) → AreFew q.limit rows → IfSome bar (IsBar q.order q.limit rows) → IsSomeAnd bar (λ b. is_lt (printed_cmp q.order b row) ≡ true) → IsAdded q row rows rows bar bar
+row_behind q row rows None few is behind = absurd behind
+row_behind q row rows (Some b) few is behind = record {
+  enough = λ all before. row_barred q.order q.limit all rows b row is behind before;
+  few = few;
+  barred = λ was. was;
+}
+
+-- no row is enough of none
+pub none_enough : (q : BoundQuery) → IsEnough q.order q.limit [] []
+none_enough q = enough_itself q.order q.limit []
+
+pub none_few : (limit : Option ℕ) → AreFew limit []
+none_few None = tt
+none_few (Some n) = omega arith
 
 -- ---- what is collected
 

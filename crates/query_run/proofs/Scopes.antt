@@ -1,8 +1,8 @@
 -- What is collected, and the groups as their expressions see them.
 use Rattle.std.proofs.Common.{◌≡◌, ℕ, zero, suc, ◌+◌, ◌<◌, ◌≤◌, ◌++◌, Bool, true, false, cond, if◌then◌else◌, List, [], ◌∷◌, length, get_or, drop, map, filter, refl, sym, ap, ap₂, ◌∙◌, arith, inl, inr, append_assoc, subst, add-one, drop-cons}
-use Rattle.std.proofs.lemmas.List.{drop_all, length-map, map-append}
+use Rattle.std.proofs.lemmas.List.{append-nil, drop_all, length-map, map-append}
 use Rattle.std.proofs.lemmas.List.Elements.{All-cons, All-get_or, All-contains_itself, All-head, All-nil, All-tail, filter-append}
-use Rattle.std.specs.Prelude.{zip}
+use Rattle.std.specs.Prelude.{Option, zip}
 use Rattle.std.specs.List.{All, Contains}
 use Rattle.col_value.specs.Order.{IsRow, IsValue}
 use Rattle.col_value.specs.declared.value.Value.{Value}
@@ -19,8 +19,9 @@ use Rattle.sql_bound.specs.Bounds.{bound_of_aggregate, column_bound, is_narrow}
 use Rattle.sql_bound.specs.Outputs.{aggregate_over, group_keys, group_scope, group_scopes, keys_of, kept, members, output, same_keys, seen_rows, tuple_scopes, window_scopes, IsSumTooGreat}
 use Rattle.sql_bound.specs.Used.{blanked, is_used}
 use Rattle.sql_bound.specs.Values.{Scope}
+use Rattle.query_order.proofs.Enough.{enough_itself}
 use Rattle.query_order.specs.Enough.{IsEnough}
-use Rattle.query_run.specs.Outputs.{HoldsOutput, items_in, scope_of, scopes_of, shown, IsPlain, IsWindowed}
+use Rattle.query_run.specs.Outputs.{HoldsOutput, IsAdded, items_in, scope_of, scopes_of, shown, IsPlain, IsWindowed}
 use Rattle.query_run.specs.Windows.{HasGreatWindow}
 use Rattle.query_run.specs.declared.collected.Collected.{Collected}
 
@@ -51,6 +52,42 @@ group_more q keys aggs i k a out next all h is g are more before =
     ap (λ (l : List (List Wide)). l ++ shown q rest) more ∙ append_assoc out (shown q (scope_of k a ∷ [])) (shown q rest)
     ∙ ap (λ (l : List (List Wide)). out ++ l) (sym (shown_parts q (scope_of k a ∷ []) rest))
     ∙ ap (λ (ss : List Scope). out ++ shown q ss) (sym (next_scope keys aggs i k a h is g are)) ∙ before
+
+-- a group that HAVING doesn't keep, and one that it keeps
+pub shown_none : (q : BoundQuery) (s : Scope) (out : List (List Wide)) → is_shown q s ≡ false → (all : List (List Wide)) → IsEnough q.order q.limit all out → IsEnough q.order q.limit (all ++ shown q (s ∷ [])) out
+shown_none q s out hidden all enough =
+    subst (λ (rows : List (List Wide)). IsEnough q.order q.limit rows out) (sym (ap (λ (b : Bool). all ++ map (items_in q) (cond b (s ∷ []) [])) hidden ∙ append-nil all)) enough
+
+pub shown_one : (q : BoundQuery) (s : Scope) (row : List Wide) (old new : List (List Wide)) (bar next : Option (List Wide)) → is_shown q s ≡ true → row ≡ items_in q s → IsAdded q row old new bar next
+    → (all : List (List Wide)) → IsEnough q.order q.limit all old → IsEnough q.order q.limit (all ++ shown q (s ∷ [])) new
+shown_one q s row old new bar next shows is added all enough =
+    subst (λ (rows : List (List Wide)). IsEnough q.order q.limit (all ++ rows) new) (ap (λ (r : List Wide). r ∷ []) is ∙ sym (ap (λ (b : Bool). map (items_in q) (cond b (s ∷ []) [])) shows)) (added.enough all enough)
+
+-- rows that are enough of the first groups' ones, where these are still to come
+pub record SoFar (q : BoundQuery) (out rest all : List (List Wide)) : Type 0 where
+  pub done : List (List Wide)
+  pub enough : IsEnough q.order q.limit done out
+  pub whole : done ++ rest ≡ all
+
+pub so_far_none : (q : BoundQuery) (out all : List (List Wide)) → out ≡ [] → SoFar q out all all
+so_far_none q out all none = record {
+  done = [];
+  enough = subst (λ (rows : List (List Wide)). IsEnough q.order q.limit [] rows) (sym none) (enough_itself q.order q.limit []);
+  whole = refl;
+}
+
+pub so_far_more : (q : BoundQuery) (keys : List (List Value)) (aggs : List (List Wide)) (i : ℕ) (k : List Value) (a : List Wide) (out next all : List (List Wide)) → i < length keys → k ≡ get_or keys i k → i < length aggs → a ≡ get_or aggs i a
+    → ((done : List (List Wide)) → IsEnough q.order q.limit done out → IsEnough q.order q.limit (done ++ shown q (scope_of k a ∷ [])) next)
+    → SoFar q out (shown q (scopes_of (drop i keys) (drop i aggs))) all → SoFar q next (shown q (scopes_of (drop (i + 1) keys) (drop (i + 1) aggs))) all
+so_far_more q keys aggs i k a out next all h is g are goes before = record {
+  done = before.done ++ shown q (scope_of k a ∷ []);
+  enough = goes before.done before.enough;
+  whole = group_more q keys aggs i k a before.done (before.done ++ shown q (scope_of k a ∷ [])) all h is g are refl before.whole;
+}
+
+pub so_far_all : (q : BoundQuery) (out rest all : List (List Wide)) → rest ≡ [] → SoFar q out rest all → IsEnough q.order q.limit all out
+so_far_all q out rest all ends before =
+    subst (λ (rows : List (List Wide)). IsEnough q.order q.limit rows out) (sym (append-nil before.done) ∙ ap (λ (rows : List (List Wide)). before.done ++ rows) (sym ends) ∙ before.whole) before.enough
 
 pub group_here : (q : BoundQuery) (keys : List (List Value)) (aggs : List (List Wide)) (i : ℕ) (k : List Value) (a : List Wide) → i < length keys → k ≡ get_or keys i k → i < length aggs → a ≡ get_or aggs i a
     → All (IsGroupOf q) (scopes_of (drop i keys) (drop i aggs)) → IsGroupOf q (scope_of k a)

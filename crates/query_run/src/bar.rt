@@ -115,6 +115,37 @@ pub fn is_barred(query: &BoundQuery, bar: &Option<WideRow>, tuple: &[Value]) -> 
     }
 }
 
+/// How two output rows stand by one key of ORDER BY.
+fn key_order(a: &WideRow, b: &WideRow, column: usize, descending: bool) -> Ordering
+    ensures { result ≡ key_cmp (column, descending) a.now b.now }
+{
+    let order = order_of(&value_in(a, column), &value_in(b, column));
+    if descending { order.reverse() } else { order }
+}
+
+/// How two output rows stand in the printed order.
+fn printed_order(query: &BoundQuery, a: &WideRow, b: &WideRow) -> Ordering
+    ensures { result ≡ printed_cmp query.now.order a.now b.now }
+{
+    for (column, descending) in query.order.as_slice() {
+        match key_order(a, b, *column, *descending) {
+            Ordering::Equal => {}
+            order => return order,
+        }
+    }
+    a.order(b)
+}
+
+/// Whether an output row stands behind the bar.
+pub fn is_behind(query: &BoundQuery, bar: &Option<WideRow>, row: &WideRow) -> bool
+    ensures { result ≡ true → IsSomeAnd bar.now (λ b. is_lt (printed_cmp query.now.order b row.now) ≡ true) }
+{
+    match bar {
+        Some(bar) => printed_order(query, bar, row).is_lt(),
+        None => false,
+    }
+}
+
 /// The last of some rows.
 fn last_of(alloc: Global, rows: &[WideRow]) -> Result<Option<WideRow>, AllocError>
     ensures { IfOk result (λ last. IfSome last (λ row. slice_get rows.now (length rows.now - 1) ≡ Some row)) }

@@ -1,13 +1,14 @@
 //! What is collected of the tuples of a query.
 
 ghost use Rattle.std.specs.Prelude.{◌≡◌, ◌++◌, ◌∷◌, false, List, [], OnOk, IfOk};
+ghost use Rattle.std.specs.Option.{IfSome};
 ghost use Rattle.col_value.specs.Order.{IsRow};
 ghost use Rattle.col_value.specs.declared.value.Value.{Value};
 ghost use Rattle.query_laws.specs.Bounded.{IsBoundedQuery};
 ghost use Rattle.query_order.specs.Enough.{AreFew};
-ghost use Rattle.query_run.specs.Outputs.{HoldsOutput, IsAdded};
+ghost use Rattle.query_run.specs.Outputs.{HoldsOutput, IsAdded, IsBar};
 
-use crate::bar::{bar_of, is_barred};
+use crate::bar::{bar_of, is_barred, is_behind};
 use crate::seen::{has_windows, seen_row};
 use col_value::{Row, Value, WideRow};
 use exec_group::Groups;
@@ -85,7 +86,7 @@ fn are_many(rows: &[WideRow], limit: Option<u128>) -> bool
 }
 
 /// A row joins the others. Where the query has a limit, they are cut back once they are many more, and the last of them is the bar.
-fn add_row(
+pub fn add_row(
     alloc: Global,
     rows: &mut Vec<WideRow>,
     bar: &mut Option<WideRow>,
@@ -104,4 +105,22 @@ fn add_row(
     *bar = bar_of(alloc, query, first.as_slice())?;
     *rows = first;
     Ok(())
+}
+
+/// The same, where a row that stands behind the bar is dropped at once.
+pub fn add_made(
+    alloc: Global,
+    rows: &mut Vec<WideRow>,
+    bar: &mut Option<WideRow>,
+    query: &BoundQuery,
+    row: WideRow,
+) -> Result<(), AllocError>
+    requires few { AreFew query.now.limit rows.old.items }
+    requires bar { IfSome bar.old (IsBar query.now.order query.now.limit rows.old.items) }
+    ensures { OnOk result (IsAdded query.now row rows.old.items rows.new.items bar.old bar.new) }
+{
+    if is_behind(query, bar, &row) {
+        return Ok(());
+    }
+    add_row(alloc, rows, bar, query, row)
 }

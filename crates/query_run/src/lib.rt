@@ -3,7 +3,7 @@
 //! `printed` gives what `sql_bound` defines a query to print. The rows of each FROM item behind the first stand in a table under the
 //! columns that a condition equates with columns of the items before it, so that only rows that can join are put together; a row that
 //! the conditions on it alone refuse isn't there. Each condition is tested as soon as a tuple has the columns at which it looks, and
-//! where it isn't true no row is joined to the tuple (`false_refuses`). Each tuple that is kept goes at once to its group, or becomes
+//! where it isn't true no row is joined to the tuple (`false_refuses`); one that asks for many literals looks the value up (`literal_sets`). Each tuple that is kept goes at once to its group, or becomes
 //! an output row, of which few more are held than a LIMIT asks for; one that stands behind as many by the keys of ORDER BY isn't even
 //! made.
 //! The tuples of a query with windows are held in the columns that it uses, and the windows' values stand beside them at the end.

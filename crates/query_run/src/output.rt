@@ -4,6 +4,7 @@ ghost use Rattle.std.specs.Prelude.{◌≡◌, ◌++◌, ◌∷◌, true, List, 
 ghost use Rattle.std.specs.List.{All};
 ghost use Rattle.std.specs.Option.{option_map_or};
 ghost use Rattle.col_value.specs.declared.value.Value.{Value};
+ghost use Rattle.col_value.specs.declared.wide.Wide.{Wide as Result};
 ghost use Rattle.sql_bound.specs.Bounds.{bound_of_aggregate, is_narrow};
 ghost use Rattle.sql_bound.specs.Outputs.{output, IsSumTooGreat};
 ghost use Rattle.query_laws.specs.Bounded.{IsBoundedQuery};
@@ -12,7 +13,7 @@ ghost use Rattle.query_run.specs.declared.fault.QueryFault.{QueryFault};
 ghost use Rattle.query_order.specs.Enough.{IsEnough};
 ghost use Rattle.query_run.specs.Outputs.{HasCollected, items_in, scope_of, scopes_of, shown};
 
-use crate::collected::Collected;
+use crate::collected::{Collected, add_row};
 use crate::fault::QueryFault;
 use crate::seen::has_windows;
 use crate::windows::of_windows;
@@ -53,7 +54,7 @@ pub fn output(
     }
 }
 
-/// The items' values in each group that HAVING keeps.
+/// Enough of the items' values in the groups that HAVING keeps.
 fn of_groups(
     alloc: Global,
     query: &BoundQuery,
@@ -62,36 +63,45 @@ fn of_groups(
     requires narrow { All (λ e. is_narrow (map bound_of_aggregate query.now.aggs) e ≡ true) query.now.items }
     requires having { option_map_or (is_narrow (map bound_of_aggregate query.now.aggs)) query.now.having true ≡ true }
     requires groups { All (IsGroupOf query.now) (scopes_of groups.now.keys groups.now.aggs) }
-    ensures { IfOk result (λ v. v.items ≡ shown query.now (scopes_of groups.now.keys groups.now.aggs)) }
+    ensures { IfOk result (λ v. IsEnough query.now.order query.now.limit (shown query.now (scopes_of groups.now.keys groups.now.aggs)) v.items) }
 {
     let mut out = Vec::new(alloc);
+    let mut bar = None;
     for (i, keys) in groups.keys.as_slice().iter().enumerate() {
         let Some(aggs) = groups.aggs.as_slice().get(i) else {
             return Ok(out);
         };
-        push_shown(alloc, query, keys.as_slice(), aggs.as_slice(), &mut out)?;
+        add_shown(
+            alloc,
+            query,
+            keys.as_slice(),
+            aggs.as_slice(),
+            &mut out,
+            &mut bar,
+        )?;
     }
     Ok(out)
 }
 
-/// Appends the items' values in the group with these keys and aggregates, if HAVING keeps it.
-fn push_shown(
+/// The items' values in the group with these keys and aggregates join the others, if HAVING keeps it.
+fn add_shown(
     alloc: Global,
     query: &BoundQuery,
     keys: &[Value],
     aggs: &[Wide],
     out: &mut Vec<WideRow>,
+    bar: &mut Option<WideRow>,
 ) -> Result<(), AllocError>
     requires narrow { All (λ e. is_narrow (map bound_of_aggregate query.now.aggs) e ≡ true) query.now.items }
     requires having { option_map_or (is_narrow (map bound_of_aggregate query.now.aggs)) query.now.having true ≡ true }
     requires group { IsGroupOf query.now (scope_of keys.now aggs.now) }
-    ensures { OnOk result (out.new.items ≡ out.old.items ++ shown query.now (scope_of keys.now aggs.now ∷ [])) }
+    ensures { OnOk result ((all : List (List Result)) → IsEnough query.now.order query.now.limit all out.old.items → IsEnough query.now.order query.now.limit (all ++ shown query.now (scope_of keys.now aggs.now ∷ [])) out.new.items) }
 {
     if !is_shown(query, keys, aggs) {
         return Ok(());
     }
-    out.push(items_in(alloc, query, keys, aggs)?)?;
-    Ok(())
+    let row = items_in(alloc, query, keys, aggs)?;
+    add_row(alloc, out, bar, query, row)
 }
 
 /// Whether HAVING is true of the group with these keys and aggregates.

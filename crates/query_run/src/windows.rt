@@ -1,17 +1,19 @@
 //! The output rows of a query with windows.
 
-ghost use Rattle.std.specs.Prelude.{◌≡◌, ◌<◌, false, map, length, IfOk, OnOk, IsErrOf};
+ghost use Rattle.std.specs.Prelude.{◌≡◌, ◌<◌, false, [], map, length, get_or, IfOk, OnOk, IsErrOf};
 ghost use Rattle.std.specs.List.{All};
 ghost use Rattle.col_value.specs.Order.{IsRow};
 ghost use Rattle.col_value.specs.declared.wide.Wide.TheVariants.{Null};
 ghost use Rattle.std.specs.List.{slice_index_or};
 ghost use Rattle.sql_bound.specs.Bounds.{column_bound};
-ghost use Rattle.sql_bound.specs.Outputs.{window_scopes};
+ghost use Rattle.sql_bound.specs.Outputs.{window_scope, window_scopes};
 ghost use Rattle.query_laws.specs.Bounded.{IsBoundedQuery};
+ghost use Rattle.query_order.specs.Enough.{IsEnough};
 ghost use Rattle.query_run.specs.declared.fault.QueryFault.{QueryFault};
 ghost use Rattle.query_run.specs.Outputs.{items_in};
 ghost use Rattle.query_run.specs.Windows.{AreBeside, AreColumns, HasGreatWindow};
 
+use crate::collected::add_made;
 use crate::fault::QueryFault;
 use col_value::{List, Row, Wide, WideRow};
 use exec_window::{WindowFault, window_values};
@@ -61,7 +63,29 @@ fn values_at(alloc: Global, columns: &[WideRow], i: usize) -> Result<Vec<Wide>, 
     Ok(out)
 }
 
-/// The items over each row beside the values of the windows.
+/// The items over a row beside the values of the windows.
+fn row_beside(
+    alloc: Global,
+    query: &BoundQuery,
+    rows: &[Row],
+    columns: &[WideRow],
+    i: usize,
+    row: &Row,
+) -> Result<WideRow, AllocError>
+    requires beside { AreBeside query.now rows.now columns.now }
+    requires inside { i < length rows.now }
+    requires row { row.now ≡ get_or rows.now i row.now }
+    ensures { IfOk result (λ r. r ≡ items_in query.now (window_scope query.now rows.now (i, get_or rows.now i []))) }
+{
+    let values = values_at(alloc, columns, i)?;
+    items_at(
+        alloc,
+        query.items.as_slice(),
+        &Sight::of_tuple(row.as_slice(), values.as_slice()),
+    )
+}
+
+/// Enough of the items over each row beside the values of the windows.
 fn rows_beside(
     alloc: Global,
     query: &BoundQuery,
@@ -69,21 +93,18 @@ fn rows_beside(
     columns: &[WideRow],
 ) -> Result<Vec<WideRow>, AllocError>
     requires beside { AreBeside query.now rows.now columns.now }
-    ensures { IfOk result (λ v. v.items ≡ map (items_in query.now) (window_scopes query.now rows.now)) }
+    ensures { IfOk result (λ v. IsEnough query.now.order query.now.limit (map (items_in query.now) (window_scopes query.now rows.now)) v.items) }
 {
-    let mut out = Vec::with_capacity(alloc, rows.len())?;
+    let mut out = Vec::new(alloc);
+    let mut bar = None;
     for (i, row) in rows.iter().enumerate() {
-        let values = values_at(alloc, columns, i)?;
-        out.push(items_at(
-            alloc,
-            query.items.as_slice(),
-            &Sight::of_tuple(row.as_slice(), values.as_slice()),
-        )?)?;
+        let made = row_beside(alloc, query, rows, columns, i, row)?;
+        add_made(alloc, &mut out, &mut bar, query, made)?;
     }
     Ok(out)
 }
 
-/// The output rows of a query over tuples as its windows see them.
+/// Enough of the output rows of a query over tuples as its windows see them.
 pub fn of_windows(
     alloc: Global,
     query: &BoundQuery,
@@ -93,7 +114,7 @@ pub fn of_windows(
     requires plain { query.now.grouped ≡ false }
     requires rows { All IsRow rows.now }
     requires few { length rows.now < column_bound }
-    ensures rows { IfOk result (λ v. v.items ≡ map (items_in query.now) (window_scopes query.now rows.now)) }
+    ensures rows { IfOk result (λ v. IsEnough query.now.order query.now.limit (map (items_in query.now) (window_scopes query.now rows.now)) v.items) }
     ensures in_range { OnOk result (HasGreatWindow query.now rows.now → ⊥) }
     ensures great { IsErrOf result QueryFault.SumOutOfRange → HasGreatWindow query.now rows.now }
 {

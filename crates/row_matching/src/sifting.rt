@@ -112,8 +112,10 @@ fn sift_batch(
     ensures sifted { OnOk result (SiftsMore keeps.now (told_rows batch.now.rows batch.now.inserted) (need_in wants.old) out.old.items (need_in wants.new) out.new.items) }
     ensures valid { OnOk result (All (λ a. IsRow a.row) out.new.items) }
 {
+    let mut row = Vec::new(alloc);
     for i in 0..batch.len() {
-        sift(alloc, keeps, wants, out, batch.row(i), batch.inserted(i))?;
+        batch.copy_row(alloc, i, &mut row)?;
+        sift(alloc, keeps, wants, out, row.as_slice(), batch.inserted(i))?;
     }
     Ok(())
 }

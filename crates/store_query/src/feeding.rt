@@ -84,8 +84,10 @@ fn feed_batch(
     ensures fed { OnOk result (Feeds query.now batch.now.rows (need_in wants.old) run.old (need_in wants.new) run.new) }
     ensures run { OnOk result (IsRunOf query.now run.new) }
 {
+    let mut row = Vec::new(alloc);
     for i in 0..batch.len() {
-        feed(alloc, query, wants, run, batch.row(i))?;
+        batch.copy_row(alloc, i, &mut row)?;
+        feed(alloc, query, wants, run, row.as_slice())?;
     }
     Ok(())
 }

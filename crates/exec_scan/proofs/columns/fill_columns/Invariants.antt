@@ -2,7 +2,8 @@ use Rattle.std.proofs.Common.{◌≡◌, ◌*◌, ◌-◌, min, length}
 use Rattle.col_disk.specs.Moved.{Moved, NoName}
 use Rattle.ros_container.specs.Encodings.{written_of}
 use Rattle.exec_scan.specs.Opened.{HoldsAll}
-use Rattle.exec_scan.specs.Reading.{AreLong, FillsUpto, OfBlock}
+use Rattle.exec_scan.specs.Batches.{AreLong}
+use Rattle.exec_scan.specs.Reading.{FillsUpto, OfBlock}
 use Rattle.exec_scan.proofs.columns.fill_columns.Given as goal
 
 abbrev pub invariant-loop-column : goal.invariant-loop-column

@@ -2,7 +2,8 @@ use Rattle.std.proofs.Common.{◌≡◌, ◌*◌, ◌-◌, min, length}
 use Rattle.col_disk.specs.Moved.{Moved, NoName}
 use Rattle.ros_container.specs.Encodings.{written_of}
 use Rattle.exec_scan.specs.Opened.{HoldsAll}
-use Rattle.exec_scan.specs.Reading.{AreLong, NarrowsBy, OfBlock}
+use Rattle.exec_scan.specs.Batches.{AreLong}
+use Rattle.exec_scan.specs.Reading.{NarrowsBy, OfBlock}
 use Rattle.exec_scan.proofs.columns.narrow.Given as goal
 
 abbrev pub invariant-loop-bound : goal.invariant-loop-bound

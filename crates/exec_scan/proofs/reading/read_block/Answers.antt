@@ -42,7 +42,7 @@ returns-in-Ok-batch_alive-clause-found g c = λ b opened m told rows holding.
     let inserted = c.as_slice.result.now in
     let deletes = c.as_slice-2.result.now in
     let alive = c.columns_alive.new.alive in
-    let columns = c.as_slice-3.result.now in
+    let columns = c.in-Ok-columns_alive.columns.items in
     let test = is_shown c.args.epoch inserted deletes first in
     let block : length here ≡ min 1024 (k.rows - first) = block_long m (written_of c.args.shape.now) k c.args.k rows holding in
     let counted : count ≡ min 1024 (k.rows - first) = omega (arith, c.min-count.ensures) in
@@ -61,8 +61,8 @@ returns-in-Ok-batch_alive-clause-found g c = λ b opened m told rows holding.
     let long : length alive ≡ count = c.columns_alive.ensures.alive ∙ ap length shown ∙ length-map-range_with_len test 0 count in
     block_shows c.args.epoch count c.args.places.now c.args.bounds.now c.args.stamps inserted deletes (mark_in b) first here alive columns c.in-Ok-batch_alive.batch many early gone long
     (subst (λ (bs : List Bool). Narrows c.args.bounds.now c.args.places.now bs alive here) shown read.narrows)
-    (subst (λ (cs : List (Option (List Value))). HaveRows c.args.places.now alive cs here) (sym c.as_slice-3.ensures.value) read.alive)
-    c.in-Ok-batch_alive.ensures.rows (λ on. c.in-Ok-batch_alive.ensures.inserted on ∙ ap (chosen alive) (c.as_slice-4.ensures.value ∙ c.in-Ok.ensures.told has m told rows holding on))
+    read.alive
+    c.in-Ok-batch_alive.ensures.rows (λ on. c.in-Ok-batch_alive.ensures.inserted on ∙ ap (chosen alive) (c.as_slice-3.ensures.value ∙ c.in-Ok.ensures.told has m told rows holding on))
 
 pub returns-in-Ok-batch_alive-clause-moved : goal.returns-in-Ok-batch_alive-clause-moved
 returns-in-Ok-batch_alive-clause-moved g c = moved_join g.D.Disk c.inserted.ensures.moved c.columns_alive.ensures.moved

@@ -1,9 +1,10 @@
-use Rattle.std.proofs.Common.{◌≡◌, ◌<◌, length, get_or, rules}
-use Rattle.query_run.proofs.Scopes.{group_here, group_more, groups_behind}
+use Rattle.std.proofs.Common.{◌≡◌, ◌<◌, ◌≤◌, ap, length, get_or, rules}
+use Rattle.query_run.proofs.Scopes.{group_here, groups_behind, keys_end, scopes_end, so_far_all, so_far_more, so_far_none}
+use Rattle.query_run.specs.Outputs.{shown}
 use Rattle.query_run.proofs.output.of_groups.Goals as goal
 
-pub push_shown-requires-clause-group : goal.push_shown-requires-clause-group
-push_shown-requires-clause-group c =
+pub add_shown-requires-clause-group : goal.add_shown-requires-clause-group
+add_shown-requires-clause-group c =
     let keys = c.args.groups.now.keys in
     let aggs = c.args.groups.now.aggs in
     let i = c.loop-i.i in
@@ -27,6 +28,26 @@ loop-i-preserved c =
     let is : k ≡ get_or keys i k = search rules in
     let g : i < length aggs = search rules in
     let are : a ≡ get_or aggs i a = search rules in record {
-      out = group_more q keys aggs i k a c.loop-i.out.items c.push_shown.new.out.items _ h is g are c.in_ok-push_shown.ensures c.loop-i.invariant.out;
+      sofar = so_far_more q keys aggs i k a c.loop-i.out.items c.add_shown.new.out.items _ h is g are c.in_ok-add_shown.ensures c.loop-i.invariant.sofar;
       fit = groups_behind q keys aggs i k a h is g are c.loop-i.invariant.fit;
     }
+
+pub loop-i-init : goal.loop-i-init
+loop-i-init c = record {
+  sofar = so_far_none c.args.query.now c.new-out.result.items _ c.new-out.ensures.items;
+  fit = c.requires.groups;
+}
+
+pub returns : goal.returns
+returns c =
+    let keys = c.args.groups.now.keys in
+    let aggs = c.args.groups.now.aggs in
+    let past : length keys ≤ c.loop-i.i = search rules in
+    so_far_all c.args.query.now c.loop-i.out.items _ _ (ap (shown c.args.query.now) (keys_end keys aggs c.loop-i.i past)) c.loop-i.invariant.sofar
+
+pub returns-in_default : goal.returns-in_default
+returns-in_default c =
+    let keys = c.args.groups.now.keys in
+    let aggs = c.args.groups.now.aggs in
+    let past : length aggs ≤ c.loop-i.i = search rules in
+    so_far_all c.args.query.now c.loop-i.out.items _ _ (ap (shown c.args.query.now) (scopes_end keys aggs c.loop-i.i past)) c.loop-i.invariant.sofar

@@ -3,6 +3,7 @@ use Rattle.std.proofs.lemmas.Result.{IfOk-weaker}
 use Rattle.std.specs.List.{All}
 use Rattle.col_value.specs.Order.{IsRow}
 use Rattle.col_value.specs.declared.value.Value.{Value}
+use Rattle.col_value.specs.declared.wide.Wide.{Wide}
 use Rattle.query_laws.proofs.TupleRows.{kept_are_rows}
 use Rattle.sql_bound.specs.Outputs.{kept, output, window_scopes}
 use Rattle.query_order.specs.Enough.{IsEnough}
@@ -26,8 +27,8 @@ returns-in-Ok-clause-rows c = λ inputs has.
     let q = c.args.query.now in
     let rows = kept q inputs in
     let groups : HoldsGroups q rows c.args.collected.groups = has.held.groups c.if-not-query.false in
-    let all = c.in_ok-of_groups-in-Ok.ensures ∙ groups_put_out q inputs c.in-Ok.grouped c.if-not-query.false (c.in-Ok.ensures.groups q rows groups) in
-    subst (IsEnough q.order q.limit (output q inputs)) (sym all) (enough_itself q.order q.limit (output q inputs))
+    let all = groups_put_out q inputs c.in-Ok.grouped c.if-not-query.false (c.in-Ok.ensures.groups q rows groups) in
+    subst (λ (rows : List (List Wide)). IsEnough q.order q.limit rows c.in_ok-of_groups-in-Ok.field-0.items) all c.in_ok-of_groups-in-Ok.ensures
 
 pub returns-in-Ok-clause-in_range : goal.returns-in-Ok-clause-in_range
 returns-in-Ok-clause-in_range c = λ inputs has great.
@@ -51,7 +52,6 @@ pub returns-then-has_windows-clause-rows : goal.returns-then-has_windows-clause-
 returns-then-has_windows-clause-rows c =
     let q = c.args.query.now in
     let is : IsWindowed q = record { rows = c.if-not-query.true; windows = c.has_windows.ensures.some c.if-has_windows.true } in
-    IfOk-weaker c.of_windows.result _ _ (λ v made inputs has.
-    subst (IsEnough q.order q.limit (output q inputs))
-    (sym (made ∙ ap (λ (seen : List (List Value)). map (items_in q) (window_scopes q seen)) c.as_slice.ensures.value ∙ windows_put_out q inputs c.args.collected is has.held))
-    (enough_itself q.order q.limit (output q inputs))) c.of_windows.ensures.rows
+    IfOk-weaker c.of_windows.result _ _ (λ v enough inputs has.
+    subst (λ (all : List (List Wide)). IsEnough q.order q.limit all v.items)
+    (ap (λ (seen : List (List Value)). map (items_in q) (window_scopes q seen)) c.as_slice.ensures.value ∙ windows_put_out q inputs c.args.collected is has.held) enough) c.of_windows.ensures.rows

@@ -1,4 +1,7 @@
-use Rattle.std.proofs.Common.{◌<◌, length, refl, arith}
+use Rattle.std.proofs.Common.{◌≡◌, ◌<◌, List, length, refl, sym, subst, arith}
+use Rattle.std.specs.List.{slice_get}
+use Rattle.std.specs.Option.{IsSomeAnd}
+use Rattle.col_value.specs.declared.value.Value.{Value}
 use Rattle.wanted_rows.specs.Wanted.{need_in}
 use Rattle.store_query.proofs.Fed.{feeds_all, feeds_next, feeds_none}
 use Rattle.store_query.proofs.feeding.feed_batch.Goals as goal
@@ -13,8 +16,8 @@ pub loop-i-preserved : goal.loop-i-preserved
 loop-i-preserved c =
     let lt : c.loop-i.i < length c.args.batch.now.rows = grind (arith, c.loop-i-test.true, c.len-i-end.ensures) in
     record {
-      fed = feeds_next c.args.query.now c.args.batch.now.rows c.loop-i.i c.row.result.now (need_in c.args.wants.now) (need_in c.loop-i.wants) (need_in c.feed.new.wants) c.args.run.now c.loop-i.run c.feed.new.run lt
-          c.row.ensures.row c.loop-i.invariant.fed c.in_ok-feed.ensures.fed;
+      fed = feeds_next c.args.query.now c.args.batch.now.rows c.loop-i.i c.as_slice.result.now (need_in c.args.wants.now) (need_in c.loop-i.wants) (need_in c.feed.new.wants) c.args.run.now c.loop-i.run c.feed.new.run lt
+          (subst (λ (x : List Value). IsSomeAnd (slice_get c.args.batch.now.rows c.loop-i.i) (λ r. x ≡ r)) (sym c.as_slice.ensures.value) c.in_ok-copy_row.ensures.row) c.loop-i.invariant.fed c.in_ok-feed.ensures.fed;
       run = c.in_ok-feed.ensures.run;
     }
 
