@@ -1,0 +1,12 @@
+pub mod Lists
+pub mod Orders
+pub mod Columns
+pub mod Building
+pub mod HeldRows
+pub mod Good
+pub mod Supers
+pub mod Epochs
+pub mod Names
+pub mod Yes
+pub mod Back
+pub mod Telling

@@ -1,0 +1,5 @@
+pub mod First
+pub mod Listed
+pub mod Rows
+pub mod Pairs
+pub mod Verdicts
