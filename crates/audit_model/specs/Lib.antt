@@ -3,3 +3,4 @@ pub mod Listed
 pub mod Rows
 pub mod Pairs
 pub mod Verdicts
+pub mod Judging

@@ -25,3 +25,12 @@ pub enum Verdict {
         row: Stamped,
     },
 }
+
+/// Why there is no verdict.
+#[derive(Debug, Clone, Copy, PartialEq, Eq)]
+pub enum AuditFault {
+    /// The disk failed.
+    Disk,
+    /// There was no memory to go on.
+    Memory,
+}
