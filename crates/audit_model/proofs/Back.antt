@@ -35,7 +35,7 @@ use Rattle.audit_model.proofs.Columns.{has, rows_again}
 use Rattle.audit_model.proofs.Good.{good_in}
 use Rattle.audit_model.proofs.HeldRows.{apart, judged_each}
 use Rattle.audit_model.proofs.Lists.{all_flat, all_kept, found_has}
-use Rattle.audit_model.proofs.Orders.{all_of_bag}
+use Rattle.bag_difference.proofs.Orders.{all_of_bag}
 use Rattle.audit_model.proofs.Supers.{super_fresh, super_has}
 use Rattle.audit_model.proofs.Yes.{ordinals_below}
 

@@ -1,5 +1,4 @@
 pub mod Lists
-pub mod Orders
 pub mod Columns
 pub mod Building
 pub mod HeldRows

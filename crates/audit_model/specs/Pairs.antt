@@ -1,16 +1,12 @@
--- The pairs of projections whose rows are compared, and the least row in which two bags differ.
-use Rattle.std.specs.Prelude.{ℕ, zero, suc, ◌≡◌, ◌≢◌, ◌==◌, ◌&&◌, not, if◌then◌else◌, Bool, true, List, [], ◌∷◌, length, map, filter, find, count_by, bytes_eq, Option, Some, None}
+-- The pairs of projections whose rows are compared.
+use Rattle.std.specs.Prelude.{ℕ, zero, suc, ◌≡◌, ◌==◌, ◌&&◌, not, if◌then◌else◌, Bool, List, [], ◌∷◌, length, map, filter, find, bytes_eq, Option, Some, None}
 use Rattle.std.specs.List.{list_all, list_any, flat_map, range_with_len}
-use Rattle.std.specs.Option.{option_cmp}
-use Rattle.std.specs.Ordering.{is_eq, is_lt, nat_cmp, on, then_cmp}
-use Rattle.std.specs.declared.cmp.Ordering.{Ordering}
 use Rattle.common_laws.specs.Bags.{SameBag}
 use Rattle.common_laws.specs.Maps.{Contents}
 use Rattle.catalog_types.specs.declared.catalogue.Projection.{Projection}
 use Rattle.catalog_types.specs.declared.catalogue.Table.{Table}
 use Rattle.catalog_types.specs.declared.catalogue.Catalogue.{Catalogue}
 use Rattle.col_value.specs.declared.row.Stamped.{Stamped}
-use Rattle.col_value.specs.Order.{row_cmp}
 use Rattle.folder_model.specs.Projections.{ordinals}
 use Rattle.row_history.specs.History.{on_columns}
 use Rattle.catalog_types.specs.Reached.{least_lge}
@@ -64,18 +60,3 @@ IsSamePairIn m epoch mark x =
 
 abbrev pub IsSamePair : Contents → Catalogue → Pair → Type 0
 IsSamePair m c x = IsSamePairIn m (least_lge c) c.ahm x
-
--- rows by their values, then by the epoch that inserted them, then by the one that deleted them, which is least where there is none
-abbrev pub stamped_cmp : Stamped → Stamped → Ordering
-stamped_cmp = then_cmp (on (λ s. s.row) row_cmp) (then_cmp (on (λ s. s.ins) nat_cmp) (on (λ s. s.del) (option_cmp nat_cmp)))
-
--- how often a row stands in a list
-abbrev pub count_of : Stamped → List Stamped → ℕ
-count_of s rows = count_by (λ x. is_eq (stamped_cmp x s)) rows
-
--- the least row that stands a different number of times in the two, and both numbers
-pub record IsLeastDifference (xs ys : List Stamped) (row : Stamped) (a b : ℕ) : Type 0 where
-  pub first : a ≡ count_of row xs
-  pub second : b ≡ count_of row ys
-  pub differ : a ≢ b
-  pub least : (s : Stamped) → is_lt (stamped_cmp s row) ≡ true → count_of s xs ≡ count_of s ys

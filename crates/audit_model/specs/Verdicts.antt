@@ -9,7 +9,8 @@ use Rattle.col_value.specs.declared.row.Stamped.{Stamped}
 use Rattle.audit_model.specs.First.{IsFirst}
 use Rattle.audit_model.specs.Listed.{File, Place, file_name, files, places, IsSpelled}
 use Rattle.audit_model.specs.Rows.{HasJudged, HoldsHere, IsGood, IsGoodPlace}
-use Rattle.audit_model.specs.Pairs.{Pair, in_columns, pairs, IsLeastDifference, IsSamePair}
+use Rattle.audit_model.specs.Pairs.{Pair, in_columns, pairs, IsSamePair}
+use Rattle.bag_difference.specs.Differences.{IsLeastDifference}
 use Rattle.audit_model.specs.declared.verdict.Verdict.{Verdict}
 use Rattle.audit_model.specs.declared.verdict.Verdict.TheVariants.{Yes, File as Damaged, BadRow, Differ}
 

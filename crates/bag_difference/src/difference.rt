@@ -2,7 +2,7 @@
 
 ghost use Rattle.std.specs.Prelude.{IfOk, IfSome, IfNone};
 ghost use Rattle.common_laws.specs.Bags.{SameBag};
-ghost use Rattle.audit_model.specs.Pairs.{IsLeastDifference};
+ghost use Rattle.bag_difference.specs.Differences.{IsLeastDifference};
 
 use col_value::Stamped;
 use std::alloc::{AllocError, Global};

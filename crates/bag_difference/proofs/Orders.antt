@@ -18,7 +18,7 @@ use Rattle.col_value.specs.Laws.{row_total, row_exact, tie_told}
 use Rattle.col_value.specs.Order.{row_cmp}
 use Rattle.col_value.specs.declared.row.Stamped.{Stamped}
 use Rattle.col_value.specs.declared.value.Value.{Value}
-use Rattle.audit_model.specs.Pairs.{stamped_cmp}
+use Rattle.bag_difference.specs.Differences.{stamped_cmp}
 
 pub stamped_total : IsTotalOrder stamped_cmp
 stamped_total = then_total (on_total (λ s. s.row) row_total) (then_total (on_total (λ s. s.ins) nat_cmp_total) (on_total (λ s. s.del) (options_total nat_cmp_total)))
