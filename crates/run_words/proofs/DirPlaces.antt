@@ -26,6 +26,15 @@ text_of mover = codes "mover"
 text_of lines = codes "gen"
 text_of seed = codes "seed"
 
+-- the options without a value
+pub data Flag : Type 0 where
+  halt : Flag
+  audit : Flag
+
+abbrev pub name_of : Flag → Text
+name_of halt = codes "halt"
+name_of audit = codes "audit"
+
 -- what stands of DIR and SCRIPT
 pub data Place : Type 0 where
   neither : Place
@@ -99,12 +108,13 @@ row_kept mover values rows = other_used (codes "mover") _ _ _ rows refl
 row_kept lines values rows = other_used (codes "gen") _ _ _ rows refl
 row_kept seed values rows = other_used (codes "seed") _ _ _ rows refl
 
-unfoldable pub rows_halted : List Row → List Row
-rows_halted rows = used_by_id (arg_by_id rules (codes "halt")) [] rows
+unfoldable pub rows_flagged : Flag → List Row → List Row
+rows_flagged f rows = used_by_id (arg_by_id rules (name_of f)) [] rows
 
-pub halt_kept : (rows : List Row) → dir_row (rows_halted rows) ≡ dir_row rows
-unfolding rows_halted
-halt_kept rows = other_used (codes "halt") _ _ _ rows refl
+pub flag_kept : (f : Flag) (rows : List Row) → dir_row (rows_flagged f rows) ≡ dir_row rows
+unfolding rows_flagged
+flag_kept halt rows = other_used (codes "halt") _ _ _ rows refl
+flag_kept audit rows = other_used (codes "audit") _ _ _ rows refl
 
 pub script_kept : (values : List Text) (rows : List Row) → dir_row (used_by_id (arg_by_id rules (codes "script")) values rows) ≡ dir_row rows
 script_kept values rows = other_used (codes "script") _ _ _ rows refl

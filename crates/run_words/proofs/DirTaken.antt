@@ -16,7 +16,7 @@ use Rattle.run_words.specs.Command.{vert}
 use Rattle.run_words.specs.Words.{Wanted, dir_behind, dir_of_words, is_form, takes_value, wanted}
 use Rattle.run_words.proofs.WordForms.{Form, IsOther, dashes, form_of, long, named_alone, other, valued_takes_none}
 use Rattle.run_words.proofs.DirRows.{dir_in, dir_of_row, dir_row, other_given}
-use Rattle.run_words.proofs.DirPlaces.{top, rules, Valued, text_of, Place, position_of, IsAt, answer, Wait, held, standing, At, end_of, Found, IsFaultless, nothing_else, one_word, rows_used, row_kept, rows_halted, halt_kept, at_kept, at_end, taken, rows_taken, pending_taken, to_place, at_taken, same_answer, found_behind, mover, lines, seed, neither, dir, both, free, valued}
+use Rattle.run_words.proofs.DirPlaces.{top, rules, Valued, text_of, Place, position_of, IsAt, answer, Wait, held, standing, At, end_of, Found, IsFaultless, nothing_else, one_word, rows_used, row_kept, Flag, name_of, rows_flagged, flag_kept, at_kept, at_end, taken, rows_taken, pending_taken, to_place, at_taken, same_answer, found_behind, mover, lines, seed, halt, audit, neither, dir, both, free, valued}
 
 -- ---- an option that lacks its value
 
@@ -42,20 +42,22 @@ stuck (word ∷ ws) o place rows ok = no_word o place rows word (one_word (stand
 -- ---- a word behind `--`, by the name that it has
 
 abbrev IsNamed : Text → Type 0
-IsNamed name = ((o : Valued) × (name ≡ text_of o)) ⊎ ((name ≡ codes "halt") ⊎ (arg_by_long rules name ≡ None))
+IsNamed name = ((o : Valued) × (name ≡ text_of o)) ⊎ (((f : Flag) × (name ≡ name_of f)) ⊎ (arg_by_long rules name ≡ None))
 
 is_named : (name : Text) → IsNamed name
-is_named name = by (bytes_eq (codes "mover") name) refl (bytes_eq (codes "halt") name) refl (bytes_eq (codes "gen") name) refl (bytes_eq (codes "seed") name) refl
+is_named name = by (bytes_eq (codes "mover") name) refl (bytes_eq (codes "halt") name) refl (bytes_eq (codes "audit") name) refl (bytes_eq (codes "gen") name) refl (bytes_eq (codes "seed") name) refl
   where
     same : (text : Text) → bytes_eq text name ≡ true → name ≡ text
     same text is = sym ((bytes_eq-Decides text name).0 is)
 
-    by : (a : Bool) → bytes_eq (codes "mover") name ≡ a → (b : Bool) → bytes_eq (codes "halt") name ≡ b → (c : Bool) → bytes_eq (codes "gen") name ≡ c → (d : Bool) → bytes_eq (codes "seed") name ≡ d → IsNamed name
-    by true is b bs c cs d ds = inl (mover, same (codes "mover") is)
-    by false is true bs c cs d ds = inr (inl (same (codes "halt") bs))
-    by false is false bs true cs d ds = inl (lines, same (codes "gen") cs)
-    by false is false bs false cs true ds = inl (seed, same (codes "seed") ds)
-    by false is false bs false cs false ds = inr (inr (rw (is, bs, cs, ds) refl))
+    by : (a : Bool) → bytes_eq (codes "mover") name ≡ a → (b : Bool) → bytes_eq (codes "halt") name ≡ b → (e : Bool) → bytes_eq (codes "audit") name ≡ e → (c : Bool) → bytes_eq (codes "gen") name ≡ c
+        → (d : Bool) → bytes_eq (codes "seed") name ≡ d → IsNamed name
+    by true is b bs e es c cs d ds = inl (mover, same (codes "mover") is)
+    by false is true bs e es c cs d ds = inr (inl (halt, same (codes "halt") bs))
+    by false is false bs true es c cs d ds = inr (inl (audit, same (codes "audit") es))
+    by false is false bs false es true cs d ds = inl (lines, same (codes "gen") cs)
+    by false is false bs false es false cs true ds = inl (seed, same (codes "seed") ds)
+    by false is false bs false es false cs false ds = inr (inr (rw (is, bs, es, cs, ds) refl))
 
 abbrev long_faults : Held → Text × Option Text → Kinds
 long_faults h named = long_fault rules false (arg_by_long rules named.0) named.1 h
@@ -74,11 +76,13 @@ settles_first h name value (inl (o, is)) fault = by o value (subst (λ (n : Text
     by mover (Some v) fault = (nothing_else _ _ fault).0
     by lines (Some v) fault = (nothing_else _ _ fault).0
     by seed (Some v) fault = (nothing_else _ _ fault).0
-settles_first h name value (inr (inl is)) fault = by value (subst (λ (n : Text). long_faults h (n, value) ≡ []) is fault)
+settles_first h name value (inr (inl (f, is))) fault = by f value (subst (λ (n : Text). long_faults h (n, value) ≡ []) is fault)
   where
-    by : (value : Option Text) → long_faults h (codes "halt", value) ≡ [] → settle_fault rules false h ≡ []
-    by None fault = (nothing_else _ _ fault).0
-    by (Some v) fault = absurd cc
+    by : (f : Flag) (value : Option Text) → long_faults h (name_of f, value) ≡ [] → settle_fault rules false h ≡ []
+    by halt None fault = (nothing_else _ _ fault).0
+    by audit None fault = (nothing_else _ _ fault).0
+    by halt (Some v) fault = absurd cc
+    by audit (Some v) fault = absurd cc
 settles_first h name value (inr (inr is)) fault = let never : long_fault rules false None value h ≡ [] = rw is at fault in absurd cc
 
 option_alone : (o : Valued) (p : Option (Text × List Text)) (place : Place) (rows : List Row) (word : Text)
@@ -94,10 +98,11 @@ option_valued mover value p place rows word = refl
 option_valued lines value p place rows word = refl
 option_valued seed value p place rows word = refl
 
-halt_alone : (p : Option (Text × List Text)) (place : Place) (rows : List Row) (word : Text)
-    → long_walked (standing rows (free p) place false) word (codes "halt", None) ≡ standing (rows_halted (settled_rows rules p rows)) (free None) place false
-unfolding rows_halted
-halt_alone p place rows word = refl
+flag_alone : (f : Flag) (p : Option (Text × List Text)) (place : Place) (rows : List Row) (word : Text)
+    → long_walked (standing rows (free p) place false) word (name_of f, None) ≡ standing (rows_flagged f (settled_rows rules p rows)) (free None) place false
+unfolding rows_flagged
+flag_alone halt p place rows word = refl
+flag_alone audit p place rows word = refl
 
 abbrev skips : Wait → Bool
 skips (free p) = false
@@ -117,6 +122,10 @@ takes_word : (o : Valued) (ws : List Text) → dir_behind (takes_value (dashed (
 takes_word mover ws = refl
 takes_word lines ws = refl
 takes_word seed ws = refl
+
+takes_no_word : (f : Flag) (ws : List Text) → dir_behind (takes_value (dashed (name_of f))) ws ≡ dir_behind false ws
+takes_no_word halt ws = refl
+takes_no_word audit ws = refl
 
 module _ (ws : List Text) (x : ℕ) (rest : Text) (p : Option (Text × List Text)) (place : Place) (rows : List Row) where
   abbrev from : Walk
@@ -146,13 +155,13 @@ module _ (ws : List Text) (x : ℕ) (rest : Text) (p : Option (Text × List Text
       ap (λ (t : Bool). dir_behind t ws) (valued_takes_none (x ∷ rest) (text_of o) value named) in
       subst (λ (w : Walk). Found w ws (answer place (dir_behind (takes_value (dashed (x ∷ rest))) ws))) (sym stands) (there ∙ ap (answer place) (sym text))
 
-  by_halt : name_and_value (x ∷ rest) ≡ named_as (codes "halt") None → FoundBy (named_as (codes "halt") None)
-  by_halt named is ok next =
-      let stands = halt_alone p place rows (dashed (x ∷ rest)) in
-      let kept = at_kept place (rows_halted now) now (halt_kept now) is in
-      let there = next (free None) place (rows_halted now) kept (subst (λ (w : Walk). IsFaultless w ws) stands ok) in
+  by_flag : (f : Flag) → name_and_value (x ∷ rest) ≡ named_as (name_of f) None → FoundBy (named_as (name_of f) None)
+  by_flag f named is ok next =
+      let stands = flag_alone f p place rows (dashed (x ∷ rest)) in
+      let kept = at_kept place (rows_flagged f now) now (flag_kept f now) is in
+      let there = next (free None) place (rows_flagged f now) kept (subst (λ (w : Walk). IsFaultless w ws) stands ok) in
       let text : dir_behind (takes_value (dashed (x ∷ rest))) ws ≡ dir_behind false ws =
-      ap (λ (t : Text). dir_behind (takes_value (dashed t)) ws) (named_alone (x ∷ rest) (codes "halt") named) in
+      ap (λ (t : Text). dir_behind (takes_value (dashed t)) ws) (named_alone (x ∷ rest) (name_of f) named) ∙ takes_no_word f ws in
       subst (λ (w : Walk). Found w ws (answer place (dir_behind (takes_value (dashed (x ∷ rest))) ws))) (sym stands) (there ∙ ap (answer place) (sym text))
 
   by_name : (name : Text) (value : Option Text) → name_and_value (x ∷ rest) ≡ named_as name value → IsNamed name → long_faults (held rows (free p)) (named_as name value) ≡ [] → FoundBy (named_as name value)
@@ -160,11 +169,14 @@ module _ (ws : List Text) (x : ℕ) (rest : Text) (p : Option (Text × List Text
       subst (λ (n : Text). FoundBy (named_as n None)) (sym is) (by_option o (named ∙ ap (λ (n : Text). named_as n None) is))
   by_name name (Some value) named (inl (o, is)) fault =
       subst (λ (n : Text). FoundBy (named_as n (Some value))) (sym is) (by_valued o value (named ∙ ap (λ (n : Text). named_as n (Some value)) is))
-  by_name name None named (inr (inl is)) fault =
-      subst (λ (n : Text). FoundBy (named_as n None)) (sym is) (by_halt (named ∙ ap (λ (n : Text). named_as n None) is))
-  by_name name (Some value) named (inr (inl is)) fault =
-      let never : long_faults (held rows (free p)) (named_as (codes "halt") (Some value)) ≡ [] = subst (λ (n : Text). long_faults (held rows (free p)) (named_as n (Some value)) ≡ []) is fault in
-      absurd cc
+  by_name name None named (inr (inl (f, is))) fault =
+      subst (λ (n : Text). FoundBy (named_as n None)) (sym is) (by_flag f (named ∙ ap (λ (n : Text). named_as n None) is))
+  by_name name (Some value) named (inr (inl (f, is))) fault =
+      absurd (no_text f (subst (λ (n : Text). long_faults (held rows (free p)) (named_as n (Some value)) ≡ []) is fault))
+    where
+      no_text : (f : Flag) → long_faults (held rows (free p)) (named_as (name_of f) (Some value)) ≡ [] → ⊥
+      no_text halt never = cc
+      no_text audit never = cc
   by_name name value named (inr (inr is)) fault =
       let never : long_fault rules false None value (held rows (free p)) ≡ [] = rw is at fault in
       absurd cc

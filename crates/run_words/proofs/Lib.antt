@@ -3,3 +3,4 @@ pub mod WordForms
 pub mod DirRows
 pub mod DirPlaces
 pub mod DirTaken
+pub mod Parses

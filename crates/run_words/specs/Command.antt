@@ -1,4 +1,4 @@
--- The command of the program, as clap reads it: `vert DIR [--mover K] [--halt] [--gen N --seed S] [SCRIPT]`.
+-- The command of the program, as clap reads it: `vert DIR [--mover K] [--halt] [--gen N --seed S] [SCRIPT]` and `vert DIR --audit`.
 use Rattle.std.specs.Prelude.{ℕ, true, List, Some, codes}
 use Rattle.clap.specs.Words.{App, Rule, new_app, new_rule, with_rule}
 use Rattle.clap.specs.Simple.{on_top}
@@ -12,9 +12,9 @@ dir = record (new_rule (codes "dir")) { action = Some Set; required = true }
 abbrev pub option : List ℕ → Rule
 option name = record (new_rule name) { long = Some name; action = Some Set }
 
--- `--halt`
-abbrev pub halt : Rule
-halt = record (new_rule (codes "halt")) { long = Some (codes "halt"); action = Some SetTrue }
+-- an option without a value
+abbrev pub flag : List ℕ → Rule
+flag name = record (new_rule name) { long = Some name; action = Some SetTrue }
 
 -- SCRIPT
 abbrev pub script : Rule
@@ -25,4 +25,6 @@ abbrev pub bare : App
 bare = on_top (λ s. record s { disable_help_flag = true; disable_version_flag = true }) (new_app (codes "vert"))
 
 abbrev pub vert : App
-vert = with_rule (with_rule (with_rule (with_rule (with_rule (with_rule bare dir) (option (codes "mover"))) halt) (option (codes "gen"))) (option (codes "seed"))) script
+vert =
+    with_rule (with_rule (with_rule (with_rule (with_rule (with_rule (with_rule bare dir) (option (codes "mover"))) (flag (codes "halt"))) (flag (codes "audit"))) (option (codes "gen")))
+    (option (codes "seed"))) script

@@ -1,5 +1,5 @@
 -- The words that the program is called with.
-use Rattle.std.specs.Prelude.{ℕ, ◌^◌, ◌-◌, ◌==◌, ◌||◌, ◌&&◌, not, nat_le, eqb, if◌then◌else◌, Bool, true, false, List, [], ◌∷◌, Option, Some, None, option_map, option_and_then, bytes_eq, codes}
+use Rattle.std.specs.Prelude.{ℕ, ◌^◌, ◌-◌, ◌==◌, ◌||◌, ◌&&◌, not, nat_le, eqb, if◌then◌else◌, Bool, true, false, List, [], ◌∷◌, Option, Some, None, is_some, option_map, option_and_then, bytes_eq, codes}
 use Rattle.std.specs.List.{starts_with}
 use Rattle.std.specs.Str.{all_ascii_digits}
 use Rattle.std.specs.Str.Parse.{digits_value}
@@ -12,11 +12,16 @@ pub data Source : Type 0 where
   from_file : List ℕ → Source
   generated : ℕ → ℕ → Source
 
--- what the words ask for: the statements, how many steps the mover makes behind each of them, and whether the run halts without an end
-pub record Wanted : Type 0 where
+-- the run of a script: the statements, how many steps the mover makes behind each of them, and whether the run halts without an end
+pub record ScriptRun : Type 0 where
   pub source : Source
   pub steps : ℕ
   pub halts : Bool
+
+-- what the words ask for: the run of a script, or an audit of the folder
+pub data Wanted : Type 0 where
+  runs : ScriptRun → Wanted
+  audits : Wanted
 
 -- digits that aren't none, and begin with no zero but for 0 itself
 abbrev pub is_plain : List ℕ → Bool
@@ -54,12 +59,22 @@ abbrev pub is_set : Option (List ℕ) → Bool
 is_set None = false
 is_set (Some value) = bytes_eq value (codes "true")
 
--- what the matches ask for
-abbrev pub asked_for : List Row → Option Wanted
-asked_for rows =
+-- the run that the matches ask for
+abbrev pub run_asked : List Row → Option ScriptRun
+run_asked rows =
     option_and_then (λ n. option_map (λ from. record { source = from; steps = n; halts = is_set (first_of (codes "halt") rows) })
     (source_of (first_of (codes "gen") rows) (first_of (codes "seed") rows) (first_of (codes "script") rows)))
     (steps_in (first_of (codes "mover") rows))
+
+-- beside `--audit` stands nothing but DIR
+abbrev pub audit_asked : List Row → Option Wanted
+audit_asked rows =
+    if is_set (first_of (codes "halt") rows) || (is_some (first_of (codes "mover") rows) || (is_some (first_of (codes "gen") rows) || (is_some (first_of (codes "seed") rows) || is_some (first_of (codes "script") rows))))
+    then None else Some audits
+
+-- what the matches ask for
+unfoldable pub asked_for : List Row → Option Wanted
+asked_for rows = if is_set (first_of (codes "audit") rows) then audit_asked rows else option_map runs (run_asked rows)
 
 -- clap takes the words
 abbrev pub is_form : List (List ℕ) → Bool

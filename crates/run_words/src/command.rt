@@ -2,7 +2,7 @@
 
 ghost use Rattle.std.specs.Prelude.{◌≡◌, IfOk, false};
 ghost use Rattle.clap.specs.Words.{app_of, rule_of};
-ghost use Rattle.run_words.specs.Command.{dir, halt, option, script, vert};
+ghost use Rattle.run_words.specs.Command.{dir, flag, option, script, vert};
 
 use clap::{Arg, ArgAction, Command};
 use std::alloc::{AllocError, Global};
@@ -16,7 +16,8 @@ pub(crate) fn command<'a>(alloc: Global) -> Result<Command<'a>, AllocError>
         .disable_version_flag(true)
         .arg(dir(alloc))?
         .arg(option(alloc, "mover"))?
-        .arg(halt(alloc))?
+        .arg(flag(alloc, "halt"))?
+        .arg(flag(alloc, "audit"))?
         .arg(option(alloc, "gen"))?
         .arg(option(alloc, "seed"))?
         .arg(script(alloc))
@@ -38,14 +39,12 @@ fn option<'a>(alloc: Global, name: &'a str) -> Arg<'a>
     Arg::new(alloc, name).long(name).action(ArgAction::Set)
 }
 
-// `--halt`
-fn halt<'a>(alloc: Global) -> Arg<'a>
-    ensures rule { rule_of result ≡ halt }
+// An option without a value.
+fn flag<'a>(alloc: Global, name: &'a str) -> Arg<'a>
+    ensures rule { rule_of result ≡ flag name.entry.now }
     ensures own { result.global ≡ false }
 {
-    Arg::new(alloc, "halt")
-        .long("halt")
-        .action(ArgAction::SetTrue)
+    Arg::new(alloc, name).long(name).action(ArgAction::SetTrue)
 }
 
 // SCRIPT.

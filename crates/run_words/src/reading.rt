@@ -2,8 +2,8 @@
 
 ghost use Rattle.std.specs.Prelude.{◌≡◌, IfOk, map, string_bytes, option_map};
 ghost use Rattle.clap.specs.Words.{found_of, first_of, rows_of};
-ghost use Rattle.run_words.specs.Words.{asked_for, generated_by, is_set, source_of, steps_in, wanted};
-ghost use Rattle.run_words.specs.Told.{source_told, told};
+ghost use Rattle.run_words.specs.Words.{asked_for, audit_asked, generated_by, is_set, run_asked, source_of, steps_in, wanted};
+ghost use Rattle.run_words.specs.Told.{run_told, source_told, told};
 
 use crate::command::command;
 use crate::numbers::number_in;
@@ -20,13 +20,21 @@ pub enum Source {
     Generated { lines: u32, seed: u64 },
 }
 
-/// What the words ask for: the statements, how many steps the mover makes behind each of them, and whether the run halts without an end.
-/// The folder is answered by `dir_of`.
+/// The run of a script: the statements, how many steps the mover makes behind each of them, and whether the run halts without an end.
 #[derive(Debug, Drop)]
-pub struct Wanted {
+pub struct ScriptRun {
     pub source: Source,
     pub steps: u32,
     pub halts: bool,
+}
+
+/// What the words ask for. The folder is answered by `dir_of`.
+#[derive(Debug, Drop)]
+pub enum Wanted {
+    /// The run of a script.
+    Run(ScriptRun),
+    /// The verdict on the folder.
+    Audit,
 }
 
 /// What the words ask for, the program's name as the first; nothing where they aren't of the form.
@@ -41,8 +49,37 @@ pub fn read_words(alloc: Global, words: &[String]) -> Result<Option<Wanted>, All
 }
 
 // What the matches ask for.
+#[tactic(auto, unfolding(crate::specs::Words::asked_for))]
 fn asked_for(alloc: Global, matches: &ArgMatches<'_>) -> Result<Option<Wanted>, AllocError>
     ensures { IfOk result (λ w. option_map told w ≡ asked_for (rows_of (found_of matches.now))) }
+{
+    if is_set(value(matches, "audit")) {
+        return Ok(audit_asked(matches));
+    }
+    match run_asked(alloc, matches)? {
+        Some(run) => Ok(Some(Wanted::Run(run))),
+        None => Ok(None),
+    }
+}
+
+// Beside `--audit` stands nothing but DIR.
+fn audit_asked(matches: &ArgMatches<'_>) -> Option<Wanted>
+    ensures { option_map told result ≡ audit_asked (rows_of (found_of matches.now)) }
+{
+    let has_value = value(matches, "mover").is_some()
+        || value(matches, "gen").is_some()
+        || value(matches, "seed").is_some()
+        || value(matches, "script").is_some();
+    if is_set(value(matches, "halt")) || has_value {
+        None
+    } else {
+        Some(Wanted::Audit)
+    }
+}
+
+// The run that the matches ask for.
+fn run_asked(alloc: Global, matches: &ArgMatches<'_>) -> Result<Option<ScriptRun>, AllocError>
+    ensures { IfOk result (λ r. option_map run_told r ≡ run_asked (rows_of (found_of matches.now))) }
 {
     let Some(steps) = steps_in(value(matches, "mover")) else {
         return Ok(None);
@@ -51,7 +88,7 @@ fn asked_for(alloc: Global, matches: &ArgMatches<'_>) -> Result<Option<Wanted>, 
     let script = value(matches, "script");
     let source = source_of(alloc, value(matches, "gen"), value(matches, "seed"), script)?;
     match source {
-        Some(source) => Ok(Some(Wanted {
+        Some(source) => Ok(Some(ScriptRun {
             source,
             steps,
             halts,

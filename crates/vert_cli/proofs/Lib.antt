@@ -4,4 +4,5 @@ pub mod Running
 pub mod Executing
 pub mod Ending
 pub mod FewTexts
+pub mod Audited
 pub mod Serving

@@ -3,7 +3,7 @@ use Rattle.std.proofs.Common.{ℕ, ◌≡◌, ◌∙◌, ◌≤◌, ◌<◌, inl
 use Rattle.std.specs.Prelude.{◌⊎◌, Option, Some, None, IfSome, Result, Ok, Err}
 use Rattle.common_laws.specs.Causes.{Rose}
 use Rattle.common_laws.specs.Maps.{Contents}
-use Rattle.col_disk.specs.Moved.{Leaves}
+use Rattle.col_disk.specs.Moved.{ImageOf, Leaves}
 use Rattle.col_disk.specs.declared.disk.Disk.{Ghosts}
 use Rattle.col_io.specs.Files.{Finds}
 use Rattle.col_io.specs.declared.reading.Got.{Got}
@@ -17,9 +17,10 @@ use Rattle.store_step.specs.Opening.{IsStill}
 use Rattle.generated_load.specs.Load.{generated_script}
 use Rattle.vert_cli.specs.declared.faults.RunFault.{RunFault}
 use Rattle.vert_cli.specs.declared.faults.Status.{Status}
-use Rattle.run_words.specs.Words.{Source, from_file, generated, Wanted}
+use Rattle.run_words.specs.Words.{Source, from_file, generated, ScriptRun, Wanted, runs, audits}
 use Rattle.vert_cli.specs.Runs.{setting_of, StopsInNext}
 use Rattle.vert_cli.specs.Ends.{status_of_end, NeverBegins, IsIdle, OpenedEnd, CutInRun, IsWithinLimits, IsOverLimits, IsServed, IsLarge, IsUnbegun, ScriptBegins, ScriptEnds, CutInScript, script_of, RunBegins, RunEnds, RunLeaves, IsAbsent, IsTooLarge, IsServableFrom, IsServable, ExactlyWhere, Counts, IsAnswered}
+use Rattle.vert_cli.proofs.Audited.{image_untouched}
 use Rattle.vert_cli.proofs.Cuts.{leaves_still}
 use Rattle.vert_cli.proofs.FewTexts.{generated_within}
 
@@ -66,6 +67,7 @@ is_begun (Status.Damaged q) = true
 is_begun Status.Memory = true
 is_begun Status.ReadFault = true
 is_begun Status.TooLarge = false
+is_begun Status.AuditNo = true
 
 end_begun : (ended : Result Bool RunFault) → is_begun (status_of_end ended) ≡ true
 end_begun (Ok true) = refl
@@ -181,10 +183,6 @@ script_rests disk setting d held now before after = leaves_still disk now (λ x 
 
 -- ---- the words
 
-pub words_begin : {D : Type 0} (there : Files) (words : Option Wanted) (w : Wanted) (old now : D) (before after : Option (List ℕ)) (status : Status)
-    → Some w ≡ words → ScriptBegins status (script_of w.source there) old now before after → RunBegins status there words old now before after
-words_begin there words w old now before after status is begins = subst (λ (ws : Option Wanted). RunBegins status there ws old now before after) is begins
-
 pub misused : {D : Type 0} (there : Files) (words : Option Wanted) (now : D) (told : Option (List ℕ)) → ◌≡◌ {A = Option Wanted} None words → RunBegins Status.Usage there words now now told told
 misused there words now told none = subst (λ (ws : Option Wanted). RunBegins Status.Usage there ws now now told told) none (record { status_is = inl refl; idle = idle now told })
 
@@ -194,19 +192,22 @@ misused_ends disk there words d now told none = subst (λ (ws : Option Wanted). 
 -- the words couldn't be read for want of memory
 pub short_begins : {D : Type 0} (there : Files) (words : Option Wanted) (now : D) (told : Option (List ℕ)) → RunBegins Status.Memory there words now now told told
 short_begins there None now told = record { status_is = inr refl; idle = idle now told }
-short_begins there (Some w) now told = unbegun now told (script_of w.source there) Status.Memory (short (script_of w.source there))
+short_begins there (Some (runs run)) now told = unbegun now told (script_of run.source there) Status.Memory (short (script_of run.source there))
+short_begins there (Some audits) now told = tt
 
 pub short_end : {D : Type 0} (disk : Ghosts D) (there : Files) (words : Option Wanted) (d : Database) (now : D) (told : Option (List ℕ)) → RunEnds Status.Memory disk there words d now now told told
 short_end disk there None d now told = record { status_is = inr refl; idle = idle now told }
-short_end disk there (Some w) d now told =
-    unbegun_ends disk (setting_of there w.steps w.halts) d now told (script_of w.source there) Status.Memory (short (script_of w.source there))
+short_end disk there (Some (runs run)) d now told =
+    unbegun_ends disk (setting_of there run.steps run.halts) d now told (script_of run.source there) Status.Memory (short (script_of run.source there))
+short_end disk there (Some audits) d now told = tt
 
-still_left : {D : Type 0} (disk : Ghosts D) (old : D) (there : Files) (words : Option Wanted) (d : Database) (before after : Option (List ℕ)) (x : Contents) → IsStill disk old d x → RunLeaves disk old there words d before after x
-still_left disk old there None d before after x still = still
-still_left disk old there (Some w) d before after x still = script_still disk old (setting_of there w.steps w.halts) d (script_of w.source there) before after x still
+image_left : {D : Type 0} (disk : Ghosts D) (now : D) (there : Files) (words : Option Wanted) (d : Database) (before after : Option (List ℕ)) (x : Contents) → ImageOf disk now x → RunLeaves disk now there words d before after x
+image_left disk now there None d before after x image = inl image
+image_left disk now there (Some (runs run)) d before after x image = script_still disk now (setting_of there run.steps run.halts) d (script_of run.source there) before after x (inl image)
+image_left disk now there (Some audits) d before after x image = image_untouched disk now x image
 
 pub run_rests : {D : Type 0} (disk : Ghosts D) (there : Files) (words : Option Wanted) (d : Database) (now : D) (before after : Option (List ℕ)) → Leaves disk (RunLeaves disk now there words d before after) now now
-run_rests disk there words d now before after = leaves_still disk now (λ x image. still_left disk now there words d before after x (inl image))
+run_rests disk there words d now before after = leaves_still disk now (λ x image. image_left disk now there words d before after x image)
 
 -- words that name a script aren't misused
 pub begins_named : {D : Type 0} (held : Option (List ℕ)) (old now : D) (before after : Option (List ℕ)) (status : Status) → ScriptBegins status held old now before after → status ≡ Status.Usage → ⊥
@@ -290,15 +291,13 @@ large_where held old now before after status (inr (script, served, (ended, is)))
   always = λ over. absurd (not_large held script served over);
 }
 
-pub no_script_where : {D : Type 0} (there : Files) (words : Option Wanted) (w : Wanted) (old now : D) (before after : Option (List ℕ)) (status : Status)
-    → Some w ≡ words → ScriptBegins status (script_of w.source there) old now before after → ExactlyWhere status Status.NoScript (IsAbsent words there)
-no_script_where there words w old now before after status is begins =
-    subst (λ (ws : Option Wanted). ExactlyWhere status Status.NoScript (IsAbsent ws there)) is (absent_where (script_of w.source there) old now before after status begins)
+pub no_script_where : {D : Type 0} (there : Files) (run : ScriptRun) (old now : D) (before after : Option (List ℕ)) (status : Status)
+    → ScriptBegins status (script_of run.source there) old now before after → ExactlyWhere status Status.NoScript (IsAbsent (Some (runs run)) there)
+no_script_where there run old now before after status begins = absent_where (script_of run.source there) old now before after status begins
 
-pub too_large_where : {D : Type 0} (there : Files) (words : Option Wanted) (w : Wanted) (old now : D) (before after : Option (List ℕ)) (status : Status)
-    → Some w ≡ words → ScriptBegins status (script_of w.source there) old now before after → ExactlyWhere status Status.TooLarge (IsTooLarge words there)
-too_large_where there words w old now before after status is begins =
-    subst (λ (ws : Option Wanted). ExactlyWhere status Status.TooLarge (IsTooLarge ws there)) is (large_where (script_of w.source there) old now before after status begins)
+pub too_large_where : {D : Type 0} (there : Files) (run : ScriptRun) (old now : D) (before after : Option (List ℕ)) (status : Status)
+    → ScriptBegins status (script_of run.source there) old now before after → ExactlyWhere status Status.TooLarge (IsTooLarge (Some (runs run)) there)
+too_large_where there run old now before after status begins = large_where (script_of run.source there) old now before after status begins
 
 -- ---- what is answered where no count of faults rose
 
@@ -344,11 +343,10 @@ answered disk setting d held script old now before after was new status served (
 answered disk setting d held script old now before after was new status served (inr ran) sink read fault =
     answered_end disk setting d (statement_texts ran.script) old now before after was new status ran.ended ran.status_is ran.ends sink read fault
 
-pub complete : {D : Type 0} (disk : Ghosts D) (there : Files) (words : Option Wanted) (w : Wanted) (d : Database) (old now : D) (before after : Option (List ℕ)) (was new : Counts) (status : Status)
-    → words ≡ Some w → ScriptEnds status disk (setting_of there w.steps w.halts) d (script_of w.source there) old now before after
+pub complete : {D : Type 0} (disk : Ghosts D) (there : Files) (run : ScriptRun) (d : Database) (old now : D) (before after : Option (List ℕ)) (was new : Counts) (status : Status)
+    → ScriptEnds status disk (setting_of there run.steps run.halts) d (script_of run.source there) old now before after
     → (status ≡ Status.SinkFault → Rose was.sink new.sink) → (status ≡ Status.ReadFault → Rose was.files new.files) → (status ≡ Status.DiskFault → Rose was.disk new.disk)
-    → IsServable words there → IsAnswered status was new
-complete disk there words w d old now before after was new status is ends sink read fault servable =
-    let here : IsServable (Some w) there = subst (λ (x : Option Wanted). IsServable x there) is servable in
-    let (text, served) = served_from w.source there here in
-    answered disk (setting_of there w.steps w.halts) d (script_of w.source there) text old now before after was new status served ends sink read fault
+    → IsServable (Some (runs run)) there → IsAnswered status was new
+complete disk there run d old now before after was new status ends sink read fault servable =
+    let (text, served) = served_from run.source there servable in
+    answered disk (setting_of there run.steps run.halts) d (script_of run.source there) text old now before after was new status served ends sink read fault

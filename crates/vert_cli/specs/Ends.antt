@@ -12,8 +12,9 @@ use Rattle.folder_model.specs.Reopening.{Reopens}
 use Rattle.store_step.specs.Opening.{IsStartOf, IsStill}
 use Rattle.vert_cli.specs.declared.faults.RunFault.{RunFault}
 use Rattle.vert_cli.specs.declared.faults.Status.{Status}
-use Rattle.run_words.specs.Words.{Source, from_file, generated, Wanted}
+use Rattle.run_words.specs.Words.{Source, from_file, generated, Wanted, runs, audits}
 use Rattle.generated_load.specs.Load.{generated_files, generated_script}
+use Rattle.vert_cli.specs.Audits.{IsAuditStatus, IsUntouched}
 use Rattle.vert_cli.specs.Runs.{setting_of, RanWhole, LeavesNow, IsLeft, StoppedAt, IsOnTheWay}
 
 -- ---- the statuses
@@ -30,6 +31,7 @@ code_of (Status.Damaged name) = 6
 code_of Status.Memory = 7
 code_of Status.ReadFault = 8
 code_of Status.TooLarge = 9
+code_of Status.AuditNo = 10
 
 -- the status of a run that came to its end, with some statement refused or none
 abbrev pub status_of_run : Bool → Status
@@ -162,7 +164,8 @@ AreFilesFor (generated lines seed) content files = files ≡ generated_files lin
 
 abbrev pub AreFilesOf : Option Wanted → Option Files → Files → Type 0
 AreFilesOf None content files = ⊤
-AreFilesOf (Some w) content files = AreFilesFor w.source content files
+AreFilesOf (Some (runs run)) content files = AreFilesFor run.source content files
+AreFilesOf (Some audits) content files = ⊤
 
 -- the script: what the files have under its name, or the generated one
 abbrev pub script_of : Source → Files → Option (List ℕ)
@@ -174,30 +177,35 @@ pub record IsMisused {D : Type 0} (status : Status) (old now : D) (before after 
   pub status_is : (status ≡ Status.Usage) ⊎ (status ≡ Status.Memory)
   pub idle : IsIdle old now before after
 
--- whether a run begins, by what its words ask for and by what its files have under each name
+-- whether a run begins, by what its words ask for and by what its files have under each name; an audit always does
 abbrev pub RunBegins : {D : Type 0} → Status → Files → Option Wanted → D → D → Option (List ℕ) → Option (List ℕ) → Type 0
 RunBegins status files None old now before after = IsMisused status old now before after
-RunBegins status files (Some w) old now before after = ScriptBegins status (script_of w.source files) old now before after
+RunBegins status files (Some (runs run)) old now before after = ScriptBegins status (script_of run.source files) old now before after
+RunBegins status files (Some audits) old now before after = IsAuditStatus status
 
--- how it ends
+-- how it ends; how an audit does is said over any contents of the disk (`AuditEnds`)
 abbrev pub RunEnds : {D : Type 0} → Status → Ghosts D → Files → Option Wanted → Database → D → D → Option (List ℕ) → Option (List ℕ) → Type 0
 RunEnds status disk files None d old now before after = IsMisused status old now before after
-RunEnds status disk files (Some w) d old now before after = ScriptEnds status disk (setting_of files w.steps w.halts) d (script_of w.source files) old now before after
+RunEnds status disk files (Some (runs run)) d old now before after = ScriptEnds status disk (setting_of files run.steps run.halts) d (script_of run.source files) old now before after
+RunEnds status disk files (Some audits) d old now before after = ⊤
 
 -- and what a crash leaves of it
 abbrev pub RunLeaves : {D : Type 0} → Ghosts D → D → Files → Option Wanted → Database → Option (List ℕ) → Option (List ℕ) → Contents → Type 0
 RunLeaves disk old files None d before after x = IsStill disk old d x
-RunLeaves disk old files (Some w) d before after x = CutInScript disk old (setting_of files w.steps w.halts) d (script_of w.source files) before after x
+RunLeaves disk old files (Some (runs run)) d before after x = CutInScript disk old (setting_of files run.steps run.halts) d (script_of run.source files) before after x
+RunLeaves disk old files (Some audits) d before after x = IsUntouched disk old x
 
 -- no file has the name that the words name
 abbrev pub IsAbsent : Option Wanted → Files → Type 0
 IsAbsent None files = ⊥
-IsAbsent (Some w) files = script_of w.source files ≡ None
+IsAbsent (Some (runs run)) files = script_of run.source files ≡ None
+IsAbsent (Some audits) files = ⊥
 
 -- the script that the words name is there, and over a limit
 abbrev pub IsTooLarge : Option Wanted → Files → Type 0
 IsTooLarge None files = ⊥
-IsTooLarge (Some w) files = IsLarge (script_of w.source files)
+IsTooLarge (Some (runs run)) files = IsLarge (script_of run.source files)
+IsTooLarge (Some audits) files = ⊥
 
 -- the script that is read is there, and within the limits; the generated one always is
 abbrev pub IsServableFrom : Source → Files → Type 0
@@ -206,7 +214,8 @@ IsServableFrom (generated lines seed) files = ⊤
 
 abbrev pub IsServable : Option Wanted → Files → Type 0
 IsServable None files = ⊥
-IsServable (Some w) files = IsServableFrom w.source files
+IsServable (Some (runs run)) files = IsServableFrom run.source files
+IsServable (Some audits) files = ⊤
 
 -- this status comes only where the fact holds; and where it holds this status comes, or the script wasn't read whole
 pub record ExactlyWhere (result status : Status) (Fact : Type 0) : Type 0 where

@@ -1,6 +1,7 @@
 pub mod Sessions
 pub mod Statements
 pub mod Runs
+pub mod Audits
 pub mod Ends
 pub use Rattle.db_model.specs.Loading
 pub use Rattle.db_model.specs.Mover

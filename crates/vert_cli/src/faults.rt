@@ -34,10 +34,12 @@ pub enum Status {
     ReadFault,
     /// The script has over 67,108,864 bytes or over 4,096 statements.
     TooLarge,
+    /// The folder that was audited doesn't reopen.
+    AuditNo,
 }
 
 impl Status {
-    /// The code that the program ends with: 0 to 9, in the order of the variants.
+    /// The code that the program ends with: 0 to 10, in the order of the variants.
     pub fn code(&self) -> u8
         ensures { result ≡ code_of self.now }
     {
@@ -52,6 +54,7 @@ impl Status {
             Status::Memory => 7,
             Status::ReadFault => 8,
             Status::TooLarge => 9,
+            Status::AuditNo => 10,
         }
     }
 }

@@ -6,31 +6,38 @@ ghost use Rattle.common_laws.specs.Causes.{Rose};
 ghost use Rattle.col_disk.specs.Moved.{Leaves};
 ghost use Rattle.db_model.specs.Database.{Database as Logical};
 ghost use Rattle.db_model.specs.Loading.{Files as LoadFiles};
-ghost use Rattle.run_words.specs.Told.{source_told};
+ghost use Rattle.common_laws.specs.Maps.{Contents};
+ghost use Rattle.run_words.specs.Told.{source_told, told};
 ghost use Rattle.run_words.specs.Words.{wanted};
 ghost use Rattle.generated_load.specs.Load.{generated_files, generated_script};
 ghost use Rattle.vert_cli.specs.declared.faults.Status.TheVariants.{Usage as usage_refused, NoScript as no_script, SinkFault as sink_fault, ReadFault as read_fault, DiskFault as disk_fault, Memory as no_memory, TooLarge as too_large};
+ghost use Rattle.vert_cli.specs.Audits.{AuditKeeps, AuditOf};
 ghost use Rattle.vert_cli.specs.Runs.{setting_of};
 ghost use Rattle.vert_cli.specs.Ends.{AreFilesFor, AreFilesOf, CutInScript, ExactlyWhere, IsAbsent, IsAnswered, IsIdle, IsOpenable, IsServable, IsTooLarge, NeverBegins, RunBegins, RunEnds, RunLeaves, ScriptBegins, ScriptEnds, script_of};
 
+use crate::auditing::run_audit;
 use crate::faults::Status;
 use crate::script::run_script;
 use col_disk::Disk;
 use col_io::{Files, FilesFault, Got, Sink};
 use generated_load::{Generated, script};
-use run_words::{Source, Wanted, read_words};
+use run_words::{ScriptRun, Source, Wanted, read_words};
 use std::alloc::{AllocError, Global};
 
 // The most bytes of a script.
 const MOST_BYTES: usize = 67_108_864;
 
-/// Does all that the program does: `vert DIR [--mover K] [--halt] [--gen N --seed S] [SCRIPT]`, its own name as the first word.
+/// Does all that the program does: `vert DIR [--mover K] [--halt] [--gen N --seed S] [SCRIPT]` or `vert DIR --audit`, its own name as the
+/// first word.
 ///
 /// It reads the file SCRIPT, or takes the generated script over the files that have its load, opens the tables that the disk holds, runs the
 /// script's statements in order over them, each with K steps of the mover behind it, and writes what each prints. At the end, after `Done`
 /// and `Refused`, all tables are on the disk, but with `--halt`, which leaves the end out. Each status comes as `Status` says; `Memory` is
 /// free to come at any time. What is said of a script that is read holds where the files tell their content, what is said of the written
 /// bytes where the sink tells them, and what is said of the tables where the disk tells what it holds.
+///
+/// An audit reads no script: it judges the folder, writes the verdict, and writes and removes no file. `Done` and `AuditNo` tell whether the
+/// folder reopens, which no other status of an audit does.
 pub fn run<F: Files, S: Sink, D: Disk>(
     alloc: Global,
     words: &[String],
@@ -49,6 +56,8 @@ pub fn run<F: Files, S: Sink, D: Disk>(
         → Leaves ⟦<D as Disk>⟧ (RunLeaves ⟦<D as Disk>⟧ disk.old there (wanted (map string_bytes words.now)) d (S.taken out.old) (S.taken out.new)) disk.old disk.new }
     ensures complete { (there : LoadFiles) (d : Logical) → AreFilesOf (wanted (map string_bytes words.now)) (F.content files.old) there → IsOpenable ⟦<D as Disk>⟧ disk.old d → IsServable (wanted (map string_bytes words.now)) there
         → IsAnswered result (record { sink = S.faults out.old; files = F.faults files.old; disk = D.faults disk.old }) (record { sink = S.faults out.new; files = F.faults files.new; disk = D.faults disk.new }) }
+    ensures audit { (m : Contents) → D.holds disk.old ≡ Some m → AuditOf (wanted (map string_bytes words.now)) result m (S.taken out.old) (S.taken out.new) }
+    ensures audit_keeps { AuditKeeps ⟦<D as Disk>⟧ (wanted (map string_bytes words.now)) disk.old disk.new }
     ensures idle { NeverBegins result → IsIdle disk.old disk.new (S.taken out.old) (S.taken out.new) }
     ensures content { F.content files.new ≡ F.content files.old }
     ensures sink { result ≡ sink_fault → Rose (S.faults out.old) (S.faults out.new) }
@@ -59,35 +68,31 @@ pub fn run<F: Files, S: Sink, D: Disk>(
     ensures disk_later { D.faults disk.old ≤ D.faults disk.new }
 {
     match read_words(alloc, words) {
-        Ok(
-            Some(
-                Wanted {
-                    source,
-                    steps,
-                    halts,
-                },
-            ),
-        ) => run_source(alloc, source, steps, halts, files, out, disk),
+        Ok(Some(wanted)) => run_wanted(alloc, wanted, files, out, disk),
         Ok(None) => Status::Usage,
         Err(AllocError) => Status::Memory,
     }
 }
 
-// Runs the script that the words name, or the generated one.
-fn run_source<F: Files, S: Sink, D: Disk>(
+// Runs the script, or judges the folder.
+fn run_wanted<F: Files, S: Sink, D: Disk>(
     alloc: Global,
-    source: Source,
-    steps: u32,
-    halts: bool,
+    wanted: Wanted,
     files: &mut F,
     out: &mut S,
     disk: &mut D,
 ) -> Status
-    ensures begins { (there : LoadFiles) → AreFilesFor (source_told source) (F.content files.old) there → ScriptBegins result (script_of (source_told source) there) disk.old disk.new (S.taken out.old) (S.taken out.new) }
-    ensures ends { (there : LoadFiles) (d : Logical) → AreFilesFor (source_told source) (F.content files.old) there → IsOpenable ⟦<D as Disk>⟧ disk.old d
-        → ScriptEnds result ⟦<D as Disk>⟧ (setting_of there steps halts) d (script_of (source_told source) there) disk.old disk.new (S.taken out.old) (S.taken out.new) }
-    ensures any_moment { (there : LoadFiles) (d : Logical) → AreFilesFor (source_told source) (F.content files.old) there → IsOpenable ⟦<D as Disk>⟧ disk.old d
-        → Leaves ⟦<D as Disk>⟧ (CutInScript ⟦<D as Disk>⟧ disk.old (setting_of there steps halts) d (script_of (source_told source) there) (S.taken out.old) (S.taken out.new)) disk.old disk.new }
+    ensures begins { (there : LoadFiles) → AreFilesOf (Some (told wanted)) (F.content files.old) there → RunBegins result there (Some (told wanted)) disk.old disk.new (S.taken out.old) (S.taken out.new) }
+    ensures no_script { (there : LoadFiles) → AreFilesOf (Some (told wanted)) (F.content files.old) there → ExactlyWhere result no_script (IsAbsent (Some (told wanted)) there) }
+    ensures too_large { (there : LoadFiles) → AreFilesOf (Some (told wanted)) (F.content files.old) there → ExactlyWhere result too_large (IsTooLarge (Some (told wanted)) there) }
+    ensures output { (there : LoadFiles) (d : Logical) → AreFilesOf (Some (told wanted)) (F.content files.old) there → IsOpenable ⟦<D as Disk>⟧ disk.old d
+        → RunEnds result ⟦<D as Disk>⟧ there (Some (told wanted)) d disk.old disk.new (S.taken out.old) (S.taken out.new) }
+    ensures any_moment { (there : LoadFiles) (d : Logical) → AreFilesOf (Some (told wanted)) (F.content files.old) there → IsOpenable ⟦<D as Disk>⟧ disk.old d
+        → Leaves ⟦<D as Disk>⟧ (RunLeaves ⟦<D as Disk>⟧ disk.old there (Some (told wanted)) d (S.taken out.old) (S.taken out.new)) disk.old disk.new }
+    ensures complete { (there : LoadFiles) (d : Logical) → AreFilesOf (Some (told wanted)) (F.content files.old) there → IsOpenable ⟦<D as Disk>⟧ disk.old d → IsServable (Some (told wanted)) there
+        → IsAnswered result (record { sink = S.faults out.old; files = F.faults files.old; disk = D.faults disk.old }) (record { sink = S.faults out.new; files = F.faults files.new; disk = D.faults disk.new }) }
+    ensures audit { (m : Contents) → D.holds disk.old ≡ Some m → AuditOf (Some (told wanted)) result m (S.taken out.old) (S.taken out.new) }
+    ensures audit_keeps { AuditKeeps ⟦<D as Disk>⟧ (Some (told wanted)) disk.old disk.new }
     ensures named { result ≢ usage_refused }
     ensures idle { NeverBegins result → IsIdle disk.old disk.new (S.taken out.old) (S.taken out.new) }
     ensures content { F.content files.new ≡ F.content files.old }
@@ -98,6 +103,46 @@ fn run_source<F: Files, S: Sink, D: Disk>(
     ensures files_later { F.faults files.old ≤ F.faults files.new }
     ensures disk_later { D.faults disk.old ≤ D.faults disk.new }
 {
+    match wanted {
+        Wanted::Run(
+            ScriptRun {
+                source,
+                steps,
+                halts,
+            },
+        ) => run_source(alloc, source, steps, halts, files, out, disk),
+        Wanted::Audit => run_audit(alloc, out, disk),
+    }
+}
+
+// Runs the script that the words name, or the generated one.
+fn run_source<F: Files, S: Sink, D: Disk>(
+    alloc: Global,
+    run: ScriptRun,
+    files: &mut F,
+    out: &mut S,
+    disk: &mut D,
+) -> Status
+    ensures begins { (there : LoadFiles) → AreFilesFor (source_told run.source) (F.content files.old) there → ScriptBegins result (script_of (source_told run.source) there) disk.old disk.new (S.taken out.old) (S.taken out.new) }
+    ensures ends { (there : LoadFiles) (d : Logical) → AreFilesFor (source_told run.source) (F.content files.old) there → IsOpenable ⟦<D as Disk>⟧ disk.old d
+        → ScriptEnds result ⟦<D as Disk>⟧ (setting_of there run.steps run.halts) d (script_of (source_told run.source) there) disk.old disk.new (S.taken out.old) (S.taken out.new) }
+    ensures any_moment { (there : LoadFiles) (d : Logical) → AreFilesFor (source_told run.source) (F.content files.old) there → IsOpenable ⟦<D as Disk>⟧ disk.old d
+        → Leaves ⟦<D as Disk>⟧ (CutInScript ⟦<D as Disk>⟧ disk.old (setting_of there run.steps run.halts) d (script_of (source_told run.source) there) (S.taken out.old) (S.taken out.new)) disk.old disk.new }
+    ensures named { result ≢ usage_refused }
+    ensures idle { NeverBegins result → IsIdle disk.old disk.new (S.taken out.old) (S.taken out.new) }
+    ensures content { F.content files.new ≡ F.content files.old }
+    ensures sink { result ≡ sink_fault → Rose (S.faults out.old) (S.faults out.new) }
+    ensures read { result ≡ read_fault → Rose (F.faults files.old) (F.faults files.new) }
+    ensures fault { result ≡ disk_fault → Rose (D.faults disk.old) (D.faults disk.new) }
+    ensures later { S.faults out.old ≤ S.faults out.new }
+    ensures files_later { F.faults files.old ≤ F.faults files.new }
+    ensures disk_later { D.faults disk.old ≤ D.faults disk.new }
+{
+    let ScriptRun {
+        source,
+        steps,
+        halts,
+    } = run;
     match source {
         Source::Script(name) => run_file(alloc, name.as_str(), steps, halts, files, out, disk),
         Source::Generated { lines, seed } => {

@@ -1,0 +1,161 @@
+-- What an audit answers, and what a crash leaves of it.
+use Rattle.std.proofs.Common.{◌≡◌, ◌≤◌, ◌∙◌, ℕ, List, inl, inr, false, true, refl, sym, ap, subst, arith}
+use Rattle.std.specs.Prelude.{◌⊎◌, Option, Some, None}
+use Rattle.common_laws.specs.Causes.{Rose}
+use Rattle.common_laws.specs.Maps.{Contents}
+use Rattle.col_disk.specs.Moved.{ImageOf, Leaves, Moved, NoName}
+use Rattle.col_disk.specs.declared.disk.Disk.{Ghosts}
+use Rattle.db_model.specs.Database.{Database}
+use Rattle.folder_model.specs.Reopening.{Reopens}
+use Rattle.audit_model.specs.Verdicts.{IsVerdict, IsYes}
+use Rattle.audit_model.specs.declared.verdict.Verdict.{Verdict}
+use Rattle.audit_model.specs.declared.verdict.Verdict.TheVariants.{Yes, File, BadRow, Differ}
+use Rattle.run_words.specs.Words.{Wanted, runs, audits}
+use Rattle.vert_cli.specs.declared.faults.Status.{Status}
+use Rattle.vert_cli.specs.Audits.{AuditEnds, AuditKeeps, AuditOf, IsAuditStatus, IsUntouched, IsUnwritten, Judged, TellsFolder, Told, status_of_verdict}
+use Rattle.vert_cli.specs.Ends.{Counts, ExactlyWhere, IsAnswered, IsOpenable, NeverBegins}
+
+-- ---- the verdict and the folder
+
+-- the laws of the verdict over these contents
+abbrev pub YesReopens : Contents → Verdict → Type 0
+YesReopens m verdict = (last ahm : ℕ) → IsYes last ahm verdict → (d : Database) × Reopens m d × (d.last ≡ last) × (d.ahm ≡ ahm)
+
+abbrev pub ReopensYes : Contents → Verdict → Type 0
+ReopensYes m verdict = (d : Database) → Reopens m d → IsYes d.last d.ahm verdict
+
+pub tells_folder : (m : Contents) (verdict : Verdict) → YesReopens m verdict → ReopensYes m verdict → TellsFolder m verdict
+tells_folder m (Yes last ahm) found none = found last ahm (refl, refl)
+tells_folder m (File name) found none = none
+tells_folder m (BadRow table projection base pos) found none = none
+tells_folder m (Differ table first second first_count second_count row) found none = none
+
+pub told_ends : (m : Contents) (before after : Option (List ℕ)) (verdict : Verdict) → Told m (status_of_verdict verdict) before after → AuditEnds (status_of_verdict verdict) m before after
+told_ends m before after (Yes last ahm) told = told
+told_ends m before after (File name) told = told
+told_ends m before after (BadRow table projection base pos) told = told
+told_ends m before after (Differ table first second first_count second_count row) told = told
+
+pub verdict_begins : (verdict : Verdict) → IsAuditStatus (status_of_verdict verdict)
+verdict_begins (Yes last ahm) = tt
+verdict_begins (File name) = tt
+verdict_begins (BadRow table projection base pos) = tt
+verdict_begins (Differ table first second first_count second_count row) = tt
+
+-- ---- what a crash leaves
+
+pub image_untouched : {D : Type 0} (disk : Ghosts D) (now : D) (x : Contents) → ImageOf disk now x → IsUntouched disk now x
+image_untouched disk now x image = (x, image, λ q not. inl refl)
+
+pub untouched_left : {D : Type 0} (disk : Ghosts D) (old now : D) → IsUnwritten disk old now → Leaves disk (IsUntouched disk old) old now
+untouched_left disk old now unwritten = record {
+  later = unwritten.moved.later;
+  since_then = λ x since. by x (unwritten.moved.each (disk.clock old) x (omega arith) since);
+  each = unwritten.moved.each;
+}
+  where
+    by : (x : Contents) → disk.since old (disk.clock old) x ⊎ IsUntouched disk old x → IsUntouched disk old x
+    by x (inl image) = image_untouched disk old x image
+    by x (inr left) = left
+
+-- ---- the statuses
+
+pub not_unbegun : (status : Status) → IsAuditStatus status → NeverBegins status → ⊥
+not_unbegun Status.Done is never = by never
+  where
+    by : NeverBegins Status.Done → ⊥
+    by (inl e) = cc
+    by (inr (inl e)) = cc
+    by (inr (inr e)) = cc
+not_unbegun Status.SinkFault is never = by never
+  where
+    by : NeverBegins Status.SinkFault → ⊥
+    by (inl e) = cc
+    by (inr (inl e)) = cc
+    by (inr (inr e)) = cc
+not_unbegun Status.DiskFault is never = by never
+  where
+    by : NeverBegins Status.DiskFault → ⊥
+    by (inl e) = cc
+    by (inr (inl e)) = cc
+    by (inr (inr e)) = cc
+not_unbegun Status.Memory is never = by never
+  where
+    by : NeverBegins Status.Memory → ⊥
+    by (inl e) = cc
+    by (inr (inl e)) = cc
+    by (inr (inr e)) = cc
+not_unbegun Status.AuditNo is never = by never
+  where
+    by : NeverBegins Status.AuditNo → ⊥
+    by (inl e) = cc
+    by (inr (inl e)) = cc
+    by (inr (inr e)) = cc
+not_unbegun Status.Refused is never = absurd is
+not_unbegun Status.Usage is never = absurd is
+not_unbegun Status.NoScript is never = absurd is
+not_unbegun (Status.Damaged name) is never = absurd is
+not_unbegun Status.ReadFault is never = absurd is
+not_unbegun Status.TooLarge is never = absurd is
+
+pub never_where : (status other : Status) (Fact : Type 0) → (status ≡ other → ⊥) → (Fact → ⊥) → ExactlyWhere status other Fact
+never_where status other Fact not none = record { only = λ is. absurd (not is); always = λ fact. absurd (none fact) }
+
+no_unread : (status : Status) → IsAuditStatus status → status ≡ Status.ReadFault → ⊥
+no_unread Status.Done is e = cc
+no_unread Status.SinkFault is e = cc
+no_unread Status.DiskFault is e = cc
+no_unread Status.Memory is e = cc
+no_unread Status.AuditNo is e = cc
+no_unread Status.Refused is e = absurd is
+no_unread Status.Usage is e = absurd is
+no_unread Status.NoScript is e = absurd is
+no_unread (Status.Damaged name) is e = absurd is
+no_unread Status.ReadFault is e = absurd is
+no_unread Status.TooLarge is e = absurd is
+
+pub audit_unread : (status : Status) → IsAuditStatus status → status ≡ Status.ReadFault → ⊥
+audit_unread = no_unread
+
+-- over a folder that reopens the verdict is Yes
+refused_never : (m : Contents) (d : Database) (verdict : Verdict) → Reopens m d → TellsFolder m verdict → Status.AuditNo ≡ status_of_verdict verdict → ⊥
+refused_never m d (Yes last ahm) reopens tells is = cc
+refused_never m d (File name) reopens tells is = tells d reopens
+refused_never m d (BadRow table projection base pos) reopens tells is = tells d reopens
+refused_never m d (Differ table first second first_count second_count row) reopens tells is = tells d reopens
+
+pub audit_answered : (m : Contents) (d : Database) (before after : Option (List ℕ)) (was new : Counts) (status : Status) → Reopens m d → AuditEnds status m before after
+    → (status ≡ Status.SinkFault → Rose was.sink new.sink) → (status ≡ Status.DiskFault → Rose was.disk new.disk) → IsAnswered status was new
+audit_answered m d before after was new Status.Done reopens ends sink fault = inl (false, refl)
+audit_answered m d before after was new Status.SinkFault reopens ends sink fault = inr (inr (inl (refl, sink refl)))
+audit_answered m d before after was new Status.DiskFault reopens ends sink fault = inr (inr (inr (inr (refl, fault refl))))
+audit_answered m d before after was new Status.Memory reopens ends sink fault = inr (inl refl)
+audit_answered m d before after was new Status.AuditNo reopens ends sink fault = absurd (refused_never m d ends.judged.verdict reopens ends.judged.tells ends.status_is)
+audit_answered m d before after was new Status.Refused reopens ends sink fault = absurd ends
+audit_answered m d before after was new Status.Usage reopens ends sink fault = absurd ends
+audit_answered m d before after was new Status.NoScript reopens ends sink fault = absurd ends
+audit_answered m d before after was new (Status.Damaged name) reopens ends sink fault = absurd ends
+audit_answered m d before after was new Status.ReadFault reopens ends sink fault = absurd ends
+audit_answered m d before after was new Status.TooLarge reopens ends sink fault = absurd ends
+
+-- ---- words that ask for none
+
+pub nothing_audited : (words : Option Wanted) (status : Status) (m : Contents) (told : Option (List ℕ)) → ◌≡◌ {A = Option Wanted} None words → AuditOf words status m told told
+nothing_audited words status m told none = subst (λ (ws : Option Wanted). AuditOf ws status m told told) none tt
+
+pub nothing_kept : {D : Type 0} (disk : Ghosts D) (words : Option Wanted) (now : D) → ◌≡◌ {A = Option Wanted} None words → AuditKeeps disk words now now
+nothing_kept disk words now none = subst (λ (ws : Option Wanted). AuditKeeps disk ws now now) none tt
+
+-- the words couldn't be read for want of memory
+pub short_audit : (m : Contents) (words : Option Wanted) (told : Option (List ℕ)) → AuditOf words Status.Memory m told told
+short_audit m None told = tt
+short_audit m (Some (runs run)) told = tt
+short_audit m (Some audits) told = inl refl
+
+unmoved : {D : Type 0} (disk : Ghosts D) (now : D) → Moved disk NoName NoName now now
+unmoved disk now = search rules
+
+pub short_kept : {D : Type 0} (disk : Ghosts D) (words : Option Wanted) (now : D) → AuditKeeps disk words now now
+short_kept disk None now = tt
+short_kept disk (Some (runs run)) now = tt
+short_kept disk (Some audits) now = record { kept = refl; moved = unmoved disk now }
