@@ -6,5 +6,8 @@
 #![tactic(auto)]
 
 mod difference;
+mod ordering;
+mod ranks;
+mod walk;
 
 pub use difference::{Difference, least_difference};
