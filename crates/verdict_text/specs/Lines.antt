@@ -33,9 +33,9 @@ yes_text last ahm = codes "AUDIT YES " ++ numbers_text last ahm
 abbrev pub file_text : ℕ → List ℕ
 file_text name = codes "AUDIT NO FILE " ++ (decimal name ++ codes "\n")
 
--- `AUDIT NO ROW table projection base pos`
+-- `AUDIT NO ROW table projection base position`
 abbrev pub bad_row_text : List ℕ → List ℕ → ℕ → ℕ → List ℕ
-bad_row_text table projection base pos = codes "AUDIT NO ROW " ++ (names_text table projection ++ (codes " " ++ numbers_text base pos))
+bad_row_text table projection base place = codes "AUDIT NO ROW " ++ (names_text table projection ++ (codes " " ++ numbers_text base place))
 
 -- `AUDIT NO PAIR table first second first_count second_count`, and the line of the row
 abbrev pub differ_text : List ℕ → List ℕ → List ℕ → ℕ → ℕ → Stamped → List ℕ
@@ -45,5 +45,5 @@ differ_text table first second first_count second_count row =
 abbrev pub verdict_text : Verdict → List ℕ
 verdict_text (Yes last ahm) = yes_text last ahm
 verdict_text (File name) = file_text name
-verdict_text (BadRow table projection base pos) = bad_row_text table projection base pos
+verdict_text (BadRow table projection base place) = bad_row_text table projection base place
 verdict_text (Differ table first second first_count second_count row) = differ_text table first second first_count second_count row

@@ -27,19 +27,19 @@ ReopensYes m verdict = (d : Database) → Reopens m d → IsYes d.last d.ahm ver
 pub tells_folder : (m : Contents) (verdict : Verdict) → YesReopens m verdict → ReopensYes m verdict → TellsFolder m verdict
 tells_folder m (Yes last ahm) found none = found last ahm (refl, refl)
 tells_folder m (File name) found none = none
-tells_folder m (BadRow table projection base pos) found none = none
+tells_folder m (BadRow table projection base place) found none = none
 tells_folder m (Differ table first second first_count second_count row) found none = none
 
 pub told_ends : (m : Contents) (before after : Option (List ℕ)) (verdict : Verdict) → Told m (status_of_verdict verdict) before after → AuditEnds (status_of_verdict verdict) m before after
 told_ends m before after (Yes last ahm) told = told
 told_ends m before after (File name) told = told
-told_ends m before after (BadRow table projection base pos) told = told
+told_ends m before after (BadRow table projection base place) told = told
 told_ends m before after (Differ table first second first_count second_count row) told = told
 
 pub verdict_begins : (verdict : Verdict) → IsAuditStatus (status_of_verdict verdict)
 verdict_begins (Yes last ahm) = tt
 verdict_begins (File name) = tt
-verdict_begins (BadRow table projection base pos) = tt
+verdict_begins (BadRow table projection base place) = tt
 verdict_begins (Differ table first second first_count second_count row) = tt
 
 -- ---- what a crash leaves
@@ -121,7 +121,7 @@ audit_unread = no_unread
 refused_never : (m : Contents) (d : Database) (verdict : Verdict) → Reopens m d → TellsFolder m verdict → Status.AuditNo ≡ status_of_verdict verdict → ⊥
 refused_never m d (Yes last ahm) reopens tells is = cc
 refused_never m d (File name) reopens tells is = tells d reopens
-refused_never m d (BadRow table projection base pos) reopens tells is = tells d reopens
+refused_never m d (BadRow table projection base place) reopens tells is = tells d reopens
 refused_never m d (Differ table first second first_count second_count row) reopens tells is = tells d reopens
 
 pub audit_answered : (m : Contents) (d : Database) (before after : Option (List ℕ)) (was new : Counts) (status : Status) → Reopens m d → AuditEnds status m before after

@@ -17,13 +17,13 @@ use Rattle.vert_cli.specs.declared.faults.Status.{Status}
 abbrev pub TellsFolder : Contents → Verdict → Type 0
 TellsFolder m (Yes last ahm) = (d : Database) × Reopens m d × (d.last ≡ last) × (d.ahm ≡ ahm)
 TellsFolder m (File name) = (d : Database) → Reopens m d → ⊥
-TellsFolder m (BadRow table projection base pos) = (d : Database) → Reopens m d → ⊥
+TellsFolder m (BadRow table projection base place) = (d : Database) → Reopens m d → ⊥
 TellsFolder m (Differ table first second first_count second_count row) = (d : Database) → Reopens m d → ⊥
 
 abbrev pub status_of_verdict : Verdict → Status
 status_of_verdict (Yes last ahm) = Status.Done
 status_of_verdict (File name) = Status.AuditNo
-status_of_verdict (BadRow table projection base pos) = Status.AuditNo
+status_of_verdict (BadRow table projection base place) = Status.AuditNo
 status_of_verdict (Differ table first second first_count second_count row) = Status.AuditNo
 
 -- the verdict on the folder was found
