@@ -25,7 +25,8 @@ use pos_index::PosIndex;
 use row_bounds::Bound;
 use std::alloc::{AllocError, Global};
 
-/// The epochs that inserted the rows of a block; none where all are up to the epoch that is asked for and they aren't told.
+/// The epochs that inserted the rows of a block; none where all are up to the epoch that is asked for and they aren't told. They are read all the
+/// same, so that a damaged file of theirs is blamed by each query that reads the block.
 fn inserted<D: Disk>(
     alloc: Global,
     disk: &mut D,
@@ -46,11 +47,14 @@ fn inserted<D: Disk>(
     ensures moved { Moved ⟦<D as Disk>⟧ NoName NoName disk.old disk.new }
     ensures cause { HasCause StoreFault.Disk (D.faults disk.old) (D.faults disk.new) result }
 {
-    if !stamps && entry.greatest_epoch <= epoch {
-        return Ok(Vec::new(alloc));
-    }
     match epochs(alloc, disk, entry, at, shape, k) {
-        Ok(inserted) => Ok(inserted),
+        Ok(inserted) => {
+            if !stamps && entry.greatest_epoch <= epoch {
+                Ok(Vec::new(alloc))
+            } else {
+                Ok(inserted)
+            }
+        }
         Err(fault) => Err(fault),
     }
 }

@@ -3,16 +3,19 @@ use Rattle.std.proofs.Common.{◌≡◌, ◌≤◌, ◌∙◌, ℕ, List, inl, i
 use Rattle.std.specs.Prelude.{◌⊎◌, Option, Some, None}
 use Rattle.common_laws.specs.Causes.{Rose}
 use Rattle.common_laws.specs.Maps.{Contents}
-use Rattle.col_disk.specs.Moved.{ImageOf, Leaves, Moved, NoName}
+use Rattle.common_laws.specs.Told.{Appends, AppendsFront}
+use Rattle.col_disk.specs.Moved.{ImageOf, Leaves}
 use Rattle.col_disk.specs.declared.disk.Disk.{Ghosts}
+use Rattle.col_disk.proofs.Moving.{leaves_moved, moved_none}
 use Rattle.db_model.specs.Database.{Database}
 use Rattle.folder_model.specs.Reopening.{Reopens}
 use Rattle.audit_model.specs.Verdicts.{IsVerdict, IsYes}
 use Rattle.audit_model.specs.declared.verdict.Verdict.{Verdict}
 use Rattle.audit_model.specs.declared.verdict.Verdict.TheVariants.{Yes, File, BadRow, Differ}
+use Rattle.verdict_text.specs.Lines.{verdict_text}
 use Rattle.run_words.specs.Words.{Wanted, runs, audits}
 use Rattle.vert_cli.specs.declared.faults.Status.{Status}
-use Rattle.vert_cli.specs.Audits.{AuditEnds, AuditKeeps, AuditOf, IsAuditStatus, IsUntouched, IsUnwritten, Judged, TellsFolder, Told, status_of_verdict}
+use Rattle.vert_cli.specs.Audits.{AuditEnds, AuditKeeps, AuditOf, IsAuditStatus, IsUntouched, IsUnwritten, Judged, TellsFolder, Told, ToldPart, status_of_verdict}
 use Rattle.vert_cli.specs.Ends.{Counts, ExactlyWhere, IsAnswered, IsOpenable, NeverBegins}
 
 -- ---- the verdict and the folder
@@ -29,6 +32,17 @@ tells_folder m (Yes last ahm) found none = found last ahm (refl, refl)
 tells_folder m (File name) found none = none
 tells_folder m (BadRow table projection base place) found none = none
 tells_folder m (Differ table first second first_count second_count row) found none = none
+
+-- the verdict that was found, with the laws of verdicts
+abbrev pub judged_of : (m : Contents) (verdict : Verdict) → IsVerdict m verdict → ((n : Contents) (v : Verdict) (last ahm : ℕ) → IsVerdict n v → IsYes last ahm v → (d : Database) × Reopens n d × (d.last ≡ last) × (d.ahm ≡ ahm))
+    → ((n : Contents) (v : Verdict) (d : Database) → IsVerdict n v → Reopens n d → IsYes d.last d.ahm v) → Judged m
+judged_of m verdict is reopens passes = record { verdict = verdict; is = is; tells = tells_folder m verdict (λ last ahm said. reopens m verdict last ahm is said) (λ d here. passes m verdict d is here) }
+
+pub whole_told : (m : Contents) (before after : Option (List ℕ)) (judged : Judged m) (bytes : List ℕ) → bytes ≡ verdict_text judged.verdict → Appends before after bytes → Told m (status_of_verdict judged.verdict) before after
+whole_told m before after judged bytes same taken = record { judged = judged; status_is = refl; taken = subst (λ (b : List ℕ). Appends before after b) same taken }
+
+pub part_told : (m : Contents) (before after : Option (List ℕ)) (judged : Judged m) (bytes : List ℕ) → bytes ≡ verdict_text judged.verdict → AppendsFront before after bytes → ToldPart m before after
+part_told m before after judged bytes same taken = record { judged = judged; taken = subst (λ (b : List ℕ). AppendsFront before after b) same taken }
 
 pub told_ends : (m : Contents) (before after : Option (List ℕ)) (verdict : Verdict) → Told m (status_of_verdict verdict) before after → AuditEnds (status_of_verdict verdict) m before after
 told_ends m before after (Yes last ahm) told = told
@@ -48,15 +62,7 @@ pub image_untouched : {D : Type 0} (disk : Ghosts D) (now : D) (x : Contents) �
 image_untouched disk now x image = (x, image, λ q not. inl refl)
 
 pub untouched_left : {D : Type 0} (disk : Ghosts D) (old now : D) → IsUnwritten disk old now → Leaves disk (IsUntouched disk old) old now
-untouched_left disk old now unwritten = record {
-  later = unwritten.moved.later;
-  since_then = λ x since. by x (unwritten.moved.each (disk.clock old) x (omega arith) since);
-  each = unwritten.moved.each;
-}
-  where
-    by : (x : Contents) → disk.since old (disk.clock old) x ⊎ IsUntouched disk old x → IsUntouched disk old x
-    by x (inl image) = image_untouched disk old x image
-    by x (inr left) = left
+untouched_left disk old now unwritten = leaves_moved disk (λ x left. left) unwritten.moved
 
 -- ---- the statuses
 
@@ -152,10 +158,7 @@ short_audit m None told = tt
 short_audit m (Some (runs run)) told = tt
 short_audit m (Some audits) told = inl refl
 
-unmoved : {D : Type 0} (disk : Ghosts D) (now : D) → Moved disk NoName NoName now now
-unmoved disk now = search rules
-
 pub short_kept : {D : Type 0} (disk : Ghosts D) (words : Option Wanted) (now : D) → AuditKeeps disk words now now
 short_kept disk None now = tt
 short_kept disk (Some (runs run)) now = tt
-short_kept disk (Some audits) now = record { kept = refl; moved = unmoved disk now }
+short_kept disk (Some audits) now = record { kept = refl; moved = moved_none disk now }

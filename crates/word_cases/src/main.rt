@@ -1,10 +1,10 @@
 //! Reads cases from standard input, each what words ask for and the words, and prints those of which something else is read.
 //!
 //! A case is a line: the answer, ` : `, and the words behind the program's name, with a blank between two of them. The answer is `refused`,
-//! or the folder, the script's name or the lines and the seed, the mover's steps, and `halts` or `ends`.
+//! or the folder and `audit`, or the folder, the script's name or the lines and the seed, the mover's steps, and `halts` or `ends`.
 #![tactic(auto)]
 
-use run_words::{Source, Wanted, dir_of, read_words};
+use run_words::{ScriptRun, Source, Wanted, dir_of, read_words};
 use std::alloc::{AllocError, Global};
 use std::io;
 
@@ -22,17 +22,21 @@ fn words_of(alloc: Global, text: &str) -> Result<Vec<String>, AllocError> {
 
 /// What the words ask for, as a case says it.
 fn answer_of(alloc: Global, words: &[String]) -> Result<String, AllocError> {
-    let Some(
-        Wanted {
-            source,
-            steps,
-            halts,
-        },
-    ) = read_words(alloc, words)?
-    else {
-        return String::from_str(alloc, "refused");
-    };
     let dir = dir_of(words).unwrap_or("");
+    match read_words(alloc, words)? {
+        Some(Wanted::Run(run)) => run_as_told(alloc, dir, run),
+        Some(Wanted::Audit) => format!(in alloc; "{dir} audit"),
+        None => String::from_str(alloc, "refused"),
+    }
+}
+
+/// The run of a script, as a case says it.
+fn run_as_told(alloc: Global, dir: &str, run: ScriptRun) -> Result<String, AllocError> {
+    let ScriptRun {
+        source,
+        steps,
+        halts,
+    } = run;
     let end = if halts { "halts" } else { "ends" };
     match source {
         Source::Script(name) => format!(in alloc; "{dir} {name} {steps} {end}"),
