@@ -56,11 +56,8 @@ judged_right holds now xs ys (Err fault) same all given = stopped_right holds no
 
 -- ---- walks over the files of each of a list
 
-at_place : {X : Type 0} (P : X → Type 0) (xs : List X) (i : ℕ) (x : X) → i < length xs → x ≡ get_or xs i x → All P xs → P x
+pub at_place : {X : Type 0} (P : X → Type 0) (xs : List X) (i : ℕ) (x : X) → i < length xs → x ≡ get_or xs i x → All P xs → P x
 at_place P xs i x lt is all = All-contains P xs x all (i, lt, sym is)
-
-pub named_at : {X : Type 0} (P : X → Type 0) (xs : List X) (i : ℕ) (x : X) → i < length xs → x ≡ get_or xs i x → All P xs → P x
-named_at P xs i x lt is all = at_place P xs i x lt is all
 
 pub walk_more : {X : Type 0} (f : X → List File) (xs : List X) (i : ℕ) (x : X) (holds now : Option Contents) → i < length xs → x ≡ get_or xs i x → now ≡ holds → Judges holds (flat_map f (take i xs)) (Ok tt) → Judges now (f x) (Ok tt)
     → Judges holds (flat_map f (take (i + 1) xs)) (Ok tt)

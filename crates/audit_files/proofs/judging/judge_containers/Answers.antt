@@ -1,7 +1,7 @@
 use Rattle.std.proofs.Common.{rules}
 use Rattle.col_disk.proofs.Moving.{moved_join, moved_none}
 use Rattle.audit_files.specs.Walks.{container_files, IsNamed}
-use Rattle.audit_files.proofs.Joins.{named_at, walk_none, walk_more, walk_stopped, walk_ended}
+use Rattle.audit_files.proofs.Joins.{at_place, walk_none, walk_more, walk_stopped, walk_ended}
 use Rattle.audit_files.proofs.Lists.{item, item_is}
 use Rattle.audit_files.proofs.judging.judge_containers.Goals as goal
 
@@ -12,7 +12,7 @@ pub judge_container-requires : goal.judge_container-requires
 judge_container-requires g c =
     let ks = c.args.containers.now in
     let i = c.loop-container.container-index in
-    named_at IsNamed ks i (item ks i) c.loop-container-test.true (item_is ks i c.loop-container-test.true) c.requires
+    at_place IsNamed ks i (item ks i) c.loop-container-test.true (item_is ks i c.loop-container-test.true) c.requires
 
 pub loop-container-preserved : goal.loop-container-preserved
 loop-container-preserved g c =

@@ -4,14 +4,14 @@ use Rattle.std.specs.List.{All, flat_map}
 use Rattle.col_disk.proofs.Moving.{moved_join, moved_none}
 use Rattle.catalog_types.specs.declared.catalogue.Container.{Container}
 use Rattle.audit_files.specs.Walks.{container_files, projection_files, Faults, Judges, IsNamed, AreNamed}
-use Rattle.audit_files.proofs.Joins.{named_at, walk_none, walk_more, walk_stopped, walk_ended}
+use Rattle.audit_files.proofs.Joins.{at_place, walk_none, walk_more, walk_stopped, walk_ended}
 use Rattle.audit_files.proofs.judging.judge_projections.Goals as goal
 
 pub loop-shape-init : goal.loop-shape-init
 loop-shape-init g c = record { judged = walk_none (g.D.Disk.holds c.args.disk.now); kept = search rules; moved = moved_none g.D.Disk c.args.disk.now }
 
 pub judge_containers-requires : goal.judge_containers-requires
-judge_containers-requires g c = subst (All IsNamed) (sym c.as_slice.ensures) (named_at AreNamed c.args.shapes.now c.loop-shape.shape-index c.shape-item.result c.loop-shape-test.true c.shape-item.is c.requires)
+judge_containers-requires g c = subst (All IsNamed) (sym c.as_slice.ensures) (at_place AreNamed c.args.shapes.now c.loop-shape.shape-index c.shape-item.result c.loop-shape-test.true c.shape-item.is c.requires)
 
 pub loop-shape-preserved : goal.loop-shape-preserved
 loop-shape-preserved g c =

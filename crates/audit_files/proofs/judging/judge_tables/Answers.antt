@@ -4,14 +4,14 @@ use Rattle.std.specs.List.{All, flat_map}
 use Rattle.col_disk.proofs.Moving.{moved_join, moved_none}
 use Rattle.catalog_types.specs.declared.catalogue.Projection.{Projection}
 use Rattle.audit_files.specs.Walks.{projection_files, table_files, Faults, Judges, AreNamed, AreAllNamed}
-use Rattle.audit_files.proofs.Joins.{named_at, walk_none, walk_more, walk_stopped, walk_ended}
+use Rattle.audit_files.proofs.Joins.{at_place, walk_none, walk_more, walk_stopped, walk_ended}
 use Rattle.audit_files.proofs.judging.judge_tables.Goals as goal
 
 pub loop-table-init : goal.loop-table-init
 loop-table-init g c = record { judged = walk_none (g.D.Disk.holds c.args.disk.now); kept = search rules; moved = moved_none g.D.Disk c.args.disk.now }
 
 pub judge_projections-requires : goal.judge_projections-requires
-judge_projections-requires g c = subst (All AreNamed) (sym c.as_slice.ensures) (named_at AreAllNamed c.args.tables.now c.loop-table.table-index c.table-item.result c.loop-table-test.true c.table-item.is c.requires)
+judge_projections-requires g c = subst (All AreNamed) (sym c.as_slice.ensures) (at_place AreAllNamed c.args.tables.now c.loop-table.table-index c.table-item.result c.loop-table-test.true c.table-item.is c.requires)
 
 pub loop-table-preserved : goal.loop-table-preserved
 loop-table-preserved g c =
