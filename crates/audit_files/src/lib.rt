@@ -5,6 +5,9 @@
 //! `audit_model/specs/Judging.antt` says. Of a column one block is in memory at a time.
 #![tactic(auto)]
 
+mod columns;
+mod containers;
 mod judging;
+mod stored;
 
 pub use judging::judge_files;
