@@ -1,10 +1,9 @@
 -- What reading a block of a container gives.
-use Rattle.std.specs.Prelude.{ℕ, ◌≡◌, ◌<◌, nat_le, Bool, true, false, List, length, map, Option, Some, None, slice_index_or}
-use Rattle.std.specs.List.{All, range_with_len, slice_get}
-use Rattle.std.specs.Option.{IfSome, option_map_or}
+use Rattle.std.specs.Prelude.{ℕ, ◌≡◌, ◌<◌, nat_le, Bool, true, false, List, map, Option, Some, None, slice_index_or}
+use Rattle.std.specs.List.{range_with_len, slice_get}
+use Rattle.std.specs.Option.{IfSome}
 use Rattle.catalog_types.specs.declared.catalogue.Container.{Container}
 use Rattle.common_laws.specs.Maps.{Contents}
-use Rattle.col_value.specs.Order.{IsValue}
 use Rattle.col_value.specs.declared.row.Asked.{Asked}
 use Rattle.col_value.specs.declared.value.Value.{Value}
 use Rattle.col_value.specs.declared.value.Value.TheVariants as value
@@ -15,7 +14,7 @@ use Rattle.container_blocks.specs.Blocks.{rows_in}
 use Rattle.row_bounds.specs.Bounds.{lies_in, within}
 use Rattle.row_bounds.specs.declared.bound.Bound.{Bound}
 use Rattle.query_cover.specs.Seen.{placed}
-use Rattle.exec_scan.specs.Batches.{cell, row_of, Shown}
+use Rattle.exec_scan.specs.Batches.{row_of, Shown}
 use Rattle.exec_scan.specs.Scanning.{Shows, start}
 
 -- where a disk tells its contents, and the container holds rows, P holds of the rows of block b

@@ -47,16 +47,14 @@ fn inserted<D: Disk>(
     ensures moved { Moved ⟦<D as Disk>⟧ NoName NoName disk.old disk.new }
     ensures cause { HasCause StoreFault.Disk (D.faults disk.old) (D.faults disk.new) result }
 {
-    match epochs(alloc, disk, entry, at, shape, k) {
-        Ok(inserted) => {
-            if !stamps && entry.greatest_epoch <= epoch {
-                Ok(Vec::new(alloc))
-            } else {
-                Ok(inserted)
-            }
-        }
-        Err(fault) => Err(fault),
+    let inserted = match epochs(alloc, disk, entry, at, shape, k) {
+        Ok(inserted) => inserted,
+        Err(fault) => return Err(fault),
+    };
+    if !stamps && entry.greatest_epoch <= epoch {
+        return Ok(Vec::new(alloc));
     }
+    Ok(inserted)
 }
 
 /// The rows of a block that are visible at an epoch, made for the table's columns, and their insert epochs, where these are told. Rows that

@@ -1,6 +1,5 @@
 use Rattle.std.proofs.Common.{◌≤◌, arith}
 use Rattle.std.proofs.lemmas.List.Elements.{All-weaker}
-use Rattle.col_disk.proofs.Moving.{moved_none}
 use Rattle.ros_container.specs.Rows.{IsWithin}
 use Rattle.container_blocks.specs.Blocks.{rows_in}
 use Rattle.exec_scan.proofs.Blocks.{as_read, none_later}
@@ -11,11 +10,8 @@ returns-then-entry-epoch-clause-found g c = λ has m told rows held.
     none_later c.args.epoch c.args.k rows c.new.result.items c.new.ensures.items
     (All-weaker (λ a. IsWithin c.args.entry.now a.ins) (λ a. a.ins ≤ c.args.epoch) (λ a within. omega (arith, within.1, c.if-entry-epoch.true)) rows held.within)
 
-pub returns-then-entry-epoch-clause-moved : goal.returns-then-entry-epoch-clause-moved
-returns-then-entry-epoch-clause-moved g c = moved_none g.D.Disk c.args.disk.now
+pub returns-clause-found : goal.returns-clause-found
+returns-clause-found g c = λ has m told rows held. as_read c.args.epoch c.in-Ok.inserted.items (rows_in c.args.k rows) (c.in-Ok.ensures.found has m told rows held)
 
-pub returns-in-Ok-clause-found : goal.returns-in-Ok-clause-found
-returns-in-Ok-clause-found g c = λ has m told rows held. as_read c.args.epoch c.in-Ok.inserted.items (rows_in c.args.k rows) (c.in-Ok.ensures.found has m told rows held)
-
-pub returns-in-Ok-clause-told : goal.returns-in-Ok-clause-told
-returns-in-Ok-clause-told g c = λ has m told rows held on. c.in-Ok.ensures.found has m told rows held
+pub returns-clause-told : goal.returns-clause-told
+returns-clause-told g c = λ has m told rows held on. c.in-Ok.ensures.found has m told rows held

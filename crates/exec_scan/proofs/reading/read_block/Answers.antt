@@ -5,14 +5,13 @@ use Rattle.std.proofs.lemmas.List.FromFn.{length-map-range_with_len}
 use Rattle.common_laws.specs.Maps.{Contents}
 use Rattle.pos_index.specs.declared.index.PosIndex.{PosIndex}
 use Rattle.col_disk.proofs.Moving.{moved_join}
-use Rattle.col_value.specs.declared.value.Value.{Value}
 use Rattle.ros_container.specs.Encodings.{written_of}
 use Rattle.ros_container.specs.Held.{BlamesContainer}
 use Rattle.stored_rows.specs.Stored.{mark_in}
 use Rattle.container_blocks.specs.Blocks.{HasIndex, rows_in}
 use Rattle.exec_scan.specs.Batches.{chosen, is_shown}
 use Rattle.exec_scan.specs.Opened.{HoldsAll, Opening}
-use Rattle.exec_scan.specs.Reading.{AreInserted, HaveRows, Narrows}
+use Rattle.exec_scan.specs.Reading.{AreInserted, Narrows}
 use Rattle.exec_scan.proofs.Alive.{block_shows}
 use Rattle.exec_scan.proofs.Long.{block_long}
 use Rattle.exec_scan.proofs.reading.read_block.Goals as goal
