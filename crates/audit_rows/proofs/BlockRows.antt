@@ -1,5 +1,5 @@
 -- The rows of a block, made of its epochs and of the values of its columns.
-use Rattle.std.proofs.Common.{◌≡◌, ℕ, ◌+◌, ◌≤◌, ◌<◌, ◌++◌, List, [], ◌∷◌, length, get_or, map, take, drop, refl, sym, ap, ap₂, ◌∙◌, subst, arith, append_assoc}
+use Rattle.std.proofs.Common.{◌≡◌, ℕ, ◌+◌, ◌<◌, ◌++◌, List, [], ◌∷◌, length, get_or, map, take, refl, sym, ap, ap₂, ◌∙◌, arith, append_assoc}
 use Rattle.std.specs.Prelude.{Option, Some, slice_index_or}
 use Rattle.std.proofs.Math.Seq.{get_or-append_seam}
 use Rattle.std.proofs.lemmas.List.{length-append, map-append, get_or-map, take_more}
@@ -15,7 +15,7 @@ use Rattle.ros_container.specs.Encodings.{written_of}
 use Rattle.ros_container.specs.Held.{HoldsContainer}
 use Rattle.ros_container.specs.Rows.{column_values}
 use Rattle.row_history.specs.History.{asked_on}
-use Rattle.audit_rows.specs.Blocks.{row_at, asked_at, asked_from, AreColumns}
+use Rattle.audit_rows.specs.Blocks.{row_at, asked_from, AreColumns}
 
 row_is : (columns : List ℕ) (rows : List Asked) (i : ℕ) (a : Asked) → i < length rows → row_at (map (λ c. column_values c rows) columns) i ≡ projected (get_or rows i a).row columns
 row_is [] rows i a lt = refl

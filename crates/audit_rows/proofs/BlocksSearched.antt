@@ -116,9 +116,10 @@ front_long m p k b rows lt holding =
     let inside : 1024 * b ≤ length rows = omega (arith, block_inside b k.rows lt, container_long m (written_of p) k rows holding) in
     omega (arith, length-take-le (1024 * b) rows inside)
 
-pub block_good : (now found : Option Contents) (epoch mark : ℕ) (t : Table) (p : Projection) (k : Container) (f : ℕ → Option ℕ) (b : ℕ) → b < blocks k.rows → now ≡ found → BlocksGood found epoch mark t p k f b → FindsBlock now epoch mark t p k f b None
+pub block_good : (now found : Option Contents) (epoch mark : ℕ) (t : Table) (p : Projection) (k : Container) (f : ℕ → Option ℕ) (b : ℕ) → b < blocks k.rows → now ≡ found → BlocksGood found epoch mark t p k f b → (q : Option ℕ) → q ≡ None → FindsBlock now epoch mark t p k f b q
     → BlocksGood found epoch mark t p k f (b + 1)
-block_good now found epoch mark t p k f b lt same was finds m told rows holding =
+block_good now found epoch mark t p k f b lt same was q nothing finding m told rows holding =
+    let finds = subst (λ (o : Option ℕ). FindsBlock now epoch mark t p k f b o) nothing finding in
     let front : List Asked = take (1024 * b) rows in
     subst (All (IsGoodIn epoch mark t p)) (sym (ap (stamped_from 0 f) (next_rows rows b) ∙ stamped_append 0 f (take (1024 * b) rows) (rows_in b rows)))
     (All-append (IsGoodIn epoch mark t p) (stamped_from 0 f front) (stamped_from (0 + length front) f (rows_in b rows)) (was m told rows holding)
@@ -127,9 +128,10 @@ block_good now found epoch mark t p k f b lt same was finds m told rows holding 
 split : (rows : List Asked) (b : ℕ) → rows ≡ take (1024 * b) rows ++ (rows_in b rows ++ drop 1024 (drop (1024 * b) rows))
 split rows b = sym (take-append-drop (1024 * b) rows) ∙ ap (λ (xs : List Asked). take (1024 * b) rows ++ xs) (sym (take-append-drop 1024 (drop (1024 * b) rows)))
 
-pub block_bad : (now found : Option Contents) (epoch mark : ℕ) (t : Table) (p : Projection) (k : Container) (f : ℕ → Option ℕ) (b pos : ℕ) → b < blocks k.rows → now ≡ found → BlocksGood found epoch mark t p k f b → FindsBlock now epoch mark t p k f b (Some pos)
+pub block_bad : (now found : Option Contents) (epoch mark : ℕ) (t : Table) (p : Projection) (k : Container) (f : ℕ → Option ℕ) (b pos : ℕ) → b < blocks k.rows → now ≡ found → BlocksGood found epoch mark t p k f b → (q : Option ℕ) → q ≡ Some pos → FindsBlock now epoch mark t p k f b q
     → FindsRows found epoch mark t p k f (Some pos)
-block_bad now found epoch mark t p k f b pos lt same was finds m told rows holding =
+block_bad now found epoch mark t p k f b pos lt same was q one finding m told rows holding =
+    let finds = subst (λ (o : Option ℕ). FindsBlock now epoch mark t p k f b o) one finding in
     let front : List Asked = take (1024 * b) rows in
     let here : List Asked = rows_in b rows in
     let rest : List Asked = drop 1024 (drop (1024 * b) rows) in

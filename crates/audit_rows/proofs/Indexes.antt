@@ -7,7 +7,6 @@ use Rattle.std.proofs.lemmas.Bool.Decides.{nat_tests}
 use Rattle.std.proofs.lemmas.List.{length-append, length-map, map-append, take_more}
 use Rattle.common_laws.specs.Maps.{Contents}
 use Rattle.catalog_types.specs.declared.catalogue.Container.{Container}
-use Rattle.col_value.specs.declared.row.Asked.{Asked}
 use Rattle.col_value.specs.declared.value.Value.{Value}
 use Rattle.catalog_types.specs.declared.catalogue.Projection.{Projection}
 use Rattle.std.specs.List.{All}
@@ -15,7 +14,6 @@ use Rattle.container_blocks.specs.Blocks.{rows_in, AreBlock, HasIndex, IsIndexOf
 use Rattle.pos_index.specs.Index.{blocks}
 use Rattle.pos_index.specs.declared.index.PosIndex.{PosIndex}
 use Rattle.ros_container.specs.Encodings.{Written, written_as, written_of}
-use Rattle.ros_container.specs.Held.{HoldsContainer}
 use Rattle.ros_container.specs.Rows.{column_values}
 use Rattle.ros_container.proofs.Stored.{stored_column}
 use Rattle.stored_rows.specs.Held.{HoldsVector}

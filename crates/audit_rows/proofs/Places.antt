@@ -12,9 +12,8 @@ use Rattle.catalog_types.specs.declared.catalogue.Container.{Container}
 use Rattle.catalog_types.specs.declared.catalogue.Projection.{Projection}
 use Rattle.catalog_types.specs.declared.catalogue.Table.{Table}
 use Rattle.col_value.specs.declared.row.Stamped.{Stamped}
-use Rattle.audit_model.specs.First.{IsFirst}
 use Rattle.audit_model.specs.Judging.{JudgesRows}
-use Rattle.audit_model.specs.Listed.{Place, place, places_in, places_of, parts, file, files_in, IsPart, IsSpelled}
+use Rattle.audit_model.specs.Listed.{Place, place, places_of, parts, file, files_in, IsSpelled}
 use Rattle.audit_model.specs.Rows.{HoldsHere, IsGoodIn, IsGoodPlaceIn}
 use Rattle.audit_model.specs.declared.verdict.Verdict.{Verdict}
 use Rattle.audit_model.specs.declared.verdict.Verdict.TheVariants.{Yes, File as Damaged, BadRow, Differ}
@@ -23,6 +22,7 @@ use Rattle.audit_model.proofs.Lists.{all_left, all_right, all_unmapped, first_la
 use Rattle.audit_rows.specs.Blocks.{BlamesHere}
 use Rattle.audit_rows.specs.Found.{Ahead, AreSpelled, Finds, FindsRow, IsBadOf}
 use Rattle.audit_rows.proofs.Finding.{first_left, first_right}
+use Rattle.col_disk.specs.declared.disk.StoreFault.{StoreFault}
 use Rattle.col_disk.specs.declared.disk.StoreFault.TheVariants as fault
 
 spelled_left : (m : Contents) (xs ys : List Place) → AreSpelled m (xs ++ ys) → AreSpelled m xs
@@ -34,39 +34,61 @@ spelled_right m xs ys all = all_right (IsSpelled m) (flat_map files_in xs) (flat
 bad_left : (m : Contents) (epoch mark : ℕ) (xs ys : List Place) (v : Verdict) → IsBadOf m epoch mark xs v → IsBadOf m epoch mark (xs ++ ys) v
 bad_left m epoch mark xs ys (Yes last ahm) bad = bad
 bad_left m epoch mark xs ys (Damaged name) bad = bad
-bad_left m epoch mark xs ys (BadRow table projection base pos) bad = record bad { first = first_left (IsGoodPlaceIn m epoch mark) xs ys bad.at bad.first }
+bad_left m epoch mark xs ys (BadRow table projection base pos) bad = record {
+  at = bad.at;
+  first = first_left (IsGoodPlaceIn m epoch mark) xs ys bad.at bad.first;
+  rows = bad.rows;
+  held = bad.held;
+  row = bad.row;
+  bad = bad.bad;
+  table_is = bad.table_is;
+  projection_is = bad.projection_is;
+  base_is = bad.base_is;
+  pos_is = bad.pos_is;
+}
 bad_left m epoch mark xs ys (Differ table first second first_count second_count row) bad = bad
 
 bad_right : (m : Contents) (epoch mark : ℕ) (xs ys : List Place) (v : Verdict) → All (IsGoodPlaceIn m epoch mark) xs → IsBadOf m epoch mark ys v → IsBadOf m epoch mark (xs ++ ys) v
 bad_right m epoch mark xs ys (Yes last ahm) all bad = bad
 bad_right m epoch mark xs ys (Damaged name) all bad = bad
-bad_right m epoch mark xs ys (BadRow table projection base pos) all bad = record bad { first = first_right (IsGoodPlaceIn m epoch mark) xs ys bad.at all bad.first }
+bad_right m epoch mark xs ys (BadRow table projection base pos) all bad = record {
+  at = bad.at;
+  first = first_right (IsGoodPlaceIn m epoch mark) xs ys bad.at all bad.first;
+  rows = bad.rows;
+  held = bad.held;
+  row = bad.row;
+  bad = bad.bad;
+  table_is = bad.table_is;
+  projection_is = bad.projection_is;
+  base_is = bad.base_is;
+  pos_is = bad.pos_is;
+}
 bad_right m epoch mark xs ys (Differ table first second first_count second_count row) all bad = bad
 
 finds_left : (now found : Option Contents) (epoch mark : ℕ) (xs ys : List Place) (v : Verdict) → now ≡ found → Finds now epoch mark xs (Some v) → Finds found epoch mark (xs ++ ys) (Some v)
-finds_left now found epoch mark xs ys v same finds m told all = bad_left m epoch mark xs ys v (finds m (same ∙ told) (spelled_left m xs ys all))
+finds_left now found epoch mark xs ys v same finds = λ m told all. bad_left m epoch mark xs ys v (finds m (same ∙ told) (spelled_left m xs ys all))
 
 finds_right : (now found : Option Contents) (epoch mark : ℕ) (xs ys : List Place) (r : Option Verdict) → now ≡ found → Finds now epoch mark xs None → Finds found epoch mark ys r → Finds found epoch mark (xs ++ ys) r
-finds_right now found epoch mark xs ys None same none finds m told all =
+finds_right now found epoch mark xs ys None same none finds = λ m told all.
     All-append (IsGoodPlaceIn m epoch mark) xs ys (none m (same ∙ told) (spelled_left m xs ys all)) (finds m told (spelled_right m xs ys all))
-finds_right now found epoch mark xs ys (Some v) same none finds m told all =
+finds_right now found epoch mark xs ys (Some v) same none finds = λ m told all.
     bad_right m epoch mark xs ys v (none m (same ∙ told) (spelled_left m xs ys all)) (finds m told (spelled_right m xs ys all))
 
 -- ---- the parts of a list, one after the other
 
 pub ahead_more : {X : Type 0} (f : X → List Place) (now found : Option Contents) (epoch mark : ℕ) (all : List Place) (xs : List X) (i : ℕ) (x : X) → now ≡ found → i < length xs → x ≡ get_or xs i x
-    → Ahead found epoch mark (flat_map f (drop i xs)) all → Finds now epoch mark (f x) None → Ahead found epoch mark (flat_map f (drop (i + 1) xs)) all
-ahead_more f now found epoch mark all xs i x same lt at ahead none r rest =
+    → Ahead found epoch mark (flat_map f (drop i xs)) all → (q : Option Verdict) → q ≡ None → Finds now epoch mark (f x) q → Ahead found epoch mark (flat_map f (drop (i + 1) xs)) all
+ahead_more f now found epoch mark all xs i x same lt at ahead q nothing finds r rest =
     ahead r
     (subst (λ (ys : List _). Finds found epoch mark (flat_map f ys) r) (sym (drop_more xs i x lt ∙ ap (λ (y : _). y ∷ drop (i + 1) xs) (sym at)))
-    (finds_right now found epoch mark (f x) (flat_map f (drop (i + 1) xs)) r same none rest))
+    (finds_right now found epoch mark (f x) (flat_map f (drop (i + 1) xs)) r same (subst (λ (o : Option Verdict). Finds now epoch mark (f x) o) nothing finds) rest))
 
 pub ahead_here : {X : Type 0} (f : X → List Place) (now found : Option Contents) (epoch mark : ℕ) (all : List Place) (xs : List X) (i : ℕ) (x : X) (v : Verdict) → now ≡ found → i < length xs → x ≡ get_or xs i x
-    → Ahead found epoch mark (flat_map f (drop i xs)) all → Finds now epoch mark (f x) (Some v) → Finds found epoch mark all (Some v)
-ahead_here f now found epoch mark all xs i x v same lt at ahead finds =
+    → Ahead found epoch mark (flat_map f (drop i xs)) all → (q : Option Verdict) → q ≡ Some v → Finds now epoch mark (f x) q → Finds found epoch mark all (Some v)
+ahead_here f now found epoch mark all xs i x v same lt at ahead q one finds =
     ahead (Some v)
     (subst (λ (ys : List _). Finds found epoch mark (flat_map f ys) (Some v)) (sym (drop_more xs i x lt ∙ ap (λ (y : _). y ∷ drop (i + 1) xs) (sym at)))
-    (finds_left now found epoch mark (f x) (flat_map f (drop (i + 1) xs)) v same finds))
+    (finds_left now found epoch mark (f x) (flat_map f (drop (i + 1) xs)) v same (subst (λ (o : Option Verdict). Finds now epoch mark (f x) o) one finds)))
 
 pub ahead_all : {X : Type 0} (f : X → List Place) (found : Option Contents) (epoch mark : ℕ) (all : List Place) (xs : List X) (i : ℕ) → length xs ≤ i
     → Ahead found epoch mark (flat_map f (drop i xs)) all → Finds found epoch mark all None
@@ -88,14 +110,16 @@ singles t p (k ∷ ks) = ap (λ (xs : List Place). place t p k ∷ xs) (singles 
 held : (m : Contents) (t : Table) (p : Projection) (k : Container) → k.stored ≤ length p.columns → AreSpelled m (place t p k ∷ []) → (rows : List Stamped) × HoldsHere m p k rows
 held m t p k most all = here_held m p k most (all_unmapped (IsSpelled m) (file p k) (parts k) (all_left (IsSpelled m) (map (file p k) (parts k)) [] all))
 
-pub all_good : (holds : Option Contents) (epoch mark : ℕ) (t : Table) (p : Projection) (k : Container) → k.stored ≤ length p.columns → FindsRow holds epoch mark t p k None → Finds holds epoch mark (place t p k ∷ []) None
-all_good holds epoch mark t p k most finds m told all =
+pub all_good : (holds : Option Contents) (epoch mark : ℕ) (t : Table) (p : Projection) (k : Container) → k.stored ≤ length p.columns → (q : Option ℕ) → q ≡ None → FindsRow holds epoch mark t p k q → Finds holds epoch mark (place t p k ∷ []) None
+all_good holds epoch mark t p k most q nothing found = λ m told all.
+    let finds = subst (λ (o : Option ℕ). FindsRow holds epoch mark t p k o) nothing found in
     let here = held m t p k most all in
     All-cons (IsGoodPlaceIn m epoch mark) (place t p k) [] (here.0, here.1, finds m told here.0 here.1) (All-nil (IsGoodPlaceIn m epoch mark))
 
-pub first_bad : (holds : Option Contents) (epoch mark : ℕ) (t : Table) (p : Projection) (k : Container) (pos : ℕ) → k.stored ≤ length p.columns → FindsRow holds epoch mark t p k (Some pos)
+pub first_bad : (holds : Option Contents) (epoch mark : ℕ) (t : Table) (p : Projection) (k : Container) (pos : ℕ) → k.stored ≤ length p.columns → (q : Option ℕ) → q ≡ Some pos → FindsRow holds epoch mark t p k q
     → Finds holds epoch mark (place t p k ∷ []) (Some (BadRow t.name p.name k.base pos))
-first_bad holds epoch mark t p k pos most finds m told all =
+first_bad holds epoch mark t p k pos most q one found = λ m told all.
+    let finds = subst (λ (o : Option ℕ). FindsRow holds epoch mark t p k o) one found in
     let here = held m t p k most all in
     let row = finds m told here.0 here.1 in
     record {
@@ -117,8 +141,11 @@ first_bad holds epoch mark t p k pos most finds m told all =
       pos_is = omega (arith, row.pos_is);
     }
 
-pub not_damaged : (holds : Option Contents) (epoch mark : ℕ) (t : Table) (p : Projection) (k : Container) (name : ℕ) → k.stored ≤ length p.columns → BlamesHere holds p k (fault.Damaged name) → Finds holds epoch mark (place t p k ∷ []) (Some (Damaged name))
-not_damaged holds epoch mark t p k name most blames m told all = let here = held m t p k most all in blames m told here.0 here.1
+pub not_damaged : (holds : Option Contents) (epoch mark : ℕ) (t : Table) (p : Projection) (k : Container) (name : ℕ) → k.stored ≤ length p.columns → (f : StoreFault) → f ≡ fault.Damaged name → BlamesHere holds p k f → Finds holds epoch mark (place t p k ∷ []) (Some (Damaged name))
+not_damaged holds epoch mark t p k name most f is blamed = λ m told all.
+    let blames = subst (BlamesHere holds p k) is blamed in
+    let here = held m t p k most all in
+    blames m told here.0 here.1
 
 -- ---- a catalogue
 

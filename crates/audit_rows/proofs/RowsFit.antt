@@ -1,5 +1,5 @@
 -- Whether a row is good, value by value.
-use Rattle.std.proofs.Common.{◌≡◌, ◌↔◌, ℕ, zero, suc, ◌+◌, ◌<◌, ◌≤◌, ◌++◌, Bool, true, false, List, [], ◌∷◌, length, get_or, map, drop, IsTrue, refl, sym, ap, ap₂, ◌∙◌, subst}
+use Rattle.std.proofs.Common.{◌≡◌, ◌↔◌, ℕ, zero, suc, ◌+◌, ◌<◌, ◌≤◌, ◌++◌, Bool, true, false, List, [], ◌∷◌, length, get_or, drop, IsTrue, refl, sym, ap, ap₂, ◌∙◌, subst}
 use Rattle.std.specs.Prelude.{Option, Some, None, slice_index_or}
 use Rattle.std.specs.Option.{IfSome}
 use Rattle.std.specs.List.{All, AllZip}
@@ -70,8 +70,7 @@ pub good_some : (epoch mark : ℕ) (t : Table) (p : Projection) (columns : List 
     → (IsTrue r ↔ IsGoodRow t p (stamped cut (asked_at columns i ins))) → IsTrue r ↔ IsGoodIn epoch mark t p (stamped del (asked_at columns i ins))
 good_some epoch mark t p columns i ins del cut found r at is sound =
     let one : Stamped = stamped cut (asked_at columns i ins) in
-    let same : judged_in epoch mark (stamped del (asked_at columns i ins) ∷ []) ≡ stamped cut (asked_at columns i ins) ∷ [] = is ∙ ap (rows_with (asked_at columns i ins)) at in
-    (
+    let same : judged_in epoch mark (stamped del (asked_at columns i ins) ∷ []) ≡ stamped cut (asked_at columns i ins) ∷ [] = is ∙ ap (rows_with (asked_at columns i ins)) at in (
       λ yes. subst (All (IsGoodRow t p)) (sym same) (All-cons (IsGoodRow t p) one [] (sound.0 yes) (All-nil (IsGoodRow t p))),
       λ good. sound.1 (All-head (IsGoodRow t p) one [] (subst (All (IsGoodRow t p)) same good)),
     )

@@ -18,10 +18,10 @@ use Rattle.catalog_types.specs.declared.catalogue.Table.{Table}
 use Rattle.col_value.specs.Order.{IsValue}
 use Rattle.col_value.specs.declared.column.Column.{Column}
 use Rattle.col_value.specs.declared.kinds.ColType.{ColType}
-use Rattle.col_value.specs.declared.kinds.ColType.TheVariants.{Integer, Varchar, Boolean, Date}
+use Rattle.col_value.specs.declared.kinds.ColType.TheVariants.{Integer, Varchar, Date}
 use Rattle.col_value.specs.declared.value.Value.{Value}
 use Rattle.col_value.specs.declared.value.Value.TheVariants as value
-use Rattle.ros_container.specs.Readable.{HasDefaultValue, IsOfColumns, IsReadable}
+use Rattle.ros_container.specs.Readable.{HasDefaultValue}
 use Rattle.audit_rows.specs.Found.{AreReadable, Finds}
 use Rattle.audit_rows.proofs.Places.{judges}
 

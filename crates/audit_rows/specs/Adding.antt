@@ -8,7 +8,7 @@ use Rattle.col_value.specs.declared.row.Stamped.{Stamped}
 use Rattle.container_blocks.specs.Blocks.{rows_in}
 use Rattle.ros_container.specs.Encodings.{written_of}
 use Rattle.ros_container.specs.Held.{HoldsContainer}
-use Rattle.row_history.specs.History.{asked_on, on_columns}
+use Rattle.row_history.specs.History.{on_columns}
 use Rattle.stored_rows.specs.Held.{stamped_from}
 use Rattle.audit_model.specs.Rows.{judged_in, HoldsHere}
 

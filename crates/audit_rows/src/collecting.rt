@@ -1,21 +1,18 @@
 //! What is judged of the rows of a projection.
 
-ghost use Rattle.std.specs.Prelude.{◌≡◌, ◌<◌, ◌≤◌, ◌+◌, ◌*◌, ◌^◌, ◌++◌, ◌∷◌, [], Some, length, map, get_or, slice_index_or, IfOk, IfErr, OnOk, List};
+ghost use Rattle.std.specs.Prelude.{◌≡◌, ◌<◌, ◌+◌, ◌*◌, ◌^◌, ◌++◌, ◌∷◌, [], Some, length, map, slice_index_or, IfOk, IfErr, OnOk, List};
 ghost use Rattle.std.specs.List.{All};
 ghost use Rattle.common_laws.specs.Causes.{HasCause};
 ghost use Rattle.common_laws.specs.Maps.{Contents};
 ghost use Rattle.col_disk.specs.Faults.{IsUnblamed};
 ghost use Rattle.col_disk.specs.Moved.{Moved, NoName};
-ghost use Rattle.col_value.specs.declared.row.Asked.{Asked as AnAsked};
 ghost use Rattle.col_value.specs.declared.row.Stamped.{Stamped as AStamped};
 ghost use Rattle.col_value.specs.declared.value.Value.TheVariants.{Null};
 ghost use Rattle.del_vector.specs.Marks.{epoch_at};
 ghost use Rattle.row_history.specs.History.{on_columns, stamped};
-ghost use Rattle.ros_container.specs.Encodings.{written_of};
-ghost use Rattle.ros_container.specs.Held.{HoldsContainer};
 ghost use Rattle.ros_container.specs.Readable.{IsReadable};
 ghost use Rattle.stored_rows.specs.Held.{Holds, stamped_from};
-ghost use Rattle.audit_model.specs.Rows.{judged_in, HoldsHere};
+ghost use Rattle.audit_model.specs.Rows.{judged_in};
 ghost use Rattle.audit_rows.specs.Blocks.{asked_at, row_at, block_rows, IsOpen, IsOf, BlamesHere};
 ghost use Rattle.audit_rows.specs.Adding.{AddsBlock, AddsRows, Adds};
 ghost use Rattle.pos_index.specs.Index.{blocks};

@@ -13,13 +13,7 @@ fn cut_delete(epoch: u64, del: Option<u64>) -> Option<u64>
     ensures { result ≡ cut_delete epoch del }
 {
     match del {
-        Some(at) => {
-            if at <= epoch {
-                Some(at)
-            } else {
-                None
-            }
-        }
+        Some(at) => { if at <= epoch { Some(at) } else { None } }
         None => None,
     }
 }

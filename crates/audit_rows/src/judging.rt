@@ -66,9 +66,7 @@ fn judge_container<D: Disk>(
     ensures moved { Moved ⟦<D as Disk>⟧ NoName NoName disk.old disk.new }
     ensures cause { HasCause AuditFault.Disk (D.faults disk.old) (D.faults disk.new) result }
 {
-    match bad_in_container(
-        alloc, disk, table, shape, container, columns, epoch, mark,
-    ) {
+    match bad_in_container(alloc, disk, table, shape, container, columns, epoch, mark) {
         Ok(None) => Ok(None),
         Ok(Some(pos)) => match bad_row(alloc, table, shape, container, pos) {
             Ok(verdict) => Ok(Some(verdict)),
@@ -102,9 +100,7 @@ fn judge_projection<D: Disk>(
     let columns = columns.as_slice();
     let containers = shape.containers.as_slice();
     for container in containers {
-        match judge_container(
-            alloc, disk, table, shape, container, columns, epoch, mark,
-        ) {
+        match judge_container(alloc, disk, table, shape, container, columns, epoch, mark) {
             Ok(None) => {}
             Ok(Some(verdict)) => return Ok(Some(verdict)),
             Err(fault) => return Err(fault),

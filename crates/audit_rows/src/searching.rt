@@ -1,6 +1,6 @@
 //! The first row of a container that isn't good.
 
-ghost use Rattle.std.specs.Prelude.{◌≡◌, ◌<◌, ◌+◌, ◌*◌, ◌^◌, length, drop, IfOk, IfErr};
+ghost use Rattle.std.specs.Prelude.{◌≡◌, ◌<◌, ◌+◌, ◌*◌, ◌^◌, length, IfOk, IfErr};
 ghost use Rattle.std.specs.List.{All, range_with_len};
 ghost use Rattle.common_laws.specs.Causes.{HasCause};
 ghost use Rattle.col_disk.specs.Moved.{Moved, NoName};
@@ -12,7 +12,6 @@ ghost use Rattle.stored_rows.specs.Held.{stamped_from};
 ghost use Rattle.audit_model.specs.Rows.{IsGoodIn};
 ghost use Rattle.audit_rows.specs.Blocks.{block_rows, IsOpen, IsOf, BlamesHere};
 ghost use Rattle.audit_rows.specs.Found.{FindsAt, FindsBlock, FindsRows, FindsRow};
-
 
 use crate::blocks::{Loaded, Opened, load, open};
 use crate::fitting::is_good;
@@ -78,15 +77,7 @@ fn bad_in_loaded<D: Disk>(
         Err(fault) => return Err(fault),
     };
     let first = 1024 * k as u64;
-    Ok(bad_in_block(
-        table,
-        shape,
-        &block,
-        &opened.vector,
-        first,
-        epoch,
-        mark,
-    ))
+    Ok(bad_in_block(table, shape, &block, &opened.vector, first, epoch, mark))
 }
 
 /// The position of the first row of an open container that isn't good.

@@ -1,4 +1,4 @@
-use Rattle.std.proofs.Common.{◌≡◌, ◌∙◌, ◌<◌, ◌≤◌, ◌∷◌, [], length, map, refl, sym, ap, subst, arith}
+use Rattle.std.proofs.Common.{◌∙◌, ◌<◌, ◌≤◌, ◌∷◌, [], List, length, map, refl, sym, ap, subst, arith}
 use Rattle.std.specs.Prelude.{Option}
 use Rattle.std.specs.List.{All}
 use Rattle.std.proofs.lemmas.List.{length-append, take_all}
@@ -6,6 +6,7 @@ use Rattle.std.proofs.lemmas.List.Elements.{All-nil, All-push}
 use Rattle.common_laws.specs.Maps.{Contents}
 use Rattle.col_disk.proofs.Moving.{moved_join, moved_none}
 use Rattle.col_value.specs.Order.{IsValue}
+use Rattle.col_value.specs.declared.value.Value.{Value}
 use Rattle.ros_container.specs.Encodings.{written_of}
 use Rattle.ros_container.specs.Held.{BlamesContainer}
 use Rattle.ros_container.specs.Rows.{column_values}
@@ -39,12 +40,11 @@ pub loop-i-preserved : goal.loop-i-preserved
 loop-i-preserved g c =
     let now = c.loop-i.invariant in
     let is = c.in-Ok-push.ensures.items in
-    let es = written_of c.args.shape.now in
     let lt : c.loop-i.i < length c.args.indexes.now = omega (arith, c.loop-i-test.true, c.requires.long) in
     let own = own_column c.args.shape.now c.args.columns.now c.loop-i.i c.requires.columns c.loop-i-test.true in
     record {
       long = omega (arith, ap length is, length-append c.loop-i.out.items (c.in-Ok.values ∷ []), now.long);
-      values = subst (All (All IsValue)) (sym is) (All-push (All IsValue) c.loop-i.out.items c.in-Ok.values now.values c.in-Ok.ensures.values);
+      values = subst (All (All IsValue)) (sym {A = List (List Value)} is) (All-push (All IsValue) c.loop-i.out.items c.in-Ok.values now.values c.in-Ok.ensures.values);
       found = λ has.
           columns_more (written_of c.args.shape.now) c.args.container.now (g.D.Disk.holds c.loop-i.disk) (g.D.Disk.holds c.args.disk.now) c.args.k c.args.columns.now c.loop-i.i c.loop-i.out.items c.push.new.self.items c.in-Ok.values
           now.kept c.loop-i-test.true own is (now.found has)

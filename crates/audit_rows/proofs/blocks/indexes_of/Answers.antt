@@ -1,10 +1,11 @@
-use Rattle.std.proofs.Common.{◌∙◌, ◌∷◌, [], length, refl, sym, ap, subst, arith}
+use Rattle.std.proofs.Common.{◌∙◌, ◌∷◌, [], List, length, refl, sym, ap, subst, arith}
 use Rattle.std.specs.List.{All}
 use Rattle.std.proofs.lemmas.List.{length-append}
 use Rattle.std.proofs.lemmas.List.Elements.{All-nil, All-push}
 use Rattle.col_disk.proofs.Moving.{moved_join, moved_none}
 use Rattle.ros_container.specs.Encodings.{written_of}
 use Rattle.container_blocks.specs.Blocks.{IsIndexOf}
+use Rattle.pos_index.specs.declared.index.PosIndex.{PosIndex}
 use Rattle.audit_rows.proofs.Indexes.{indexes_more, indexes_none}
 use Rattle.audit_rows.proofs.blocks.indexes_of.Goals as goal
 
@@ -29,7 +30,7 @@ loop-i-preserved g c =
     let is = c.in-Ok-push.ensures.items in
     record {
       long = omega (arith, ap length is, length-append c.loop-i.out.items (c.in-Ok.at ∷ []), now.long);
-      fit = subst (All (IsIndexOf c.args.container.now.rows)) (sym is) (All-push (IsIndexOf c.args.container.now.rows) c.loop-i.out.items c.in-Ok.at now.fit c.in-Ok.ensures.index);
+      fit = subst (All (IsIndexOf c.args.container.now.rows)) (sym {A = List PosIndex} is) (All-push (IsIndexOf c.args.container.now.rows) c.loop-i.out.items c.in-Ok.at now.fit c.in-Ok.ensures.index);
       held = indexes_more (written_of c.args.shape.now) c.args.container.now c.args.columns.now (g.D.Disk.holds c.loop-i.disk) (g.D.Disk.holds c.args.disk.now) c.loop-i.i c.loop-i.out.items c.push.new.self.items c.in-Ok.at now.kept now.long is now.held c.in-Ok.ensures.found;
       kept = c.index.ensures.kept ∙ now.kept;
       moved = moved_join g.D.Disk now.moved c.index.ensures.moved;

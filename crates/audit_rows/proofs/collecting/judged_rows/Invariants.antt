@@ -1,12 +1,6 @@
-use Rattle.std.proofs.Common.{◌≡◌, ◌++◌, List, drop, map}
-use Rattle.std.specs.Prelude.{Some}
-use Rattle.common_laws.specs.Maps.{Contents}
+use Rattle.std.proofs.Common.{◌≡◌, drop}
 use Rattle.col_disk.specs.Moved.{Moved, NoName}
-use Rattle.col_value.specs.declared.row.Stamped.{Stamped}
 use Rattle.ros_container.specs.Encodings.{written_of}
-use Rattle.row_history.specs.History.{on_columns}
-use Rattle.stored_rows.specs.Held.{HoldsRows}
-use Rattle.audit_model.specs.Rows.{judged_in}
 use Rattle.audit_rows.specs.Collected.{Collects}
 use Rattle.audit_rows.proofs.collecting.judged_rows.Given as goal
 

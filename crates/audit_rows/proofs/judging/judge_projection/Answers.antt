@@ -1,6 +1,4 @@
-use Rattle.std.proofs.Common.{◌≤◌, ◌∙◌, length, refl, arith, sym, ap}
-use Rattle.std.specs.Prelude.{Some}
-use Rattle.std.specs.List.{flat_map}
+use Rattle.std.proofs.Common.{◌≤◌, ◌∙◌, length, refl, arith}
 use Rattle.col_disk.proofs.Moving.{moved_join, moved_none}
 use Rattle.audit_rows.proofs.Places.{ahead_none, ahead_more, ahead_here, ahead_all, only, singles}
 use Rattle.audit_rows.proofs.Gathering.{readable_at, item, item_is}
@@ -25,7 +23,7 @@ loop-container-preserved g c =
     let i = c.loop-container.container-index in
     let now = c.loop-container.invariant in
     record {
-      ahead = ahead_more (only c.args.table.now c.args.shape.now) (g.D.Disk.holds c.loop-container.disk) (g.D.Disk.holds c.args.disk.now) c.args.epoch c.args.mark _ xs i (item xs i) now.kept c.loop-container-test.true (item_is xs i c.loop-container-test.true) now.ahead c.in-Ok-None.ensures.judged;
+      ahead = ahead_more (only c.args.table.now c.args.shape.now) (g.D.Disk.holds c.loop-container.disk) (g.D.Disk.holds c.args.disk.now) c.args.epoch c.args.mark _ xs i (item xs i) now.kept c.loop-container-test.true (item_is xs i c.loop-container-test.true) now.ahead c.in-Ok-None.field-0 c.in-Ok-None.field-0-is c.in-Ok-None.ensures.judged;
       kept = c.judge_container.ensures.kept ∙ now.kept;
       moved = moved_join g.D.Disk now.moved c.judge_container.ensures.moved;
     }
@@ -35,10 +33,13 @@ returns-in-Ok-Some-clause-judged g c =
     let xs = c.as_slice-containers.result.now in
     let i = c.loop-container.container-index in
     let now = c.loop-container.invariant in
-    ahead_here (only c.args.table.now c.args.shape.now) (g.D.Disk.holds c.loop-container.disk) (g.D.Disk.holds c.args.disk.now) c.args.epoch c.args.mark _ xs i (item xs i) c.in-Ok-Some.verdict now.kept c.loop-container-test.true (item_is xs i c.loop-container-test.true) now.ahead c.in-Ok-Some.ensures.judged
+    ahead_here (only c.args.table.now c.args.shape.now) (g.D.Disk.holds c.loop-container.disk) (g.D.Disk.holds c.args.disk.now) c.args.epoch c.args.mark _ xs i (item xs i) c.in-Ok-Some.verdict now.kept c.loop-container-test.true (item_is xs i c.loop-container-test.true) now.ahead c.in-Ok-Some.field-0 c.in-Ok-Some.field-0-is c.in-Ok-Some.ensures.judged
 
 pub returns-in-Ok-Some-clause-moved : goal.returns-in-Ok-Some-clause-moved
 returns-in-Ok-Some-clause-moved g c = moved_join g.D.Disk c.loop-container.invariant.moved c.judge_container.ensures.moved
+
+pub returns-in-Err-clause-moved : goal.returns-in-Err-clause-moved
+returns-in-Err-clause-moved g c = moved_none g.D.Disk c.args.disk.now
 
 pub returns-in-Err-judge_container-clause-moved : goal.returns-in-Err-judge_container-clause-moved
 returns-in-Err-judge_container-clause-moved g c = moved_join g.D.Disk c.loop-container.invariant.moved c.judge_container.ensures.moved

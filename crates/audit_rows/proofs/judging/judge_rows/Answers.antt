@@ -1,4 +1,3 @@
-use Rattle.std.proofs.Common.{◌∙◌}
 use Rattle.audit_rows.proofs.Valid.{judged, tables_readable}
 use Rattle.audit_rows.proofs.judging.judge_rows.Goals as goal
 

@@ -1,6 +1,4 @@
-use Rattle.std.proofs.Common.{◌≤◌, ◌∙◌, length, refl, arith, sym, ap}
-use Rattle.std.specs.Prelude.{Some}
-use Rattle.std.specs.List.{flat_map}
+use Rattle.std.proofs.Common.{◌≤◌, ◌∙◌, length, refl, arith}
 use Rattle.col_disk.proofs.Moving.{moved_join, moved_none}
 use Rattle.audit_model.specs.Listed.{places_of}
 use Rattle.audit_rows.proofs.Places.{ahead_none, ahead_more, ahead_here, ahead_all}
@@ -19,7 +17,7 @@ loop-table-preserved g c =
     let i = c.loop-table.table-index in
     let now = c.loop-table.invariant in
     record {
-      ahead = ahead_more places_of (g.D.Disk.holds c.loop-table.disk) (g.D.Disk.holds c.args.disk.now) c.args.epoch c.args.mark _ xs i c.table-item.result now.kept c.loop-table-test.true c.table-item.is now.ahead c.in-Ok-None.ensures.judged;
+      ahead = ahead_more places_of (g.D.Disk.holds c.loop-table.disk) (g.D.Disk.holds c.args.disk.now) c.args.epoch c.args.mark _ xs i c.table-item.result now.kept c.loop-table-test.true c.table-item.is now.ahead c.in-Ok-None.field-0 c.in-Ok-None.field-0-is c.in-Ok-None.ensures.judged;
       kept = c.judge_table.ensures.kept ∙ now.kept;
       moved = moved_join g.D.Disk now.moved c.judge_table.ensures.moved;
     }
@@ -29,7 +27,7 @@ returns-in-Ok-Some-clause-judged g c =
     let xs = c.args.tables.now in
     let i = c.loop-table.table-index in
     let now = c.loop-table.invariant in
-    ahead_here places_of (g.D.Disk.holds c.loop-table.disk) (g.D.Disk.holds c.args.disk.now) c.args.epoch c.args.mark _ xs i c.table-item.result c.in-Ok-Some.verdict now.kept c.loop-table-test.true c.table-item.is now.ahead c.in-Ok-Some.ensures.judged
+    ahead_here places_of (g.D.Disk.holds c.loop-table.disk) (g.D.Disk.holds c.args.disk.now) c.args.epoch c.args.mark _ xs i c.table-item.result c.in-Ok-Some.verdict now.kept c.loop-table-test.true c.table-item.is now.ahead c.in-Ok-Some.field-0 c.in-Ok-Some.field-0-is c.in-Ok-Some.ensures.judged
 
 pub returns-in-Ok-Some-clause-moved : goal.returns-in-Ok-Some-clause-moved
 returns-in-Ok-Some-clause-moved g c = moved_join g.D.Disk c.loop-table.invariant.moved c.judge_table.ensures.moved

@@ -1,5 +1,4 @@
-use Rattle.std.proofs.Common.{◌≤◌, ◌<◌, ◌∙◌, refl, rules, subst}
-use Rattle.std.specs.Prelude.{Option, None, Some}
+use Rattle.std.proofs.Common.{◌≤◌, ◌<◌, ◌∙◌, refl, rules}
 use Rattle.col_disk.proofs.Moving.{moved_join, moved_none}
 use Rattle.del_vector.specs.Marks.{epoch_at}
 use Rattle.pos_index.specs.Index.{blocks}
@@ -21,7 +20,7 @@ loop-k-preserved g c =
     let lt : c.loop-k.k < blocks c.args.container.now.rows = search rules in
     record {
       good = λ of.
-          block_good (g.D.Disk.holds c.loop-k.disk) (g.D.Disk.holds c.args.disk.now) c.args.epoch c.args.mark c.args.table.now c.args.shape.now c.args.container.now (epoch_at c.args.opened.now.vector.marks) c.loop-k.k lt now.kept (now.good of)
+          block_good (g.D.Disk.holds c.loop-k.disk) (g.D.Disk.holds c.args.disk.now) c.args.epoch c.args.mark c.args.table.now c.args.shape.now c.args.container.now (epoch_at c.args.opened.now.vector.marks) c.loop-k.k lt now.kept (now.good of) c.in-Ok-None.field-0 c.in-Ok-None.field-0-is
           (c.in-Ok-None.ensures.found (of_same (g.D.Disk.holds c.loop-k.disk) (g.D.Disk.holds c.args.disk.now) c.args.shape.now c.args.container.now c.args.columns.now c.args.opened.now now.kept of));
       kept = c.bad_in_loaded.ensures.kept ∙ now.kept;
       moved = moved_join g.D.Disk now.moved c.bad_in_loaded.ensures.moved;
@@ -31,7 +30,7 @@ pub returns-in-Ok-Some-clause-found : goal.returns-in-Ok-Some-clause-found
 returns-in-Ok-Some-clause-found g c = λ of.
     let now = c.loop-k.invariant in
     let lt : c.loop-k.k < blocks c.args.container.now.rows = search rules in
-    block_bad (g.D.Disk.holds c.loop-k.disk) (g.D.Disk.holds c.args.disk.now) c.args.epoch c.args.mark c.args.table.now c.args.shape.now c.args.container.now (epoch_at c.args.opened.now.vector.marks) c.loop-k.k c.in-Ok-Some.pos lt now.kept (now.good of)
+    block_bad (g.D.Disk.holds c.loop-k.disk) (g.D.Disk.holds c.args.disk.now) c.args.epoch c.args.mark c.args.table.now c.args.shape.now c.args.container.now (epoch_at c.args.opened.now.vector.marks) c.loop-k.k c.in-Ok-Some.pos lt now.kept (now.good of) c.in-Ok-Some.field-0 c.in-Ok-Some.field-0-is
     (c.in-Ok-Some.ensures.found (of_same (g.D.Disk.holds c.loop-k.disk) (g.D.Disk.holds c.args.disk.now) c.args.shape.now c.args.container.now c.args.columns.now c.args.opened.now now.kept of))
 
 pub returns-in-Ok-Some-clause-moved : goal.returns-in-Ok-Some-clause-moved

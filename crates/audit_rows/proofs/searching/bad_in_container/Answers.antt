@@ -1,5 +1,7 @@
+use Rattle.std.proofs.Common.{length}
 use Rattle.col_disk.proofs.Moving.{moved_join}
 use Rattle.audit_rows.proofs.BlocksSearched.{container_finds}
+use Rattle.audit_rows.proofs.Finding.{all_below}
 use Rattle.audit_rows.proofs.Indexes.{of_same}
 use Rattle.audit_rows.proofs.searching.bad_in_container.Goals as goal
 
@@ -14,3 +16,6 @@ returns-in-Ok-bad_in_blocks-clause-moved g c = moved_join g.D.Disk c.open.ensure
 
 pub returns-clause-moved : goal.returns-clause-moved
 returns-clause-moved g c = moved_join g.D.Disk c.open.ensures.moved c.bad_in_blocks.ensures.moved
+
+pub open-requires-clause-columns : goal.open-requires-clause-columns
+open-requires-clause-columns g c = all_below (length c.args.shape.now.columns) c.args.columns.now c.requires.columns
