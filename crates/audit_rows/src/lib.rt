@@ -5,8 +5,12 @@
 //! container one block is in memory at a time. `judged_rows` gives what is judged of a projection, in chosen columns.
 #![tactic(auto)]
 
+mod blocks;
 mod collecting;
+mod fitting;
+mod judged;
 mod judging;
+mod searching;
 
 pub use collecting::judged_rows;
 pub use judging::judge_rows;

@@ -1,0 +1,10 @@
+pub mod Faults
+pub mod Indexes
+pub mod BlockRows
+pub mod Joined
+pub mod Gathering
+pub mod Finding
+pub mod Places
+pub mod BlocksSearched
+pub mod Valid
+pub mod RowsFit
