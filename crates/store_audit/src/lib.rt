@@ -6,7 +6,10 @@
 #![tactic(auto)]
 
 mod auditing;
+mod columns;
+mod comparing;
 mod pairs;
+mod supers;
 
 pub use audit_model::{AuditFault, Verdict};
 pub use auditing::audit;

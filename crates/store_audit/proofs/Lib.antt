@@ -1,0 +1,5 @@
+mod Places
+mod Compared
+mod Firsts
+mod Readable
+mod Behind
