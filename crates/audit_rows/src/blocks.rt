@@ -22,7 +22,7 @@ use del_vector::DelVector;
 use pos_index::PosIndex;
 use std::alloc::Global;
 
-// The numbers of files are below this one.
+// The numbers of a catalogue are below this one; of a delete vector's that isn't asked for.
 const MOST_NUMBERS: u64 = 1 << 62;
 
 /// What is read of a container before its blocks: its delete vector, the indexes of columns, and that of the epochs.
@@ -40,7 +40,7 @@ pub struct Loaded {
     pub columns: Vec<Block>,
 }
 
-/// The delete vector of a container.
+/// The delete vector of a container. A number that no catalogue has isn't looked for.
 fn vector_of<D: Disk>(
     alloc: Global,
     disk: &mut D,
