@@ -4,3 +4,4 @@ mod Quieted
 mod Recovered
 mod Started
 pub mod Unblamed
+pub mod Untouched

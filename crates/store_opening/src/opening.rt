@@ -1,6 +1,6 @@
 //! The opening.
 
-ghost use Rattle.std.specs.Prelude.{◌≡◌, ◌&&◌, ◌+◌, ◌<◌, ◌≤◌, nat_lt, Some, false, map, IfOk, IfErr};
+ghost use Rattle.std.specs.Prelude.{ℕ, ◌≡◌, ◌&&◌, ◌+◌, ◌<◌, ◌≤◌, nat_lt, Some, false, map, IfOk, IfErr};
 ghost use Rattle.std.specs.List.{All, list_any};
 ghost use Rattle.common_laws.specs.Causes.{HasCause};
 ghost use Rattle.common_laws.specs.Maps.{Contents};
@@ -8,7 +8,9 @@ ghost use Rattle.col_disk.specs.Moved.{Moved, Looks, Leaves, ImageOf, NoName};
 ghost use Rattle.catalog_types.specs.Numbers.{store_count};
 ghost use Rattle.catalog_types.specs.Reached.{least_lge, is_past};
 ghost use Rattle.catalog_types.specs.Valid.{IsValid};
-ghost use Rattle.catalog_root.specs.Root.{IsBody};
+ghost use Rattle.catalog_types.specs.declared.catalogue.Catalogue.{Catalogue as Listing};
+ghost use Rattle.catalog_root.specs.Listed.{IsUnlisted};
+ghost use Rattle.catalog_root.specs.Root.{IsBody, IsRoot};
 ghost use Rattle.container_writer.specs.Writing.{DataFrom};
 ghost use Rattle.container_cut.specs.Cutting.{Between};
 ghost use Rattle.cut_job.specs.Blamed as damage;
@@ -33,11 +35,13 @@ use store_commit::{settle, tidy};
 use table_store::{Parts, TableStore};
 
 /// The tables of a folder. `Damaged` names a file that keeps it from opening: the body of the greatest open gate, a data file where no gate
-/// is open, or a listed file that is absent or not what it has to be.
+/// is open, or a listed file that is absent or not what it has to be. Where nothing is past the epoch that all projections have reached no file is
+/// written, and of the files that are removed none is listed.
 pub fn open<D: Disk>(alloc: Global, disk: &mut D) -> Result<TableStore, StoreFault>
     ensures stands { IfOk result (λ s. (m : Contents) (d : Database) → D.holds disk.old ≡ Some m → Reopens m d → Stands ⟦<D as Disk>⟧ s disk.new d) }
     ensures numbers { IfOk result (λ s. (m : Contents) (d : Database) → D.holds disk.old ≡ Some m → Reopens m d → IsOpenedOf m s.catalogue) }
     ensures any_moment { (m : Contents) (d : Database) → D.holds disk.old ≡ Some m → Reopens m d → Leaves ⟦<D as Disk>⟧ (IsStill ⟦<D as Disk>⟧ disk.old d) disk.old disk.new }
+    ensures unwritten { (m : Contents) (v : ℕ) (c : Listing) → D.holds disk.old ≡ Some m → IsRoot m v c → is_past c (least_lge c) ≡ false → Moved ⟦<D as Disk>⟧ NoName (IsUnlisted v c) disk.old disk.new }
     ensures blamed { IfErr result (BlamesOpening (D.holds disk.old)) }
     ensures cause { HasCause StoreFault.Disk (D.faults disk.old) (D.faults disk.new) result }
 {
@@ -82,6 +86,7 @@ fn open_root<D: Disk>(
     ensures numbers { IfOk result (λ s. (m : Contents) (d : Database) → IsQuietFor ⟦<D as Disk>⟧ disk.old version catalogue d m → IsOpenedFrom catalogue s.catalogue) }
     ensures any_moment { (m : Contents) (d : Database) → IsQuietFor ⟦<D as Disk>⟧ disk.old version catalogue d m → Leaves ⟦<D as Disk>⟧ (λ x. Reopens x d) disk.old disk.new }
     ensures blamed { IfErr result (BlamesListed catalogue (D.holds disk.old)) }
+    ensures unwritten { is_past catalogue (least_lge catalogue) ≡ false → Moved ⟦<D as Disk>⟧ NoName (IsUnlisted version catalogue) disk.old disk.new }
     ensures cause { HasCause StoreFault.Disk (D.faults disk.old) (D.faults disk.new) result }
 {
     if is_past(&catalogue, catalogue.least_lge()) {
@@ -104,6 +109,7 @@ fn keep<D: Disk>(
     ensures numbers { IfOk result (λ s. (m : Contents) (d : Database) → IsQuietFor ⟦<D as Disk>⟧ disk.old version catalogue d m → IsOpenedFrom catalogue s.catalogue) }
     ensures any_moment { (m : Contents) (d : Database) → IsQuietFor ⟦<D as Disk>⟧ disk.old version catalogue d m → Leaves ⟦<D as Disk>⟧ (λ x. Reopens x d) disk.old disk.new }
     ensures blamed { IfErr result (BlamesListed catalogue (D.holds disk.old)) }
+    ensures unwritten { Moved ⟦<D as Disk>⟧ NoName (IsUnlisted version catalogue) disk.old disk.new }
     ensures cause { HasCause StoreFault.Disk (D.faults disk.old) (D.faults disk.new) result }
 {
     a_loaded_folder_is_the_database();

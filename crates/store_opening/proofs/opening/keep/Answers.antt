@@ -1,4 +1,5 @@
 use Rattle.std.proofs.Common.{sym, subst, map, inr}
+use Rattle.col_disk.proofs.Moving.{moved_join, moved_read}
 use Rattle.cut_job.proofs.Entries.{valid_loadable}
 use Rattle.store_commit.specs.Seen.{Seen, Stands}
 use Rattle.table_store.specs.Held.{projections_of}
@@ -34,3 +35,12 @@ returns-in-Err-clause-blamed g c = inr c.in-Err.ensures.blamed
 
 pub returns-in-Err-tidy-clause-blamed : goal.returns-in-Err-tidy-clause-blamed
 returns-in-Err-tidy-clause-blamed g c = fault_blamed c.args.catalogue (g.D.Disk.holds c.args.disk.now) c.in-Err-tidy.fault c.from.result c.from.ensures
+
+pub returns-in-Ok-tidy-clause-unwritten : goal.returns-in-Ok-tidy-clause-unwritten
+returns-in-Ok-tidy-clause-unwritten g c = moved_join g.D.Disk (moved_read g.D.Disk c.load_root.ensures.looks) c.tidy.ensures.moved
+
+pub returns-in-Err-tidy-clause-unwritten : goal.returns-in-Err-tidy-clause-unwritten
+returns-in-Err-tidy-clause-unwritten g c = moved_join g.D.Disk (moved_read g.D.Disk c.load_root.ensures.looks) c.tidy.ensures.moved
+
+pub returns-in-Err-clause-unwritten : goal.returns-in-Err-clause-unwritten
+returns-in-Err-clause-unwritten g c = moved_read g.D.Disk c.load_root.ensures.looks

@@ -1,7 +1,8 @@
 use Rattle.std.proofs.Common.{inl, inr}
 use Rattle.std.proofs.lemmas.Result.{IfOk-weaker}
-use Rattle.col_disk.proofs.Moving.{leaves_join, leaves_wider}
+use Rattle.col_disk.proofs.Moving.{leaves_join, leaves_wider, moved_read}
 use Rattle.store_opening.proofs.Quieted.{fresh_stands, opened_quiet, leaves_looked}
+use Rattle.store_opening.proofs.Untouched.{root_unwritten}
 use Rattle.store_opening.proofs.Started.{fresh_numbers, root_numbers}
 use Rattle.store_opening.proofs.opening.open.Goals as goal
 
@@ -44,3 +45,14 @@ returns-in-Ok-Root-clause-any_moment g c = λ m d told r.
 
 pub returns-in-Err-clause-any_moment : goal.returns-in-Err-clause-any_moment
 returns-in-Err-clause-any_moment g c = λ m d told r. leaves_looked g.D.Disk {old = c.args.disk.now} {new = c.open.new.disk} (λ x is. inl is) c.open.ensures.looks
+
+pub returns-in-Ok-Fresh-clause-unwritten : goal.returns-in-Ok-Fresh-clause-unwritten
+returns-in-Ok-Fresh-clause-unwritten g c = λ m v r told root whole. moved_read g.D.Disk c.open.ensures.looks
+
+pub returns-in-Ok-Root-clause-unwritten : goal.returns-in-Ok-Root-clause-unwritten
+returns-in-Ok-Root-clause-unwritten g c = λ m v r told root whole.
+    let k = c.in-Ok-Root in
+    root_unwritten g.D.Disk {old = c.args.disk.now} {mid = c.open.new.disk} {new = c.open_root.new.disk} m v k.version r k.catalogue k.field-0 k.field-0-is (k.ensures.found m told) root whole c.open.ensures.looks c.open_root.ensures.unwritten
+
+pub returns-in-Err-clause-unwritten : goal.returns-in-Err-clause-unwritten
+returns-in-Err-clause-unwritten g c = λ m v r told root whole. moved_read g.D.Disk c.open.ensures.looks
