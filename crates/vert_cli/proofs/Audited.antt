@@ -1,6 +1,6 @@
 -- What an audit answers, and what a crash leaves of it.
-use Rattle.std.proofs.Common.{◌≡◌, ◌≤◌, ◌∙◌, ℕ, List, inl, inr, false, true, refl, sym, ap, subst, arith}
-use Rattle.std.specs.Prelude.{◌⊎◌, Option, Some, None}
+use Rattle.std.proofs.Common.{◌≡◌, ℕ, List, inl, inr, false, refl, subst}
+use Rattle.std.specs.Prelude.{Option, Some, None}
 use Rattle.common_laws.specs.Causes.{Rose}
 use Rattle.common_laws.specs.Maps.{Contents}
 use Rattle.common_laws.specs.Told.{Appends, AppendsFront}
@@ -16,7 +16,7 @@ use Rattle.verdict_text.specs.Lines.{verdict_text}
 use Rattle.run_words.specs.Words.{Wanted, runs, audits}
 use Rattle.vert_cli.specs.declared.faults.Status.{Status}
 use Rattle.vert_cli.specs.Audits.{AuditEnds, AuditKeeps, AuditOf, IsAuditStatus, IsUntouched, IsUnwritten, Judged, TellsFolder, Told, ToldPart, status_of_verdict}
-use Rattle.vert_cli.specs.Ends.{Counts, ExactlyWhere, IsAnswered, IsOpenable, NeverBegins}
+use Rattle.vert_cli.specs.Ends.{Counts, ExactlyWhere, IsAnswered, NeverBegins}
 
 -- ---- the verdict and the folder
 

@@ -104,7 +104,7 @@ fn run_wanted<F: Files, S: Sink, D: Disk>(
     ensures disk_later { D.faults disk.old ≤ D.faults disk.new }
 {
     match wanted {
-        Wanted::Run(run) => run_source(alloc, run, files, out, disk),
+        Wanted::Run(asked) => run_source(alloc, asked, files, out, disk),
         Wanted::Audit => run_audit(alloc, out, disk),
     }
 }

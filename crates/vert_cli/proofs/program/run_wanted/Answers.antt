@@ -1,10 +1,10 @@
-use Rattle.std.proofs.Common.{◌≡◌, ap, inl, refl, sym, subst, rules}
-use Rattle.std.specs.Prelude.{Option, Some, None}
+use Rattle.std.proofs.Common.{◌≡◌, ap, inl, inr, sym, subst}
+use Rattle.std.specs.Prelude.{Some}
 use Rattle.col_disk.specs.Moved.{Leaves}
 use Rattle.run_words.specs.Told.{run_told, told}
 use Rattle.run_words.specs.Words.{Wanted, runs, audits}
 use Rattle.vert_cli.specs.declared.faults.Status.{Status}
-use Rattle.vert_cli.specs.Audits.{AuditKeeps, AuditOf, IsUntouched}
+use Rattle.vert_cli.specs.Audits.{AuditKeeps, AuditOf}
 use Rattle.vert_cli.specs.Ends.{AreFilesOf, ExactlyWhere, IsAbsent, IsServable, IsTooLarge, RunBegins, RunEnds, RunLeaves}
 use Rattle.vert_cli.proofs.Audited.{audit_answered, audit_unread, never_where, not_unbegun, untouched_left}
 use Rattle.vert_cli.proofs.Serving.{complete, no_script_where, too_large_where}
@@ -12,52 +12,52 @@ use Rattle.vert_cli.proofs.program.run_wanted.Goals as goal
 
 pub returns-in-Run-clause-begins : goal.returns-in-Run-clause-begins
 returns-in-Run-clause-begins g c = λ there from.
-    let is : told c.args.wanted ≡ runs (run_told c.in-Run.run) = ap told c.in-Run.is in
+    let is : told c.args.wanted ≡ runs (run_told c.in-Run.asked) = ap told c.in-Run.is in
     let files = subst (λ (w : Wanted). AreFilesOf (Some w) (g.F.Files.content c.args.files.now) there) is from in
     subst (λ (w : Wanted). RunBegins c.run_source.result there (Some w) c.args.disk.now c.run_source.new.disk (g.S.Sink.taken c.args.out.now) (g.S.Sink.taken c.run_source.new.out)) (sym is) (c.run_source.ensures.begins there files)
 
 pub returns-in-Run-clause-no_script : goal.returns-in-Run-clause-no_script
 returns-in-Run-clause-no_script g c = λ there from.
-    let is : told c.args.wanted ≡ runs (run_told c.in-Run.run) = ap told c.in-Run.is in
+    let is : told c.args.wanted ≡ runs (run_told c.in-Run.asked) = ap told c.in-Run.is in
     let files = subst (λ (w : Wanted). AreFilesOf (Some w) (g.F.Files.content c.args.files.now) there) is from in
     subst (λ (w : Wanted). ExactlyWhere c.run_source.result Status.NoScript (IsAbsent (Some w) there)) (sym is)
-    (no_script_where there (run_told c.in-Run.run) c.args.disk.now c.run_source.new.disk (g.S.Sink.taken c.args.out.now) (g.S.Sink.taken c.run_source.new.out) c.run_source.result (c.run_source.ensures.begins there files))
+    (no_script_where there (run_told c.in-Run.asked) c.args.disk.now c.run_source.new.disk (g.S.Sink.taken c.args.out.now) (g.S.Sink.taken c.run_source.new.out) c.run_source.result (c.run_source.ensures.begins there files))
 
 pub returns-in-Run-clause-too_large : goal.returns-in-Run-clause-too_large
 returns-in-Run-clause-too_large g c = λ there from.
-    let is : told c.args.wanted ≡ runs (run_told c.in-Run.run) = ap told c.in-Run.is in
+    let is : told c.args.wanted ≡ runs (run_told c.in-Run.asked) = ap told c.in-Run.is in
     let files = subst (λ (w : Wanted). AreFilesOf (Some w) (g.F.Files.content c.args.files.now) there) is from in
     subst (λ (w : Wanted). ExactlyWhere c.run_source.result Status.TooLarge (IsTooLarge (Some w) there)) (sym is)
-    (too_large_where there (run_told c.in-Run.run) c.args.disk.now c.run_source.new.disk (g.S.Sink.taken c.args.out.now) (g.S.Sink.taken c.run_source.new.out) c.run_source.result (c.run_source.ensures.begins there files))
+    (too_large_where there (run_told c.in-Run.asked) c.args.disk.now c.run_source.new.disk (g.S.Sink.taken c.args.out.now) (g.S.Sink.taken c.run_source.new.out) c.run_source.result (c.run_source.ensures.begins there files))
 
 pub returns-in-Run-clause-output : goal.returns-in-Run-clause-output
 returns-in-Run-clause-output g c = λ there d from openable.
-    let is : told c.args.wanted ≡ runs (run_told c.in-Run.run) = ap told c.in-Run.is in
+    let is : told c.args.wanted ≡ runs (run_told c.in-Run.asked) = ap told c.in-Run.is in
     let files = subst (λ (w : Wanted). AreFilesOf (Some w) (g.F.Files.content c.args.files.now) there) is from in
     subst (λ (w : Wanted). RunEnds c.run_source.result g.D.Disk there (Some w) d c.args.disk.now c.run_source.new.disk (g.S.Sink.taken c.args.out.now) (g.S.Sink.taken c.run_source.new.out)) (sym is) (c.run_source.ensures.ends there d files openable)
 
 pub returns-in-Run-clause-any_moment : goal.returns-in-Run-clause-any_moment
 returns-in-Run-clause-any_moment g c = λ there d from openable.
-    let is : told c.args.wanted ≡ runs (run_told c.in-Run.run) = ap told c.in-Run.is in
+    let is : told c.args.wanted ≡ runs (run_told c.in-Run.asked) = ap told c.in-Run.is in
     let files = subst (λ (w : Wanted). AreFilesOf (Some w) (g.F.Files.content c.args.files.now) there) is from in
     subst (λ (w : Wanted). Leaves g.D.Disk (RunLeaves g.D.Disk c.args.disk.now there (Some w) d (g.S.Sink.taken c.args.out.now) (g.S.Sink.taken c.run_source.new.out)) c.args.disk.now c.run_source.new.disk) (sym is) (c.run_source.ensures.any_moment there d files openable)
 
 pub returns-in-Run-clause-complete : goal.returns-in-Run-clause-complete
 returns-in-Run-clause-complete g c = λ there d from openable servable.
-    let is : told c.args.wanted ≡ runs (run_told c.in-Run.run) = ap told c.in-Run.is in
+    let is : told c.args.wanted ≡ runs (run_told c.in-Run.asked) = ap told c.in-Run.is in
     let files = subst (λ (w : Wanted). AreFilesOf (Some w) (g.F.Files.content c.args.files.now) there) is from in
     let served = subst (λ (w : Wanted). IsServable (Some w) there) is servable in
-    complete g.D.Disk there (run_told c.in-Run.run) d c.args.disk.now c.run_source.new.disk (g.S.Sink.taken c.args.out.now) (g.S.Sink.taken c.run_source.new.out) _ _ c.run_source.result
+    complete g.D.Disk there (run_told c.in-Run.asked) d c.args.disk.now c.run_source.new.disk (g.S.Sink.taken c.args.out.now) (g.S.Sink.taken c.run_source.new.out) _ _ c.run_source.result
     (c.run_source.ensures.ends there d files openable) c.run_source.ensures.sink c.run_source.ensures.read c.run_source.ensures.fault served
 
 pub returns-in-Run-clause-audit : goal.returns-in-Run-clause-audit
 returns-in-Run-clause-audit g c = λ m told_is.
-    let is : told c.args.wanted ≡ runs (run_told c.in-Run.run) = ap told c.in-Run.is in
+    let is : told c.args.wanted ≡ runs (run_told c.in-Run.asked) = ap told c.in-Run.is in
     subst (λ (w : Wanted). AuditOf (Some w) c.run_source.result m (g.S.Sink.taken c.args.out.now) (g.S.Sink.taken c.run_source.new.out)) (sym is) tt
 
 pub returns-in-Run-clause-audit_keeps : goal.returns-in-Run-clause-audit_keeps
 returns-in-Run-clause-audit_keeps g c =
-    let is : told c.args.wanted ≡ runs (run_told c.in-Run.run) = ap told c.in-Run.is in
+    let is : told c.args.wanted ≡ runs (run_told c.in-Run.asked) = ap told c.in-Run.is in
     subst (λ (w : Wanted). AuditKeeps g.D.Disk (Some w) c.args.disk.now c.run_source.new.disk) (sym is) tt
 
 pub returns-in-Audit-clause-begins : goal.returns-in-Audit-clause-begins
