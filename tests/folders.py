@@ -69,9 +69,18 @@ class Folder:
             lines.append('SELECT GET_LAST_GOOD_EPOCH();')
         return lines, planned
 
+    def audited(self):
+        """The epoch of the verdict on the folder, which is AUDIT YES."""
+        done = subprocess.run([self.program, self.place, '--audit'], stdout=subprocess.PIPE)
+        words = done.stdout.decode().split()
+        assert done.returncode == 0 and words[:2] == ['AUDIT', 'YES'], 'the verdict is %s' % ' '.join(words)
+        return int(words[2])
+
     def holds(self, good, last):
-        """The folder reopens to the rows up to one epoch, no earlier than the good one."""
+        """The folder passes the audit, and reopens to the rows up to the one epoch that is told there, no earlier than the good one."""
+        told = self.audited()
         epoch, here = self.now()
+        assert told == epoch, 'the audit told epoch %d, and it reopens to %d' % (told, epoch)
         assert good <= epoch <= last, 'epoch %d after the announced %d' % (epoch, good)
         assert here == self.rows_to(epoch), 'rows of epoch %d aren\'t those of its transactions' % epoch
 

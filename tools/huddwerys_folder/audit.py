@@ -11,6 +11,10 @@ class SpelledColumn(StoredColumn):
     def __init__(self, stored):
         self.__dict__.update(stored.__dict__)
 
+    def blocks(self):
+        self.index()  # it is judged before the body
+        return super().blocks()
+
     def flaw_of(self, values, entry, rows):
         if len(values) != rows:
             return f'it has {len(values)} values for {rows} rows'
