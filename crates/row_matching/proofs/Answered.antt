@@ -43,10 +43,10 @@ pub record IsAt (s : Seen) (i place count : ℕ) (places : List (Option ℕ)) (t
   pub source : IsSomeAnd (slice_get parts place) (λ p. IsSource count places p.stored)
   pub many : count ≡ length t.columns
 
-stored_at : (parts : List Loaded) (place : ℕ) (store : Loaded) → slice_get parts place ≡ Some store → slice_get (stored_of parts) place ≡ Some store.stored
+pub stored_at : (parts : List Loaded) (place : ℕ) (store : Loaded) → slice_get parts place ≡ Some store → slice_get (stored_of parts) place ≡ Some store.stored
 stored_at parts place store is = slice_get-map (λ (x : Loaded). x.stored) parts place ∙ ap (λ (o : Option Loaded). option_map (λ x. x.stored) o) is
 
-source_of : (s : Seen) (i place count : ℕ) (places : List (Option ℕ)) (t : kept.Table) (parts : List Loaded) (store : Loaded) → IsAt s i place count places t parts store → IsSource (length t.columns) places store.stored
+pub source_of : (s : Seen) (i place count : ℕ) (places : List (Option ℕ)) (t : kept.Table) (parts : List Loaded) (store : Loaded) → IsAt s i place count places t parts store → IsSource (length t.columns) places store.stored
 source_of s i place count places t parts store at =
     subst (λ (n : ℕ). IsSource n places store.stored) at.many (subst (λ (o : Option Loaded). IsSomeAnd o (λ p. IsSource count places p.stored)) at.part at.source)
 

@@ -17,7 +17,6 @@ use Rattle.col_value.specs.declared.row.Stamped.{Stamped}
 use Rattle.col_value.specs.declared.value.Value.{Value}
 use Rattle.row_history.specs.History.{Within, is_retained, is_visible, on_columns, retained, stamped}
 use Rattle.sql_bound.specs.declared.expr.Expr.{Expr}
-use Rattle.sql_bound.specs.Outputs.{is_kept}
 use Rattle.db_model.specs.Database.{Database, Table}
 use Rattle.db_model.specs.State.{Changes, pending_deletes}
 use Rattle.db_model.specs.Sound.{HasEpochs, IsSoundDatabase, IsSoundSession, IsSoundTable, RowFits, ValueFits}
@@ -77,7 +76,7 @@ again columns places count (s ∷ rows) are wide =
     ap₂ (λ (row : List Value) (xs : List Asked). (record { row = row; ins = s.ins }) ∷ xs) (made_again s.row columns places (subst (λ (n : ℕ). ArePlaces columns n places) (sym long) are))
     (again columns places count rows are (All-tail (λ x. length x.row ≡ count) s rows wide))
 
-zip_long : (columns : List Column) (row : List Value) → AllZip ValueFits columns row → length row ≡ length columns
+pub zip_long : (columns : List Column) (row : List Value) → AllZip ValueFits columns row → length row ≡ length columns
 zip_long [] [] all = refl
 zip_long [] (v ∷ row) all = absurd all
 zip_long (c ∷ columns) [] all = absurd all
@@ -150,7 +149,7 @@ deletes_apart last deletes table epochs (rest, bag) =
 
 -- ---- what matches
 
-on_fresh : {P : Type 0} (b : Bool) → b ≡ true → OnTrue b P → P
+pub on_fresh : {P : Type 0} (b : Bool) → b ≡ true → OnTrue b P → P
 on_fresh true on p = p
 on_fresh false on p = absurd (cc)
 
@@ -184,7 +183,7 @@ all_at P (z ∷ zs) zero y all is = subst P (same_Some z y is) (All-head P z zs 
 all_at P (z ∷ zs) (suc k) y all is = all_at P zs k y (All-tail P z zs all) is
 
 -- the projection at a place of the table at a place holds the rows of the database's table there
-at_place : (m : Contents) (mark : ℕ) (ts : List kept.Table) (pss : List (List Projected)) (us : List Table) (i place : ℕ) (t : kept.Table) (ps : List Projected) (p : Projected) → StandForTables m mark ts pss us → slice_get ts i ≡ Some t → slice_get pss i ≡ Some ps → slice_get ps place ≡ Some p
+pub at_place : (m : Contents) (mark : ℕ) (ts : List kept.Table) (pss : List (List Projected)) (us : List Table) (i place : ℕ) (t : kept.Table) (ps : List Projected) (p : Projected) → StandForTables m mark ts pss us → slice_get ts i ≡ Some t → slice_get pss i ≡ Some ps → slice_get ps place ≡ Some p
     → (u : Table) × (slice_get us i ≡ Some u) × (u.name ≡ t.name) × (u.columns ≡ t.columns) × HasRows m mark u.rows p
 at_place m mark [] pss us i place t ps p stand table parts part = absurd (cc)
 at_place m mark (x ∷ ts) [] us i place t ps p stand table parts part = absurd (cc)

@@ -7,3 +7,4 @@ pub mod Bags
 pub mod Answered
 pub mod Matches
 pub mod Alike
+pub mod Kept

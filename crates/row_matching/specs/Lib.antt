@@ -1,2 +1,3 @@
 pub mod Matching
 pub mod Seeing
+pub mod Keeping

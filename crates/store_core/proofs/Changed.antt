@@ -20,7 +20,7 @@ use Rattle.row_matching.specs.Matching.{CanMatch, committed_matches}
 use Rattle.alike_laws.proofs.Changes.{Alike, changes_turned, pending_alike}
 use Rattle.alike_laws.proofs.Sound.{session_alike}
 use Rattle.store_core.specs.Running.{Running, IsState}
-use Rattle.store_core.specs.Sessions.{own_of, with_marked}
+use Rattle.store_core.specs.Sessions.{own_of, rows_given, with_marked}
 use Rattle.store_core.proofs.Sessions.{changed, own_alike}
 
 -- ---- what is looked at
@@ -85,3 +85,35 @@ marked_stands disk r now state keep t left made news deletes here left_is same g
     (bag_filter (λ row. not (is_kept keep row)) (pending_rows t.name (own_of r)) (pending_rows t.name (own_changes state)) (pending_alike t.name (own_of r) (own_changes state) own)) in
     changed disk r now state (change_of t.name (marked (left ++ made) deletes) (own_of r)) (change_of t.name (marked_changes keep seen news) (own_changes state))
     (all_marked keep seen deletes (left ++ made) news t.name (own_of r) (own_changes state) own (bag_append left made (others keep (pending_rows t.name (own_changes state))) news rest same) gone) here sound
+
+-- ---- what is given
+
+one_given : (rows : List (List Value)) (deletes : List Asked) (c e : Changes) → AreAlikeChanges c e → AreAlikeChanges (marked rows deletes c) (marked rows deletes e)
+one_given rows deletes c e same = record {
+  table = same.table;
+  exclusive = refl;
+  rows = bag_refl rows;
+  deletes = bag_append c.deletes deletes e.deletes deletes same.deletes (bag_refl deletes);
+}
+
+all_given : (rows : List (List Value)) (deletes : List Asked) (name : List ℕ) (cs es : List Changes) → Alike cs es → Alike (change_of name (marked rows deletes) cs) (change_of name (marked rows deletes) es)
+all_given rows deletes name [] [] alike = (one_given rows deletes (untouched name) (untouched name) (none_yet name), tt)
+all_given rows deletes name [] (e ∷ es) alike = absurd alike
+all_given rows deletes name (c ∷ cs) [] alike = absurd alike
+all_given rows deletes name (c ∷ cs) (e ∷ es) (here, more) =
+    by (bytes_eq c.table name) (bytes_eq e.table name) (ap (λ (n : List ℕ). bytes_eq n name) here.table) (all_given rows deletes name cs es more)
+  where
+    given : List Changes → List Changes
+    given xs = change_of name (marked rows deletes) xs
+
+    by : (b d : Bool) → b ≡ d → Alike (given cs) (given es) → Alike (cond b (marked rows deletes c ∷ cs) (c ∷ given cs)) (cond d (marked rows deletes e ∷ es) (e ∷ given es))
+    by true true is rest = (one_given rows deletes c e here, more)
+    by true false is rest = absurd (cc)
+    by false true is rest = absurd (cc)
+    by false false is rest = (here, rest)
+
+pub given_stands : {D : Type 0} (disk : Ghosts D) (r : Running) (now : D) (state : State) (name : List ℕ) (rows : List (List Value)) (deletes : List Asked) → IsState disk r now state → IsSound (rows_given name rows deletes state)
+    → IsState disk (with_marked name rows deletes r) now (rows_given name rows deletes state)
+given_stands disk r now state name rows deletes here sound =
+    changed disk r now state (change_of name (marked rows deletes) (own_of r)) (change_of name (marked rows deletes) (own_changes state))
+    (all_given rows deletes name (own_of r) (own_changes state) (own_alike disk r now state here)) here sound

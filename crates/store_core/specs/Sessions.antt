@@ -4,7 +4,7 @@ use Rattle.std.specs.List.{slice_index_or}
 use Rattle.col_value.specs.declared.value.Value.{Value}
 use Rattle.col_value.specs.declared.row.Asked.{Asked}
 use Rattle.db_model.specs.Events.{change_of}
-use Rattle.db_model.specs.State.{Changes, with_rows}
+use Rattle.db_model.specs.State.{Changes, State, own_changes, with_changes, with_rows}
 use Rattle.txn_core.specs.Marking.{marked}
 use Rattle.store_core.specs.Running.{Running}
 
@@ -23,6 +23,10 @@ with_pending name rows r = with_own (with_rows name rows (own_of r)) r
 -- these are the current session's pending rows of a table, these deletes join its others, and it holds the table in mode X
 abbrev pub with_marked : List ℕ → List (List Value) → List Asked → Running → Running
 with_marked name rows deletes r = with_own (change_of name (marked rows deletes) (own_of r)) r
+
+-- the state in which these are the current session's pending rows of a table, these deletes join its others, and it holds the table in mode X
+abbrev pub rows_given : List ℕ → List (List Value) → List Asked → State → State
+rows_given name rows deletes state = with_changes (change_of name (marked rows deletes) (own_changes state)) state
 
 -- another session is the current one
 abbrev pub with_current : ℕ → Running → Running

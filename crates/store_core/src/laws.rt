@@ -25,7 +25,7 @@ ghost use Rattle.db_model.specs.Loading.{Load};
 ghost use Rattle.db_model.specs.Mover.{MovesAll};
 ghost use Rattle.db_model.specs.Run.{all_dropped};
 ghost use Rattle.store_core.specs.Stepping.{all_stale, with_asked};
-ghost use Rattle.store_core.specs.Sessions.{own_of, with_current, with_marked, with_none, with_own, with_pending};
+ghost use Rattle.store_core.specs.Sessions.{own_of, rows_given, with_current, with_marked, with_none, with_own, with_pending};
 
 use col_disk::Disk;
 use state_laws::{
@@ -47,6 +47,13 @@ pub fn changed_rows_stand<D: Disk>()
     ensures { (disk : D) (r : Running) (state : State) (keep : List Expr) (t : Table) (left made news : List (List Value)) (deletes : List Asked) → IsState ⟦<D as Disk>⟧ r disk state
         → left ≡ filter (λ row. not (is_kept keep row)) (pending_rows t.name (own_of r)) → SameBag made news → SameBag deletes (committed_matches keep state.database.last (own_changes state) t) → IsSound (rows_marked keep news t state)
         → IsState ⟦<D as Disk>⟧ (with_marked t.name (left ++ made) deletes r) disk (rows_marked keep news t state) }
+{}
+
+/// Where rows become the current session's pending rows of a table, and deletes join its others, in a way that keeps the state sound, the store is
+/// the state with them.
+pub fn given_changes_stand<D: Disk>()
+    ensures { (disk : D) (r : Running) (state : State) (name : List ℕ) (rows : List (List Value)) (deletes : List Asked) → IsState ⟦<D as Disk>⟧ r disk state → IsSound (rows_given name rows deletes state)
+        → IsState ⟦<D as Disk>⟧ (with_marked name rows deletes r) disk (rows_given name rows deletes state) }
 {}
 
 /// Where the current session's changes are dropped, the store is the state without them.

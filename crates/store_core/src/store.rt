@@ -53,6 +53,7 @@ use txn_core::Txns;
 
 mod adding;
 mod changing;
+mod history;
 mod jobs;
 mod loading;
 mod looking;

@@ -4,4 +4,4 @@
 
 mod printing;
 
-pub use printing::verdict_text;
+pub use printing::{print_row, verdict_text};

@@ -89,7 +89,8 @@ fn stamped_row(alloc: Global, stamped: &Stamped) -> Result<WideRow, AllocError>
     Ok(List::new(row))
 }
 
-fn print_row(alloc: Global, stamped: &Stamped, out: &mut Vec<u8>) -> Result<(), AllocError>
+/// Appends the line of a stored row: its values, the epoch that inserted it, and the one that deleted it.
+pub fn print_row(alloc: Global, stamped: &Stamped, out: &mut Vec<u8>) -> Result<(), AllocError>
     ensures { OnOk result (out.new.items ≡ out.old.items ++ row_text (stamped_row stamped.now)) }
 {
     let row = stamped_row(alloc, stamped)?;

@@ -7,15 +7,13 @@
 //! committed rows once they are moved out: behind statements by the mover, and at the end of a script that doesn't halt.
 #![tactic(auto)]
 
-mod words;
-
 use col_disk::DirDisk;
 use col_io::{StdFiles, StdSink};
+use program_words::words_of;
 use run_words::dir_of;
 use std::alloc::{AllocError, AllocGlobal};
 use std::process::ExitCode;
 use vert_cli::{Status, run};
-use words::words_of;
 
 /// Runs the program with the words that the machine gives it. An error says that there was no memory to begin.
 fn status(rt: &(impl std::rt::Runtime + AllocGlobal)) -> Result<Status, AllocError> {

@@ -1,5 +1,4 @@
 //! The words that the program is called with.
-#![tactic(auto)]
 
 use std::alloc::{AllocError, Global};
 use std::env::FillError;

@@ -1,0 +1,3 @@
+pub mod Linked
+pub mod Keyed
+pub mod Linking

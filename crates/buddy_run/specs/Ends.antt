@@ -1,0 +1,88 @@
+-- How a catch-up ends, over folders that reopen.
+use Rattle.std.specs.Prelude.{ℕ, ◌≡◌, ◌⊎◌, List, Option, Result, IfOk, IfErr}
+use Rattle.common_laws.specs.Maps.{Contents}
+use Rattle.common_laws.specs.Told.{Appends, AppendsFront}
+use Rattle.col_disk.specs.Moved.{ImageOf}
+use Rattle.col_disk.specs.declared.disk.Disk.{Ghosts}
+use Rattle.db_model.specs.Database.{Database}
+use Rattle.db_model.specs.Epochs.{cut}
+use Rattle.folder_model.specs.Reopening.{Reopens}
+use Rattle.store_opening.specs.Opening.{IsStill}
+use Rattle.catch_model.specs.Caught.{later_mark, IsCaughtUp}
+use Rattle.catch_model.specs.Refused.{IsRefused}
+use Rattle.catch_model.specs.declared.fault.LinkFault.{LinkFault}
+use Rattle.catch_model.specs.declared.fault.LinkFault.TheVariants.{SchemaDiffers, NotBehind, HistoryGone, Differs, Gap, TooMany, NumbersSpent, BehindDisk, AheadDisk, Damaged, Memory}
+use Rattle.link_text.specs.Lines.{caught_up_text, refusal_text}
+use Rattle.buddy_run.specs.declared.linking.Brought.{Brought}
+use Rattle.buddy_run.specs.declared.status.LinkStatus.{LinkStatus}
+
+-- the exit status of the program
+abbrev pub code_of : LinkStatus → ℕ
+code_of LinkStatus.Done = 0
+code_of LinkStatus.Refused = 1
+code_of LinkStatus.Usage = 2
+code_of LinkStatus.SinkFault = 4
+code_of LinkStatus.DiskFault = 5
+code_of (LinkStatus.Damaged name) = 6
+code_of LinkStatus.Memory = 7
+
+-- a folder reopens to a database that has caught up with another
+abbrev pub ReopensCaughtUp : Database → Database → Contents → Type 0
+ReopensCaughtUp a b x = (d : Database) × IsCaughtUp (later_mark a b) d b × Reopens x (cut b.last d)
+
+-- What a crash leaves of the folder behind at any moment: what it would have left before the opening had synced, or it reopens to what it was, cut at its newest epoch, or
+-- to a database that has caught up.
+abbrev pub IsOnTheWay : {D : Type 0} → Ghosts D → D → Database → Database → Contents → Type 0
+IsOnTheWay disk old a b x = IsStill disk old a x ⊎ (Reopens x (cut a.last a) ⊎ ReopensCaughtUp a b x)
+
+-- whatever a crash leaves of the folder behind reopens to a database that has caught up
+abbrev pub HasCaughtUp : {D : Type 0} → Ghosts D → D → Database → Database → Type 0
+HasCaughtUp disk now a b = (x : Contents) → ImageOf disk now x → ReopensCaughtUp a b x
+
+-- why it is refused: something is in the way, or the numbers of files of the folder behind are spent
+abbrev pub IsToldRefusal : Database → Database → LinkFault → Type 0
+IsToldRefusal a b fault = IsRefused a b a.last fault ⊎ (fault ≡ NumbersSpent)
+
+-- how it stopped
+abbrev pub StopsBy : Database → Database → LinkFault → Type 0
+StopsBy a b BehindDisk = Unit {0}
+StopsBy a b AheadDisk = Unit {0}
+StopsBy a b (Damaged name) = ⊥
+StopsBy a b Memory = Unit {0}
+StopsBy a b (SchemaDiffers name) = IsToldRefusal a b (SchemaDiffers name)
+StopsBy a b (NotBehind behind ahead) = IsToldRefusal a b (NotBehind behind ahead)
+StopsBy a b (HistoryGone at ahm) = IsToldRefusal a b (HistoryGone at ahm)
+StopsBy a b (Differs table row) = IsToldRefusal a b (Differs table row)
+StopsBy a b (Gap n) = IsToldRefusal a b (Gap n)
+StopsBy a b (TooMany n) = IsToldRefusal a b (TooMany n)
+StopsBy a b NumbersSpent = IsToldRefusal a b NumbersSpent
+
+abbrev pub brought : ℕ → ℕ → ℕ → Brought
+brought first second last = record { first = first; second = second; last = last }
+
+-- The folder behind was brought from its newest epoch up to that of the folder ahead, or it was refused, or a disk failed or memory was short.
+pub record BringsUp {D : Type 0} (disk : Ghosts D) (now : D) (a b : Database) (result : Result Brought LinkFault) : Type 0 where
+  pub done : IfOk result (λ r. (r ≡ brought a.last b.last b.last) × HasCaughtUp disk now a b)
+  pub stopped : IfErr result (StopsBy a b)
+
+-- the line that tells how far it came
+abbrev pub done_text : Database → Database → List ℕ
+done_text a b = caught_up_text a.last b.last b.last
+
+-- the sink took exactly the line that tells why it is refused
+abbrev pub TellsRefusal : Database → Database → Option (List ℕ) → Option (List ℕ) → Type 0
+TellsRefusal a b before after = (fault : LinkFault) × IsToldRefusal a b fault × Appends before after (refusal_text fault)
+
+-- or a front of one of these lines
+abbrev pub TellsFront : Database → Database → Option (List ℕ) → Option (List ℕ) → Type 0
+TellsFront a b before after = AppendsFront before after (done_text a b) ⊎ ((fault : LinkFault) × IsToldRefusal a b fault × AppendsFront before after (refusal_text fault))
+
+-- How a catch-up of two folders ends, by its status: the folder behind reopened to `a` and the one ahead to `b`.
+abbrev pub LinkEnds : LinkStatus → {D : Type 0} → Ghosts D → D → Database → Database → Option (List ℕ) → Option (List ℕ) → Type 0
+LinkEnds LinkStatus.Done disk now a b before after = HasCaughtUp disk now a b × Appends before after (done_text a b)
+LinkEnds LinkStatus.Refused disk now a b before after = TellsRefusal a b before after
+LinkEnds LinkStatus.Usage disk now a b before after = ⊥
+LinkEnds LinkStatus.SinkFault disk now a b before after = TellsFront a b before after
+LinkEnds LinkStatus.DiskFault disk now a b before after = after ≡ before
+LinkEnds (LinkStatus.Damaged name) disk now a b before after = ⊥
+LinkEnds LinkStatus.Memory disk now a b before after = (after ≡ before) ⊎ TellsFront a b before after
