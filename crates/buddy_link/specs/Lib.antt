@@ -1,3 +1,3 @@
 pub mod Linked
-pub mod Keyed
+pub mod Replaying
 pub mod Linking

@@ -1,61 +1,29 @@
 -- What the steps of a catch-up find and leave.
-use Rattle.std.specs.Prelude.{ℕ, ◌≡◌, ◌≢◌, ◌≤◌, ◌⊎◌, max, List, [], ◌∷◌, find, Option, option_map, bytes_eq, IsSomeAnd, Result, IfOk, IfErr}
-use Rattle.std.specs.List.{AllZip, slice_get}
-use Rattle.std.specs.Ordering.{nat_cmp}
-use Rattle.std.specs.Cmp.Lexicographic.{slice_cmp}
-use Rattle.std.specs.declared.cmp.Ordering.{Ordering}
-use Rattle.std.specs.declared.cmp.Ordering.TheVariants.{Less, Equal, Greater}
+use Rattle.std.specs.Prelude.{ℕ, ◌≡◌, ◌≤◌, ◌⊎◌, max, Bool, true, false, List, IsSomeAnd, Result, IfOk, IfErr, IsErrOf, OnOk}
+use Rattle.std.specs.List.{slice_get}
 use Rattle.common_laws.specs.Bags.{SameBag}
 use Rattle.common_laws.specs.Maps.{Contents}
+use Rattle.col_disk.specs.Moved.{Leaves}
 use Rattle.col_disk.specs.declared.disk.Disk.{Ghosts}
 use Rattle.col_disk.specs.declared.disk.StoreFault.{StoreFault}
 use Rattle.col_disk.specs.declared.disk.StoreFault.TheVariants as store
-use Rattle.col_value.specs.declared.column.Column.{Column}
 use Rattle.col_value.specs.declared.row.Stamped.{Stamped}
-use Rattle.catalog_types.specs.declared.catalogue.Table as kept
-use Rattle.catalog_types.specs.Lists.{Pairwise}
-use Rattle.catalog_types.specs.Names.{IsBelow}
-use Rattle.row_history.specs.History.{retained}
-use Rattle.bag_difference.specs.Differences.{IsLeastDifference}
+use Rattle.row_history.specs.History.{cut_rows, retained}
 use Rattle.db_model.specs.Database.{Database}
 use Rattle.db_model.specs.Epochs.{cut, last_good}
+use Rattle.db_model.specs.Mover.{MovesAll}
 use Rattle.db_model.specs.Sound.{IsSoundDatabase}
 use Rattle.db_model.specs.State.{State, idle_sessions}
 use Rattle.folder_model.specs.Reopening.{Reopens}
+use Rattle.store_core.specs.Cuts.{IsKept}
+use Rattle.store_core.specs.Events.{ReopensTo}
 use Rattle.store_core.specs.Running.{Running, IsState}
 use Rattle.catch_model.specs.Caught.{later_mark, HaveSameHistory, HaveSameTables, IsCaughtUp}
 use Rattle.catch_model.specs.Refused.{IsAccepted, IsRefused}
 use Rattle.catch_model.specs.declared.fault.LinkFault.{LinkFault}
 use Rattle.catch_model.specs.declared.fault.LinkFault.TheVariants.{SchemaDiffers, NotBehind, HistoryGone, Differs, Gap, TooMany, NumbersSpent, BehindDisk, AheadDisk, Damaged, Memory}
-use Rattle.buddy_link.specs.Linked.{History, AreToldBy}
-
--- ---- catalogues
-
--- the columns of the table of a name
-abbrev pub columns_in : List ℕ → List kept.Table → Option (List Column)
-columns_in name tables = option_map (λ t. t.columns) (find (λ t. bytes_eq t.name name) tables)
-
--- tables in the ascending order of their names
-abbrev pub AreAscending : List kept.Table → Type 0
-AreAscending tables = Pairwise (λ t u. IsBelow t.name u.name) tables
-
--- two tables have one name and the same columns
-pub record IsSameTable (t u : kept.Table) : Type 0 where
-  pub name : t.name ≡ u.name
-  pub columns : t.columns ≡ u.columns
-
--- by the order of their names: the lesser of the two, or both where their columns differ, or what comes behind them
-abbrev pub IsApart : Ordering → kept.Table → kept.Table → List ℕ → Type 0 → Type 0
-IsApart Less x y name behind = name ≡ x.name
-IsApart Equal x y name behind = ((x.columns ≢ y.columns) × (name ≡ x.name)) ⊎ ((x.columns ≡ y.columns) × behind)
-IsApart Greater x y name behind = name ≡ y.name
-
--- the name of the first table in which two lists differ
-abbrev pub IsFirstApart : List kept.Table → List kept.Table → List ℕ → Type 0
-IsFirstApart [] [] name = ⊥
-IsFirstApart [] (y ∷ ys) name = name ≡ y.name
-IsFirstApart (x ∷ xs) [] name = name ≡ x.name
-IsFirstApart (x ∷ xs) (y ∷ ys) name = IsApart (slice_cmp nat_cmp x.name y.name) x y name (IsFirstApart xs ys name)
+use Rattle.catch_tables.specs.Told.{History, AreToldBy, IsLeastIn, IsToldBy}
+use Rattle.buddy_link.specs.Replaying.{IsShortBehind}
 
 -- ---- faults
 
@@ -99,9 +67,38 @@ mark_between behind ahead = max behind.seen.catalogue.ahm ahead.seen.catalogue.a
 abbrev pub TellsAt : ℕ → ℕ → List Stamped → Database → Type 0
 TellsAt mark place rows d = d.ahm ≤ mark → IsSomeAnd (slice_get d.tables place) (λ t. SameBag rows (retained mark t.rows))
 
--- a row is the least in which two lists of rows differ
-abbrev pub IsLeastIn : List Stamped → List Stamped → Stamped → Type 0
-IsLeastIn xs ys row = (first : ℕ) × (second : ℕ) × IsLeastDifference xs ys row first second
+-- the table at a place tells in both the same from a mark on, up to an epoch
+abbrev pub SameAt : ℕ → ℕ → ℕ → Database → Database → Type 0
+SameAt mark epoch place a b = IsSomeAnd (slice_get a.tables place) (λ t. IsSomeAnd (slice_get b.tables place) (λ u. SameBag (retained mark t.rows) (retained mark (cut_rows epoch u.rows))))
+
+-- in the table of this name, at a place, a row is the least in which the two differ
+abbrev pub DifferAt : ℕ → ℕ → ℕ → List ℕ → Stamped → Database → Database → Type 0
+DifferAt mark epoch place table row a b =
+    IsSomeAnd (slice_get a.tables place) (λ t. IsSomeAnd (slice_get b.tables place) (λ u. (table ≡ u.name) × IsLeastIn (retained mark t.rows) (retained mark (cut_rows epoch u.rows)) row))
+
+-- this is what the table at a place tells ahead, and the same as behind up to an epoch
+pub record IsToldAt (mark epoch place : ℕ) (h : History) (a b : Database) : Type 0 where
+  pub told : IsSomeAnd (slice_get b.tables place) (IsToldBy mark h)
+  pub same : SameAt mark epoch place a b
+
+-- why it isn't
+abbrev pub EndsAt : ℕ → ℕ → ℕ → Database → Database → LinkFault → Type 0
+EndsAt mark epoch place a b (SchemaDiffers name) = ⊥
+EndsAt mark epoch place a b (NotBehind behind ahead) = ⊥
+EndsAt mark epoch place a b (HistoryGone at ahm) = ⊥
+EndsAt mark epoch place a b (Differs table row) = DifferAt mark epoch place table row a b
+EndsAt mark epoch place a b (Gap n) = ⊥
+EndsAt mark epoch place a b (TooMany n) = ⊥
+EndsAt mark epoch place a b NumbersSpent = ⊥
+EndsAt mark epoch place a b BehindDisk = Unit {0}
+EndsAt mark epoch place a b AheadDisk = Unit {0}
+EndsAt mark epoch place a b (Damaged name) = ⊥
+EndsAt mark epoch place a b Memory = Unit {0}
+
+-- what the tables tell ahead, where nothing is in the way
+pub record IsChecked (epoch : ℕ) (tables : List History) (a b : Database) : Type 0 where
+  pub accepted : IsAccepted a b epoch
+  pub told : AreToldBy (later_mark a b) tables b
 
 -- ---- replaying
 
@@ -159,3 +156,36 @@ ReopensBehindOrCaught mark a b x = Reopens x (cut a.database.last a.database) �
 pub record Replays {D : Type 0} (disk : Ghosts D) (mark last : ℕ) (is : Running) (now : D) (result : Result ℕ LinkFault) (a : State) (b : Database) : Type 0 where
   pub done : IfOk result (λ n. (n ≡ last) × (new : State) × IsState disk is now new × IsReplayed mark b new)
   pub left : IfErr result (LeavesBehind (IsState disk is now) mark a b)
+
+-- all is moved out, or the numbers are spent; or memory was short
+abbrev pub MovesOrStops : Bool → LinkFault → Type 0
+MovesOrStops stopped (SchemaDiffers name) = ⊥
+MovesOrStops stopped (NotBehind behind ahead) = ⊥
+MovesOrStops stopped (HistoryGone at ahm) = ⊥
+MovesOrStops stopped (Differs table row) = ⊥
+MovesOrStops stopped (Gap n) = ⊥
+MovesOrStops stopped (TooMany n) = ⊥
+MovesOrStops stopped NumbersSpent = stopped ≡ true
+MovesOrStops stopped BehindDisk = Unit {0}
+MovesOrStops stopped AheadDisk = ⊥
+MovesOrStops stopped (Damaged name) = ⊥
+MovesOrStops stopped Memory = Unit {0}
+
+-- the conditions of `current`: the state behind is at the epoch up to which it was brought, all on disk, and no session has changes
+pub record MayGoOn (f : ℕ) (a : State) : Type 0 where
+  pub last : a.database.last ≡ f
+  pub idle : a.sessions ≡ idle_sessions
+  pub good : last_good a.database ≡ a.database.last
+
+-- What `current` makes of the store behind.
+pub record GoesOn {D : Type 0} (disk : Ghosts D) (f : ℕ) (is : Running) (now : D) (result : Result ℕ LinkFault) (a : State) (b : Database) : Type 0 where
+  pub done : IfOk result (λ n. (n ≡ b.last) × IsAccepted a.database b f × (new : State) × IsState disk is now new × IsReplayed (later_mark a.database b) b new)
+  pub left : IfErr result (λ fault. (Ends a.database b f fault × IsState disk is now a) ⊎ LeavesBehind (IsState disk is now) (later_mark a.database b) a b fault)
+
+-- What a moveout of all makes of a store over a state.
+pub record MovesBehind {D T : Type 0} (disk : Ghosts D) (is : Running) (old new : D) (result : Result T LinkFault) (s : State) : Type 0 where
+  pub done : OnOk result ((after : State) × MovesAll s false after × IsState disk is new after)
+  pub spent : IsErrOf result NumbersSpent → (after : State) × MovesAll s true after × IsState disk is new after
+  pub short : IsErrOf result Memory → (after : State) × IsKept s after × IsState disk is new after
+  pub fault : IfErr result (MovesOrStops true)
+  pub any_moment : Leaves disk (λ x. (mid : State) × IsKept s mid × ReopensTo mid x) old new

@@ -1,25 +1,22 @@
 //! What both tell of their tables.
 
-ghost use Rattle.std.specs.Prelude.{◌≡◌, ◌≤◌, IfOk, IfErr, IfSome, IfNone, IsSomeAnd};
-ghost use Rattle.std.specs.List.{All, slice_get};
-ghost use Rattle.common_laws.specs.Bags.{SameBag};
+ghost use Rattle.std.specs.Prelude.{◌≡◌, ◌≤◌, IfOk, IfErr};
+ghost use Rattle.std.specs.List.{All};
 ghost use Rattle.common_laws.specs.Causes.{HasCause};
 ghost use Rattle.col_disk.specs.Moved.{Moved, NoName};
 ghost use Rattle.col_value.specs.Order.{IsRow};
-ghost use Rattle.row_history.specs.History.{cut_row, cut_rows, retained};
 ghost use Rattle.db_model.specs.State.{State};
 ghost use Rattle.store_core.specs.Running.{IsState};
-ghost use Rattle.catch_model.specs.Caught.{HaveSameTables};
-ghost use Rattle.catch_model.specs.Refused.{IsOlder};
-ghost use Rattle.buddy_link.specs.Linked.{AreToldBy};
-ghost use Rattle.buddy_link.specs.Linking.{behind_fault, ahead_fault, mark_of, IsDiffering, IsDifferentRow, TellsAt, IsShortAhead, IsShortBehind};
+ghost use Rattle.catch_model.specs.Refused.{IsAhead, IsOlder};
+ghost use Rattle.catch_tables.specs.Told.{AreToldBy};
+ghost use Rattle.buddy_link.specs.Linking.{ahead_fault, behind_fault, mark_between, Ends, EndsAt, IsShort, IsToldAt, TellsAt};
+ghost use Rattle.buddy_link.specs.Replaying.{IsShortBehind};
 
-use crate::told::Told;
-use bag_difference::least_difference;
 use catch_model::LinkFault;
+use catch_tables::{Told, difference_at};
 use col_disk::{Disk, StoreFault};
 use col_value::Stamped;
-use std::alloc::{AllocError, Global};
+use std::alloc::Global;
 use store_core::Store;
 
 /// The store behind and the one ahead, and the epoch from which the one behind is to be brought on.
@@ -32,7 +29,7 @@ pub struct Pair<'a> {
 
 /// The later of the two ancient history marks.
 pub fn mark_of(pair: &Pair<'_>) -> u64
-    ensures { result ≡ mark_of pair.now }
+    ensures { result ≡ mark_between pair.now.behind.now pair.now.ahead.now }
 {
     pair.behind.mark().max(pair.ahead.mark())
 }
@@ -57,51 +54,6 @@ fn ahead_fault(fault: StoreFault) -> LinkFault
     }
 }
 
-/// A row cut at an epoch.
-fn cut_row(alloc: Global, row: &Stamped, epoch: u64) -> Result<Stamped, AllocError>
-    ensures { IfOk result (λ s. s ≡ cut_row epoch row.now) }
-{
-    let del = match row.del {
-        Some(del) if del <= epoch => Some(del),
-        _ => None,
-    };
-    Ok(Stamped {
-        row: row.row.copy(alloc)?,
-        ins: row.ins,
-        del,
-    })
-}
-
-/// Rows cut at an epoch.
-fn cut_rows(alloc: Global, rows: &[Stamped], epoch: u64) -> Result<Vec<Stamped>, AllocError>
-    ensures { IfOk result (λ v. v.items ≡ cut_rows epoch rows.now) }
-{
-    let mut out = Vec::new(alloc);
-    for row in rows {
-        if row.ins <= epoch {
-            out.push(cut_row(alloc, row, epoch)?)?;
-        }
-    }
-    Ok(out)
-}
-
-/// The least row in which rows differ from others that are cut at an epoch.
-fn difference_at(
-    alloc: Global,
-    rows: Vec<Stamped>,
-    ahead: &[Stamped],
-    epoch: u64,
-) -> Result<Option<Stamped>, AllocError>
-    ensures same { IfOk result (λ o. IfNone o (SameBag rows.items (cut_rows epoch ahead.now))) }
-    ensures differ { IfOk result (λ o. IfSome o (λ row. IsLeastDifferent rows.items (cut_rows epoch ahead.now) row)) }
-{
-    let cut = cut_rows(alloc, ahead, epoch)?;
-    match least_difference(alloc, rows, cut)? {
-        Some(difference) => Ok(Some(difference.row)),
-        None => Ok(None),
-    }
-}
-
 /// What the store behind tells of the table at a place from the later mark on.
 fn read_behind<A: Disk>(
     alloc: Global,
@@ -109,7 +61,7 @@ fn read_behind<A: Disk>(
     place: usize,
     at: &mut A,
 ) -> Result<Vec<Stamped>, LinkFault>
-    ensures found { IfOk result (λ v. (a : State) → IsState ⟦<A as Disk>⟧ pair.now.behind.now at.old a → TellsAt (mark_of pair.now) place v.items a.database) }
+    ensures found { IfOk result (λ v. (a : State) → IsState ⟦<A as Disk>⟧ pair.now.behind.now at.old a → TellsAt (mark_between pair.now.behind.now pair.now.ahead.now) place v.items a.database) }
     ensures short { IfErr result (λ fault. (a : State) → IsState ⟦<A as Disk>⟧ pair.now.behind.now at.old a → IsShortBehind fault) }
     ensures kept { A.holds at.new ≡ A.holds at.old }
     ensures moved { Moved ⟦<A as Disk>⟧ NoName NoName at.old at.new }
@@ -128,9 +80,9 @@ fn read_ahead<B: Disk>(
     place: usize,
     from: &mut B,
 ) -> Result<Vec<Stamped>, LinkFault>
-    ensures found { IfOk result (λ v. (b : State) → IsState ⟦<B as Disk>⟧ pair.now.ahead.now from.old b → TellsAt (mark_of pair.now) place v.items b.database) }
+    ensures found { IfOk result (λ v. (b : State) → IsState ⟦<B as Disk>⟧ pair.now.ahead.now from.old b → TellsAt (mark_between pair.now.behind.now pair.now.ahead.now) place v.items b.database) }
     ensures valid { IfOk result (λ v. All (λ s. IsRow s.row) v.items) }
-    ensures short { IfErr result (λ fault. (b : State) → IsState ⟦<B as Disk>⟧ pair.now.ahead.now from.old b → IsShortAhead fault) }
+    ensures short { IfErr result (λ fault. (b : State) → IsState ⟦<B as Disk>⟧ pair.now.ahead.now from.old b → IsShort fault) }
     ensures kept { B.holds from.new ≡ B.holds from.old }
     ensures moved { Moved ⟦<B as Disk>⟧ NoName NoName from.old from.new }
     ensures cause { HasCause LinkFault.AheadDisk (B.faults from.old) (B.faults from.new) result }
@@ -149,6 +101,14 @@ fn tell_one<A: Disk, B: Disk>(
     at: &mut A,
     from: &mut B,
 ) -> Result<Told, LinkFault>
+    ensures told { IfOk result (λ h. (a b : State) → IsState ⟦<A as Disk>⟧ pair.now.behind.now at.old a → IsState ⟦<B as Disk>⟧ pair.now.ahead.now from.old b → mark_between pair.now.behind.now pair.now.ahead.now ≤ pair.now.epoch → IsToldAt (mark_between pair.now.behind.now pair.now.ahead.now) pair.now.epoch place h a.database b.database) }
+    ensures ends { IfErr result (λ fault. (a b : State) → IsState ⟦<A as Disk>⟧ pair.now.behind.now at.old a → IsState ⟦<B as Disk>⟧ pair.now.ahead.now from.old b → mark_between pair.now.behind.now pair.now.ahead.now ≤ pair.now.epoch → EndsAt (mark_between pair.now.behind.now pair.now.ahead.now) pair.now.epoch place a.database b.database fault) }
+    ensures behind_kept { A.holds at.new ≡ A.holds at.old }
+    ensures behind_moved { Moved ⟦<A as Disk>⟧ NoName NoName at.old at.new }
+    ensures behind_cause { HasCause LinkFault.BehindDisk (A.faults at.old) (A.faults at.new) result }
+    ensures ahead_kept { B.holds from.new ≡ B.holds from.old }
+    ensures ahead_moved { Moved ⟦<B as Disk>⟧ NoName NoName from.old from.new }
+    ensures ahead_cause { HasCause LinkFault.AheadDisk (B.faults from.old) (B.faults from.new) result }
 {
     let behind = read_behind(alloc, pair, place, at)?;
     let ahead = read_ahead(alloc, pair, place, from)?;
@@ -169,6 +129,16 @@ pub fn tell_all<A: Disk, B: Disk>(
     at: &mut A,
     from: &mut B,
 ) -> Result<Vec<Told>, LinkFault>
+    ensures told { IfOk result (λ v. (a b : State) → IsState ⟦<A as Disk>⟧ pair.now.behind.now at.old a → IsState ⟦<B as Disk>⟧ pair.now.ahead.now from.old b → IsAhead a.database b.database pair.now.epoch → mark_between pair.now.behind.now pair.now.ahead.now ≤ pair.now.epoch
+        → AreToldBy (mark_between pair.now.behind.now pair.now.ahead.now) v.items b.database × IsOlder a.database b.database pair.now.epoch) }
+    ensures ends { IfErr result (λ fault. (a b : State) → IsState ⟦<A as Disk>⟧ pair.now.behind.now at.old a → IsState ⟦<B as Disk>⟧ pair.now.ahead.now from.old b → IsAhead a.database b.database pair.now.epoch → mark_between pair.now.behind.now pair.now.ahead.now ≤ pair.now.epoch
+        → Ends a.database b.database pair.now.epoch fault) }
+    ensures behind_kept { A.holds at.new ≡ A.holds at.old }
+    ensures behind_moved { Moved ⟦<A as Disk>⟧ NoName NoName at.old at.new }
+    ensures behind_cause { HasCause LinkFault.BehindDisk (A.faults at.old) (A.faults at.new) result }
+    ensures ahead_kept { B.holds from.new ≡ B.holds from.old }
+    ensures ahead_moved { Moved ⟦<B as Disk>⟧ NoName NoName from.old from.new }
+    ensures ahead_cause { HasCause LinkFault.AheadDisk (B.faults from.old) (B.faults from.new) result }
 {
     let mut out = Vec::new(alloc);
     for place in 0..pair.ahead.tables().len() {

@@ -6,13 +6,9 @@
 #![tactic(auto)]
 
 mod checks;
-mod epochs;
 mod histories;
 mod link;
-mod ordered;
 mod replay;
-mod tables;
-mod told;
 
 pub use catch_model::LinkFault;
 pub use link::Link;

@@ -12,7 +12,7 @@ use Rattle.catch_model.specs.Caught.{later_mark, IsCaughtUp}
 use Rattle.catch_model.specs.Refused.{IsRefused}
 use Rattle.catch_model.specs.declared.fault.LinkFault.{LinkFault}
 use Rattle.catch_model.specs.declared.fault.LinkFault.TheVariants.{SchemaDiffers, NotBehind, HistoryGone, Differs, Gap, TooMany, NumbersSpent, BehindDisk, AheadDisk, Damaged, Memory}
-use Rattle.link_text.specs.Lines.{caught_up_text, refusal_text}
+use Rattle.catch_text.specs.Lines.{caught_text, refusal_text}
 use Rattle.buddy_run.specs.declared.linking.Brought.{Brought}
 use Rattle.buddy_run.specs.declared.status.LinkStatus.{LinkStatus}
 
@@ -67,7 +67,7 @@ pub record BringsUp {D : Type 0} (disk : Ghosts D) (now : D) (a b : Database) (r
 
 -- the line that tells how far it came
 abbrev pub done_text : Database → Database → List ℕ
-done_text a b = caught_up_text a.last b.last b.last
+done_text a b = caught_text a.last b.last b.last
 
 -- the sink took exactly the line that tells why it is refused
 abbrev pub TellsRefusal : Database → Database → Option (List ℕ) → Option (List ℕ) → Type 0

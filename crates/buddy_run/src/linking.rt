@@ -10,13 +10,14 @@ ghost use Rattle.folder_model.specs.Reopening.{Reopens};
 ghost use Rattle.store_core.specs.Running.{IsState};
 ghost use Rattle.store_opening.specs.Opening.{IsStill};
 ghost use Rattle.buddy_run.specs.declared.status.LinkStatus.TheVariants.{Usage as usage, SinkFault as sink_fault, DiskFault as disk_fault};
-ghost use Rattle.buddy_run.specs.Ends.{BringsUp, IsOnTheWay, LinkEnds, done_text};
+ghost use Rattle.buddy_link.specs.Linking.{IsShort};
+ghost use Rattle.buddy_run.specs.Ends.{BringsUp, IsOnTheWay, LinkEnds};
 
 use crate::status::LinkStatus;
 use buddy_link::{Link, LinkFault};
 use col_disk::{Disk, StoreFault};
 use col_io::{Sink, SinkFault, write_all};
-use link_text::{caught_up_text, refusal_text};
+use catch_text::{caught_text, refusal_text};
 use std::alloc::{AllocError, Global};
 use store_core::Store;
 
@@ -155,7 +156,7 @@ pub fn link<S: Sink, A: Disk, B: Disk>(
             first,
             second,
             last,
-        }) => match caught_up_text(alloc, first, second, last) {
+        }) => match caught_text(alloc, first, second, last) {
             Ok(text) => tell(out, text.as_slice(), LinkStatus::Done),
             Err(AllocError) => LinkStatus::Memory,
         },

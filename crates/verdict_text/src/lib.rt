@@ -4,4 +4,4 @@
 
 mod printing;
 
-pub use printing::{print_row, verdict_text};
+pub use printing::{print_number, print_numbers, print_row, verdict_text};

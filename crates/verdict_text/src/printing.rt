@@ -9,7 +9,8 @@ use audit_model::Verdict;
 use col_value::{List, Name, Stamped, Wide, WideRow};
 use std::alloc::{AllocError, Global};
 
-fn print_number(alloc: Global, n: u64, out: &mut Vec<u8>) -> Result<(), AllocError>
+/// A number in decimal digits.
+pub fn print_number(alloc: Global, n: u64, out: &mut Vec<u8>) -> Result<(), AllocError>
     ensures { OnOk result (out.new.items ≡ out.old.items ++ decimal n) }
 {
     let text = format!(in alloc; "{n}")?;
@@ -17,7 +18,7 @@ fn print_number(alloc: Global, n: u64, out: &mut Vec<u8>) -> Result<(), AllocErr
 }
 
 /// Two numbers, and the end of the line.
-fn print_numbers(
+pub fn print_numbers(
     alloc: Global,
     first: u64,
     second: u64,
@@ -89,7 +90,7 @@ fn stamped_row(alloc: Global, stamped: &Stamped) -> Result<WideRow, AllocError>
     Ok(List::new(row))
 }
 
-/// Appends the line of a stored row: its values, the epoch that inserted it, and the one that deleted it.
+/// The line of a stored row: its values, then the epoch that inserted it and the one that deleted it.
 pub fn print_row(alloc: Global, stamped: &Stamped, out: &mut Vec<u8>) -> Result<(), AllocError>
     ensures { OnOk result (out.new.items ≡ out.old.items ++ row_text (stamped_row stamped.now)) }
 {

@@ -1,0 +1,4 @@
+pub mod Epochs
+pub mod Committed
+pub mod Pending
+pub mod Ends

@@ -1,0 +1,6 @@
+use Rattle.std.proofs.Common.{◌≡◌, map, take}
+use Rattle.catch_tables.specs.Keyed.{delete_of}
+use Rattle.catch_tables.proofs.ordered.asked_rows.Given as goal
+
+abbrev pub invariant-loop-each : goal.invariant-loop-each
+invariant-loop-each l = l.out.items ≡ map delete_of (take l.each-index l.keyed)
