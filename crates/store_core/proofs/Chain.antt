@@ -23,7 +23,7 @@ use Rattle.col_disk.specs.Faults.{IsUnblamed}
 use Rattle.table_store.proofs.Standing.{reads_only}
 use Rattle.store_core.specs.Cuts.{ReopensFrom}
 use Rattle.store_core.specs.Events.{BeforeOrAfter, MovesFirstOf}
-use Rattle.store_core.specs.Moving.{MovedBehind, MovesAllOf}
+use Rattle.store_core.specs.Moving.{MovedBehind, MovesAllOf, ReopensMoved}
 use Rattle.store_core.specs.Running.{Running, IsState}
 use Rattle.store_core.proofs.Events.{renumbered}
 use Rattle.store_core.proofs.Placed.{MovedAt, count_moved, cut_moved, first_moved, good_moved, moved_last, none_behind, sound_moved}
@@ -85,6 +85,7 @@ pub record Chained {D : Type 0} (disk : Ghosts D) (start : State) (jobs : ℕ) (
   pub most : mid.parts ≤ start.parts + 1
   pub still : Still start mid.database
   pub any_moment : Leaves disk (ReopensFrom (last_good start.database) start) old now
+  pub by_moves : Leaves disk (ReopensMoved start) old now
 
 abbrev short_of : Result (Unit {0}) StoreFault
 short_of = Err fault.Memory
@@ -102,6 +103,7 @@ chain_begins {D} disk r now start here = record {
   most = omega arith;
   still = same;
   any_moment = leaves_wider disk (λ x reopens. either x reopens) quiet.any_moment;
+  by_moves = leaves_wider disk (λ x reopens. itself x reopens) quiet.any_moment;
 }
   where
     same : Still start start.database
@@ -114,6 +116,10 @@ chain_begins {D} disk r now start here = record {
     either x (inl before) = reopens_still start start.database x same before
     either x (inr before) = reopens_still start start.database x same before
 
+    itself : (x : Contents) → ReopensToEither start.database start.database x → ReopensMoved start x
+    itself x (inl before) = (start, inl refl, before)
+    itself x (inr before) = (start, inl refl, before)
+
 -- whatever a crash leaves of a moveout
 first_leaves : (start mid : State) → Still start mid.database → (x : Contents) → BeforeOrAfter mid (MovesFirst (first_behind mid.database) mid) x → ReopensFrom (last_good start.database) start x
 first_leaves start mid still x (inl before) = reopens_still start mid.database x still before
@@ -123,6 +129,15 @@ first_leaves start mid still x (inr (new, moves, after)) =
 all_leave : {D : Type 0} (disk : Ghosts D) {old now new : D} (start : State) (jobs : ℕ) (r : Running) → (chain : Chained disk start jobs r old now) → Leaves disk (BeforeOrAfter chain.mid (MovesFirst (first_behind chain.mid.database) chain.mid)) now new
     → Leaves disk (ReopensFrom (last_good start.database) start) old new
 all_leave disk start jobs r chain leaves = leaves_join disk chain.any_moment (leaves_wider disk (first_leaves start chain.mid chain.still) leaves)
+
+-- by the moveouts that were done
+moved_leaves : (start mid : State) (jobs : ℕ) → MovesOut jobs (given_up start) false mid → are_spent mid ≡ false → (x : Contents) → BeforeOrAfter mid (MovesFirst (first_behind mid.database) mid) x → ReopensMoved start x
+moved_leaves start mid jobs moves room x (inl before) = (mid, inr (jobs, false, moves), before)
+moved_leaves start mid jobs moves room x (inr (new, first, after)) = (new, inr (suc jobs, false, chained jobs (given_up start) mid new moves room first), after)
+
+all_moved : {D : Type 0} (disk : Ghosts D) {old now new : D} (start : State) (jobs : ℕ) (r : Running) → (chain : Chained disk start jobs r old now) → are_spent chain.mid ≡ false → Leaves disk (BeforeOrAfter chain.mid (MovesFirst (first_behind chain.mid.database) chain.mid)) now new
+    → Leaves disk (ReopensMoved start) old new
+all_moved disk start jobs r chain room leaves = leaves_join disk chain.by_moves (leaves_wider disk (moved_leaves start chain.mid jobs chain.moves room) leaves)
 
 -- a moveout with another bound of the containers
 drawn_with : (o : Option Shape) (old new : State) (parts : ℕ) → parts ≤ old.parts + 2 → MovesFirst o old new → MovesFirst o old (record new { parts = parts })
@@ -187,6 +202,7 @@ chain_goes_on {D} disk {old} {now} {new} start jobs was is spent chain spent_is 
       most = omega arith;
       still = still_moved start mid.database made.database at chain.still;
       any_moment = all_leave disk start jobs was chain first.any_moment;
+      by_moves = all_moved disk start jobs was chain (spent_same disk was now mid spent chain.here spent_is ∙ room) first.any_moment;
     }
   where
     least_two : (a b : ℕ) → a ≤ b → a + 1 ≤ b + 2
@@ -261,7 +277,7 @@ something_left d s some = by (behind d) some
 pub chain_spent : {D : Type 0} (disk : Ghosts D) {old now : D} (start : State) (jobs : ℕ) (r : Running) (spent some : Bool) → jobs < 16384 → Chained disk start jobs r old now → spent ≡ nat_le 1152921504606846976 r.seen.catalogue.next → spent ≡ true
     → some ≡ is_some (first_in (behind_in r.seen.catalogue.last (all_projections r.seen.catalogue.tables))) → MovesAllOf disk r old now (answered some) start
 chain_spent {D} disk {old} {now} start jobs r spent some below chain spent_is all_spent some_is =
-    record { done = (mid, stops some (first_behind mid.database) refl (some_is ∙ ap is_some (sym (first_here disk r now mid chain.here))), chain.here); undone = λ wants. absurd (cc); unblamed = tt; any_moment = chain.any_moment }
+    record { done = (mid, stops some (first_behind mid.database) refl (some_is ∙ ap is_some (sym (first_here disk r now mid chain.here))), chain.here); undone = λ wants. absurd (cc); unblamed = tt; any_moment = chain.any_moment; by_moves = chain.by_moves }
   where
     mid : State
     mid = chain.mid
@@ -283,9 +299,9 @@ chain_spent {D} disk {old} {now} start jobs r spent some below chain spent_is al
     stops false (Some s) is there = absurd (cc)
 
 -- nothing was behind
-pub chain_over : {D : Type 0} (disk : Ghosts D) {old now new : D} (start : State) (jobs : ℕ) (was is : Running) → jobs < 16384 → Chained disk start jobs was old now
+pub chain_over : {D : Type 0} (disk : Ghosts D) {old now new : D} (start : State) (jobs : ℕ) (was is : Running) (spent : Bool) → jobs < 16384 → Chained disk start jobs was old now → spent ≡ nat_le 1152921504606846976 was.seen.catalogue.next → spent ≡ false
     → ((state : State) → IsState disk was now state → MovesFirstOf disk fault.Memory was is now new none_ok state) → MovesAllOf disk is old new none_ok start
-chain_over {D} disk {old} {now} {new} start jobs was is below chain does =
+chain_over {D} disk {old} {now} {new} start jobs was is spent below chain spent_is room does =
     let first = does chain.mid chain.here in
     let (none, same) = first.done.1 in
     record {
@@ -293,6 +309,7 @@ chain_over {D} disk {old} {now} {new} start jobs was is below chain does =
       undone = λ wants. absurd (cc);
       unblamed = tt;
       any_moment = all_leave disk start jobs was chain first.any_moment;
+      by_moves = all_moved disk start jobs was chain (spent_same disk was now chain.mid spent chain.here spent_is ∙ room) first.any_moment;
     }
 
 -- as many were moved out as there may be
@@ -302,19 +319,20 @@ chain_full disk start r first here fit jobs all chain =
     let most = behind_most c.last (all_projections c.tables) in
     let are = ap length (behind_are here.database.files c first.seen.stores start.database here.database.are) in
     let none : length (behind chain.mid.database) ≡ 0 = none_over (length (behind chain.mid.database)) (length (behind start.database)) (length (behind_in c.last (all_projections c.tables))) (length (all_projections c.tables)) (subst (λ (n : ℕ). length (behind chain.mid.database) + n ≡ length (behind start.database)) all chain.left) are most fit in
-    record { done = (chain.mid, chain_done disk start jobs r (omega (arith, all)) chain none, chain.here); undone = λ wants. absurd (cc); unblamed = tt; any_moment = chain.any_moment }
+    record { done = (chain.mid, chain_done disk start jobs r (omega (arith, all)) chain none, chain.here); undone = λ wants. absurd (cc); unblamed = tt; any_moment = chain.any_moment; by_moves = chain.by_moves }
   where
     none_over : (a b c d : ℕ) → a + 16384 ≡ b → b ≡ c → c ≤ d → d ≤ 16384 → a ≡ 0
     none_over a b c d left is some fits = omega (arith, left, is, some, fits)
 
 -- a moveout failed
-pub chain_fails : {D : Type 0} (disk : Ghosts D) {old now new : D} (start : State) (jobs : ℕ) (was is : Running) (f : StoreFault) → Chained disk start jobs was old now
+pub chain_fails : {D : Type 0} (disk : Ghosts D) {old now new : D} (start : State) (jobs : ℕ) (was is : Running) (spent : Bool) (f : StoreFault) → Chained disk start jobs was old now → spent ≡ nat_le 1152921504606846976 was.seen.catalogue.next → spent ≡ false
     → ((state : State) → IsState disk was now state → MovesFirstOf disk fault.Memory was is now new (failed f) state) → ((state : State) → IsState disk was now state → IsUnblamed f) → is ≡ was → MovesAllOf disk is old new (failed f) start
-chain_fails disk {old} {now} {new} start jobs was is f chain does unblamed same =
+chain_fails disk {old} {now} {new} start jobs was is spent f chain spent_is room does unblamed same =
     let first = does chain.mid chain.here in
     record {
       done = tt;
       undone = λ wants. (chain.mid, inr (jobs, false, chain.moves), subst (λ (r : Running). IsState disk r new chain.mid) (sym same) (first.undone wants));
       unblamed = unblamed chain.mid chain.here;
       any_moment = all_leave disk start jobs was chain first.any_moment;
+      by_moves = all_moved disk start jobs was chain (spent_same disk was now chain.mid spent chain.here spent_is ∙ room) first.any_moment;
     }

@@ -17,12 +17,12 @@ returns-then-are_spent-clause-moves g c = λ state here.
 
 pub returns-in-Ok-false-clause-moves : goal.returns-in-Ok-false-clause-moves
 returns-in-Ok-false-clause-moves g c = λ state here.
-    chain_over g.D.Disk state c.loop.counter c.loop.self c.move_first.new.self c.loop-test.true (c.loop.invariant.chain state here)
+    chain_over g.D.Disk state c.loop.counter c.loop.self c.move_first.new.self c.are_spent.result c.loop-test.true (c.loop.invariant.chain state here) c.are_spent.ensures c.if-are_spent.false
     (λ mid there. subst (λ (b : Bool). MovesFirstOf g.D.Disk Memory c.loop.self c.move_first.new.self c.loop.disk c.move_first.new.disk (answered b) mid) c.in-Ok-false.field-0-test (c.in-Ok-false.ensures.does mid there))
 
 pub returns-in-Err-clause-moves : goal.returns-in-Err-clause-moves
 returns-in-Err-clause-moves g c = λ state here.
-    chain_fails g.D.Disk state c.loop.counter c.loop.self c.move_first.new.self c.in-Err.fault (c.loop.invariant.chain state here) c.in-Err.ensures.does c.in-Err.ensures.unblamed c.in-Err.ensures.same
+    chain_fails g.D.Disk state c.loop.counter c.loop.self c.move_first.new.self c.are_spent.result c.in-Err.fault (c.loop.invariant.chain state here) c.are_spent.ensures c.if-are_spent.false c.in-Err.ensures.does c.in-Err.ensures.unblamed c.in-Err.ensures.same
 
 pub loop-preserved : goal.loop-preserved
 loop-preserved g c = record {
