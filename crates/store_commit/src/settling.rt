@@ -1,6 +1,6 @@
 //! A catalogue committed, and what it doesn't list removed.
 
-ghost use Rattle.std.specs.Prelude.{◌≡◌, ◌≤◌, List, OnOk, IsErrOf};
+ghost use Rattle.std.specs.Prelude.{◌≡◌, ◌≤◌, ◌<◌, List, IsErrOf};
 ghost use Rattle.common_laws.specs.Causes.{HasCause};
 ghost use Rattle.common_laws.specs.Maps.{Contents};
 ghost use Rattle.col_disk.specs.Moved.{Moved, NoName, ImageOf};
@@ -41,24 +41,19 @@ pub fn tidy<D: Disk>(
 }
 
 /// Makes the catalogue the one that the disk opens to, and removes what it doesn't list. Its version is a number that the store hasn't
-/// drawn before. A catalogue that couldn't be opened again is answered as want of memory: no store makes one.
+/// drawn before.
 pub fn settle<D: Disk>(
     alloc: Global,
     disk: &mut D,
     version: u64,
     catalogue: &Catalogue,
 ) -> Result<(), DiskFault>
-    ensures valid { OnOk result (IsValid catalogue.now) }
+    requires valid { IsValid catalogue.now }
+    requires drawn { version < catalogue.now.next }
     ensures made { (was : Seen) (stores : List (List Projected)) (d e : Database) → (stands : Stands ⟦<D as Disk>⟧ was disk.old d) → was.catalogue.next ≤ version → AreDatabase stands.files catalogue.now stores e → IsSoundDatabase e → Makes ⟦<D as Disk>⟧ Memory was (seen catalogue.now stores) disk.old disk.new result d e }
     ensures replaces { (was : Found) (m : Contents) → IsLater was version → Quiet (D.holds disk.old) (ImageOf ⟦<D as Disk>⟧ disk.old) was m → Replaces ⟦<D as Disk>⟧ m was version catalogue.now disk.old disk.new result }
     ensures cause { HasCause DiskFault.Failed (D.faults disk.old) (D.faults disk.new) result }
 {
-    if !catalogue.valid() {
-        return Err(DiskFault::Memory);
-    }
-    if version >= catalogue.next {
-        return Err(DiskFault::Memory);
-    }
     match commit(alloc, disk, version, catalogue) {
         Ok(()) => tidy(alloc, disk, version, catalogue),
         Err(fault) => Err(fault),

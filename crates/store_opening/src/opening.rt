@@ -139,9 +139,10 @@ fn load_root<D: Disk>(
     load_tables(alloc, disk, root.tables.as_slice())
 }
 
-/// The catalogue cut, with its version as the last number that was drawn.
+/// The catalogue cut, with its version as the last number that was drawn. One that couldn't be opened again is answered as want of memory.
 fn cut_root<D: Disk>(alloc: Global, c: &Catalogue, disk: &mut D) -> Result<Catalogue, StoreFault>
     requires { IsValid c.now }
+    ensures valid { IfOk result (λ r. IsValid r) }
     ensures cut { IfOk result (λ r. Between (CutsCatalogue c.now r) (D.holds disk.old) (D.holds disk.new)) }
     ensures next { IfOk result (λ r. c.now.next < r.next) }
     ensures few { IfOk result (λ r. r.next ≤ c.now.next + store_count c.now + 1) }
@@ -151,10 +152,16 @@ fn cut_root<D: Disk>(alloc: Global, c: &Catalogue, disk: &mut D) -> Result<Catal
     ensures cause { HasCause StoreFault.Disk (D.faults disk.old) (D.faults disk.new) result }
 {
     match cut_catalogue(alloc, c, disk) {
-        Ok(done) => Ok(Catalogue {
-            next: done.next.saturating_add(1),
-            ..done
-        }),
+        Ok(done) => {
+            let root = Catalogue {
+                next: done.next.saturating_add(1),
+                ..done
+            };
+            if !root.valid() {
+                return Err(StoreFault::Memory);
+            }
+            Ok(root)
+        }
         Err(fault) => Err(fault),
     }
 }

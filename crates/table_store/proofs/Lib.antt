@@ -16,3 +16,4 @@ pub mod Shaped
 pub mod Unshaped
 pub mod Unblamed
 pub mod Wider
+pub mod Nexts

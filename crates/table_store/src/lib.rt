@@ -12,6 +12,7 @@ mod creating;
 mod dropping;
 mod marking;
 mod moving;
+mod next;
 mod part;
 mod parts;
 mod shaping;

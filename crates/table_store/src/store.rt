@@ -23,10 +23,9 @@ ghost use Rattle.table_store.specs.Moving.{IsFreshAt, IsRewritten};
 ghost use Rattle.table_store.specs.Creating.{bare, created, dropped, first_entry, first_table, place_of, with_table};
 
 use crate::committing::{apply_all, prepare_all};
-use crate::creating::{first_entry, first_table, place_for, projection_name, with_table};
-use crate::dropping::without_table;
-use crate::marking::with_mark;
-use crate::moving::{entry_copy, with_entry_at};
+use crate::creating::{first_entry, first_table, place_for, projection_name};
+use crate::moving::entry_copy;
+use crate::next::{with_entry_at, with_mark, with_table, without_table};
 use crate::parts::Parts;
 use catalog_types::Catalogue;
 use col_disk::{Disk, DiskFault, StoreFault};
@@ -83,10 +82,11 @@ fn prepare_table(
     name: Name,
     columns: List<Column>,
 ) -> Result<Ready, AllocError>
-    requires next { root.now.next < 2 ^ 62 }
+    requires { IsValid root.now }
     ensures place { IfOk result (λ r. r.place ≡ place_of name (map (λ t. t.name) root.now.tables)) }
     ensures within { IfOk result (λ r. r.place ≤ length root.now.tables) }
     ensures catalogue { IfOk result (λ r. r.catalogue ≡ with_table last r.place (first_table name columns last) root.now) }
+    ensures valid { IfOk result (λ r. IsValid r.catalogue) }
     ensures parts { IfOk result (λ r. projections_of r.parts ≡ bare (first_entry (super_name name) columns last) ∷ []) }
 {
     let place = place_for(root.tables.as_slice(), &name);
@@ -136,6 +136,8 @@ fn prepare_move<D: Disk>(
     requires held { IsHeld root.now tables.now }
     requires fresh { IsFreshAt (map projections_of tables.now) table place }
     ensures moved_out { IfOk result (λ r. IsRewritten last root.now (map projections_of tables.now) table place r.version r.catalogue r.store.stored (D.holds disk.old) (D.holds disk.new)) }
+    ensures valid { IfOk result (λ r. IsValid r.catalogue) }
+    ensures version { IfOk result (λ r. r.version < r.catalogue.next) }
     ensures drawn { IfOk result (λ r. Draws root.now r.catalogue) }
     ensures job { IfOk result (λ r. DrawsJob table place (at_epoch last root.now) r.catalogue) }
     ensures unblamed { IfErr result (λ fault. (m n : Contents) → D.holds disk.old ≡ Some m → D.holds disk.new ≡ Some n → All (All (IsReadable m)) (map projections_of tables.now) → IsUnblamed fault) }

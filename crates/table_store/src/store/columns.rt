@@ -11,7 +11,7 @@ ghost use Rattle.table_store.specs.Drawing.{DrawsOne};
 ghost use Rattle.table_store.specs.Widening.{widened_at};
 
 use super::TableStore;
-use crate::widening::with_column_at;
+use crate::next::with_column_at;
 use col_disk::{Disk, DiskFault};
 use col_value::{Column, Value};
 use std::alloc::{AllocError, Global};

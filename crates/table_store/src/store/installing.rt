@@ -19,7 +19,8 @@ ghost use Rattle.table_store.specs.Installing.{HoldsTable, IsRenewalAt};
 ghost use Rattle.table_store.specs.Moving.{with_entry_at};
 
 use super::{MOST_NUMBERS, TableStore};
-use crate::moving::{entry_copy, with_entry_at};
+use crate::moving::entry_copy;
+use crate::next::with_entry_at;
 use catalog_types::Projection;
 use col_disk::{Disk, StoreFault};
 use proj_store::ProjStore;

@@ -1,7 +1,8 @@
 //! Projections that come and go.
 
-ghost use Rattle.std.specs.Prelude.{◌≡◌, ◌≤◌, ◌<◌, ◌^◌, true, map, length, IfOk, OnOk, OnErr, IsSomeAnd};
+ghost use Rattle.std.specs.Prelude.{◌≡◌, ◌≤◌, ◌<◌, true, map, length, IfOk, OnOk, OnErr, IsSomeAnd};
 ghost use Rattle.std.specs.List.{All, slice_get};
+ghost use Rattle.catalog_types.specs.Valid.{IsValid};
 ghost use Rattle.common_laws.specs.Causes.{HasCause};
 ghost use Rattle.col_disk.specs.declared.disk.DiskFault.TheVariants.{Memory};
 ghost use Rattle.db_model.specs.Database.{Database};
@@ -14,9 +15,8 @@ ghost use Rattle.table_store.specs.Shaping.{RetainsNone, new_entry, new_shape, s
 
 use super::TableStore;
 use crate::moving::entry_copy;
-use crate::shaping::{
-    NewProjection, new_entry, place_among, with_projection_at, without_projection_at,
-};
+use crate::next::{with_projection_at, without_projection_at};
+use crate::shaping::{NewProjection, new_entry, place_among};
 use catalog_types::Catalogue;
 use col_disk::{Disk, DiskFault};
 use proj_store::ProjStore;
@@ -39,10 +39,11 @@ fn prepare_projection(
     projection: NewProjection,
 ) -> Result<NewPart, AllocError>
     requires table { table < length root.now.tables }
-    requires next { root.now.next < 2 ^ 62 }
+    requires valid { IsValid root.now }
     requires sort { All (λ i. i < length projection.columns) projection.sort }
     ensures place { IfOk result (λ r. IsSomeAnd (slice_get root.now.tables table) (λ t. (r.place ≡ place_of projection.name (map (λ p. p.name) t.projections)) × (r.place ≤ length t.projections))) }
     ensures catalogue { IfOk result (λ r. r.catalogue ≡ with_projection_at last table r.place (new_entry projection last) root.now) }
+    ensures valid { IfOk result (λ r. IsValid r.catalogue) }
     ensures store { IfOk result (λ r. r.store.stored ≡ bare (new_entry projection last)) }
 {
     let projections = root.tables.as_slice()[table].projections.as_slice();

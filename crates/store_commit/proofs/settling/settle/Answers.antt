@@ -1,27 +1,11 @@
-use Rattle.std.proofs.Common.{◌<◌, arith, rules}
-use Rattle.col_disk.specs.declared.disk.DiskFault.TheVariants.{Memory}
-use Rattle.store_commit.specs.Seen.{seen}
-use Rattle.store_commit.proofs.Settled.{ready, made_nothing, made_not, made_then}
-use Rattle.store_commit.proofs.Replaced.{rooted, replaced_nothing, replaced_not, replaced_then}
+use Rattle.store_commit.proofs.Settled.{ready, made_not, made_then}
+use Rattle.store_commit.proofs.Replaced.{rooted, replaced_not, replaced_then}
 use Rattle.store_commit.proofs.settling.settle.Goals as goal
-
-pub returns-then-not-valid-clause-made : goal.returns-then-not-valid-clause-made
-returns-then-not-valid-clause-made g c = λ was stores d e stands drawn are sound. made_nothing g.D.Disk was (seen c.args.catalogue.now stores) Memory d e stands
-
-pub returns-then-not-valid-clause-replaces : goal.returns-then-not-valid-clause-replaces
-returns-then-not-valid-clause-replaces g c = λ was m later quiet. replaced_nothing g.D.Disk m was c.args.version c.args.catalogue.now Memory quiet
-
-pub returns-then-version-catalogue-clause-made : goal.returns-then-version-catalogue-clause-made
-returns-then-version-catalogue-clause-made g c = λ was stores d e stands drawn are sound. made_nothing g.D.Disk was (seen c.args.catalogue.now stores) Memory d e stands
-
-pub returns-then-version-catalogue-clause-replaces : goal.returns-then-version-catalogue-clause-replaces
-returns-then-version-catalogue-clause-replaces g c = λ was m later quiet. replaced_nothing g.D.Disk m was c.args.version c.args.catalogue.now Memory quiet
 
 pub returns-in-Ok-clause-made : goal.returns-in-Ok-clause-made
 returns-in-Ok-clause-made g c = λ was stores d e stands drawn are sound.
-    let below : c.args.version < c.args.catalogue.now.next = search rules in
     let is_rooted = ready g.D.Disk was d c.args.version stands drawn in
-    made_then g.D.Disk was c.args.version c.args.catalogue.now stores c.tidy.result d e stands are sound below (c.commit.ensures.any_moment stands.root stands.files is_rooted)
+    made_then g.D.Disk was c.args.version c.args.catalogue.now stores c.tidy.result d e stands are sound c.requires.drawn (c.commit.ensures.any_moment stands.root stands.files is_rooted)
     (c.in-Ok.ensures.replaced stands.root stands.files is_rooted) c.tidy.ensures.failed c.tidy.ensures.moved
 
 pub returns-in-Ok-clause-replaces : goal.returns-in-Ok-clause-replaces
@@ -31,9 +15,8 @@ returns-in-Ok-clause-replaces g c = λ was m later quiet.
 
 pub returns-in-Err-clause-made : goal.returns-in-Err-clause-made
 returns-in-Err-clause-made g c = λ was stores d e stands drawn are sound.
-    let below : c.args.version < c.args.catalogue.now.next = search rules in
     let is_rooted = ready g.D.Disk was d c.args.version stands drawn in
-    made_not g.D.Disk was c.args.version c.args.catalogue.now stores c.in-Err.fault d e stands are sound below (c.commit.ensures.any_moment stands.root stands.files is_rooted)
+    made_not g.D.Disk was c.args.version c.args.catalogue.now stores c.in-Err.fault d e stands are sound c.requires.drawn (c.commit.ensures.any_moment stands.root stands.files is_rooted)
     (c.in-Err.ensures.memory stands.root stands.files is_rooted) c.commit.ensures.moved
 
 pub returns-in-Err-clause-replaces : goal.returns-in-Err-clause-replaces

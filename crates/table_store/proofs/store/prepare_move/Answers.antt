@@ -1,4 +1,5 @@
-use Rattle.std.proofs.Common.{◌≡◌, List, map, get_or, sym, ◌∙◌, ap, subst}
+use Rattle.std.proofs.Common.{◌≡◌, List, map, get_or, sym, ◌∙◌, ap, subst, arith}
+use Rattle.catalog_types.specs.declared.catalogue.Catalogue.{Catalogue}
 use Rattle.catalog_types.specs.declared.catalogue.Projection.{Projection}
 use Rattle.col_disk.proofs.Moving.{moved_join, moved_read}
 use Rattle.proj_store.specs.Loaded.{Loaded}
@@ -26,7 +27,7 @@ returns-in-Ok-with_entry_at-clause-moved_out g c =
     rewritten c.args.last c.args.root.now c.in-Ok-with_entry_at.catalogue tables i j c.in-Ok.out.next ps p c.in-Ok-load.store.stored c.in-Ok.out.entry c.in-Ok-entry_copy.copy
     (g.D.Disk.holds c.args.disk.now) (g.D.Disk.holds c.moveout.new.disk) (g.D.Disk.holds c.load.new.disk)
     (fresh_table tables i j c.requires.fresh) c.index-tables-table.is (fresh_place tables i j ps c.index-tables-table.is c.requires.fresh) p_is
-    c.in-Ok.ensures.entry c.in-Ok.ensures.held c.in-Ok-entry_copy.ensures c.in-Ok-load.ensures.entry c.in-Ok-load.ensures.loaded c.load.ensures.looks.contents c.in-Ok-with_entry_at.ensures
+    c.in-Ok.ensures.entry c.in-Ok.ensures.held c.in-Ok-entry_copy.ensures c.in-Ok-load.ensures.entry c.in-Ok-load.ensures.loaded c.load.ensures.looks.contents c.in-Ok-with_entry_at.ensures.catalogue
 
 pub returns-in-Ok-with_entry_at-clause-moved : goal.returns-in-Ok-with_entry_at-clause-moved
 returns-in-Ok-with_entry_at-clause-moved g c = moved_join g.D.Disk c.moveout.ensures.moved (moved_read g.D.Disk c.load.ensures.looks)
@@ -44,7 +45,7 @@ returns-in-Ok-with_entry_at-clause-drawn g c =
     let p_is : p ≡ get_or ps j p = c.index-as_slice-place.is ∙ ap (λ (qs : List Loaded). get_or qs j p) c.as_slice.ensures in
     move_draws c.args.root.now c.in-Ok-with_entry_at.catalogue tables c.args.last c.in-Ok.out.next i j ps p c.in-Ok.out.entry c.requires.held
     (fresh_table tables i j c.requires.fresh) c.index-tables-table.is (fresh_place tables i j ps c.index-tables-table.is c.requires.fresh) p_is
-    (drawn_later c.args.last c.args.root.now.next c.in-Ok.out.next p.stored.entry c.in-Ok.out.entry c.in-Ok.ensures.entry) c.in-Ok.ensures.upto c.in-Ok.ensures.count c.in-Ok-with_entry_at.ensures
+    (drawn_later c.args.last c.args.root.now.next c.in-Ok.out.next p.stored.entry c.in-Ok.out.entry c.in-Ok.ensures.entry) c.in-Ok.ensures.upto c.in-Ok.ensures.count c.in-Ok-with_entry_at.ensures.catalogue
 
 pub returns-in-Ok-with_entry_at-clause-job : goal.returns-in-Ok-with_entry_at-clause-job
 returns-in-Ok-with_entry_at-clause-job g c =
@@ -57,7 +58,7 @@ returns-in-Ok-with_entry_at-clause-job g c =
     move_job c.args.root.now c.in-Ok-with_entry_at.catalogue tables c.args.last c.in-Ok.out.next i j ps p c.in-Ok.out.entry c.requires.held
     (fresh_table tables i j c.requires.fresh) c.index-tables-table.is (fresh_place tables i j ps c.index-tables-table.is c.requires.fresh) p_is
     (drawn_later c.args.last c.args.root.now.next c.in-Ok.out.next p.stored.entry c.in-Ok.out.entry c.in-Ok.ensures.entry) c.in-Ok.ensures.upto c.in-Ok.ensures.count
-    (ap (λ (e : Projection). e.lge) c.in-Ok.ensures.entry.is) c.in-Ok-with_entry_at.ensures
+    (ap (λ (e : Projection). e.lge) c.in-Ok.ensures.entry.is) c.in-Ok-with_entry_at.ensures.catalogue
 
 pub returns-in-Err-clause-unblamed : goal.returns-in-Err-clause-unblamed
 returns-in-Err-clause-unblamed g c = λ m n was now all. subst IsUnblamed (sym c.from.ensures) (of_disk c.in-Err.fault)
@@ -71,3 +72,6 @@ returns-in-Err-load-clause-unblamed g c = λ m n was now all.
     let p_is : p ≡ get_or ps j p = c.index-as_slice-place.is ∙ ap (λ (qs : List Loaded). get_or qs j p) c.as_slice.ensures in
     moved_unblamed m n c.args.root.now tables c.args.table j ps p c.in-Ok.out.entry c.in-Ok-entry_copy.copy (g.D.Disk.holds c.args.disk.now) (g.D.Disk.holds c.moveout.new.disk) (g.D.Disk.holds c.load.new.disk) c.in-Err-load.fault
     c.requires.held c.requires.fresh c.index-tables-table.is p_is c.in-Ok.ensures.held c.in-Ok-entry_copy.ensures c.in-Err-load.ensures.blamed c.load.ensures.looks.contents was now all
+
+pub returns-in-Ok-with_entry_at-clause-version : goal.returns-in-Ok-with_entry_at-clause-version
+returns-in-Ok-with_entry_at-clause-version g c = omega (arith, ap (λ (k : Catalogue). k.next) c.in-Ok-with_entry_at.ensures.catalogue)

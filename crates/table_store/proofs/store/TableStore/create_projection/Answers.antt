@@ -11,6 +11,7 @@ use Rattle.table_store.specs.Shaping.{new_shape, shaped_at}
 use Rattle.table_store.proofs.Drawn.{one_drawn}
 use Rattle.table_store.proofs.Makes.{settled_not, settled_done}
 use Rattle.table_store.proofs.Shaped.{place_there, put_back, put_there, shape_draws, shape_held, shape_makes, shape_seen, table_there}
+use Rattle.catalog_types.specs.declared.catalogue.Catalogue.{Catalogue}
 use Rattle.table_store.proofs.store.TableStore.create_projection.Goals as goal
 
 pub returns-in-Err-clause-made : goal.returns-in-Err-clause-made
@@ -79,7 +80,7 @@ invariant_of-self-2 g c =
     let items = c.self.inside.tables.items in
     let lt = table_there c.self.inside.root c.self.inside.last items c.args.self.now c.args.table c.self.view_is c.self.invariant c.requires.table in
     shape_held c.self.inside.root c.self.inside.last items (set items c.args.table c.insert.new.self) c.args.projection c.args.table c.in-Ok.ready.place c.in-Ok.ready.catalogue c.index_mut.result.now c.in-Ok.ready.store
-    lt c.index_mut.ensures.value (ap (set items c.args.table) c.in-Ok-insert.ensures.put) c.in-Ok.ensures.store c.in-Ok.ensures.catalogue c.self.invariant c.in-Ok-settle.ensures.valid
+    lt c.index_mut.ensures.value (ap (set items c.args.table) c.in-Ok-insert.ensures.put) c.in-Ok.ensures.store c.in-Ok.ensures.catalogue c.self.invariant c.in-Ok.ensures.valid
 
 pub returns-clause-made : goal.returns-clause-made
 returns-clause-made g c = λ d stands none sound.
@@ -98,3 +99,6 @@ returns-clause-drawn g c =
     let catalogue = c.in-Ok.ready.catalogue in
     subst (λ (s : Seen). DrawsOne s.catalogue (at_epoch last catalogue)) c.self.view_is
     (one_drawn root catalogue last last (shape_draws root catalogue last c.args.table c.in-Ok.ready.place c.args.projection c.in-Ok.ensures.catalogue))
+
+pub settle-requires-clause-drawn : goal.settle-requires-clause-drawn
+settle-requires-clause-drawn g c = omega (arith, ap (λ (k : Catalogue). k.next) c.in-Ok.ensures.catalogue)

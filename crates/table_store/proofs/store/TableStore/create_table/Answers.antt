@@ -10,6 +10,7 @@ use Rattle.table_store.proofs.Drawn.{create_draws, one_drawn}
 use Rattle.table_store.specs.Creating.{created}
 use Rattle.table_store.proofs.Standing.{held_still}
 use Rattle.table_store.proofs.Makes.{settled_not, settled_done, create_makes, create_seen, create_held}
+use Rattle.catalog_types.specs.declared.catalogue.Catalogue.{Catalogue}
 use Rattle.table_store.proofs.store.TableStore.create_table.Goals as goal
 
 pub returns-in-Err-clause-made : goal.returns-in-Err-clause-made
@@ -31,7 +32,7 @@ pub invariant_of-self-2 : goal.invariant_of-self-2
 invariant_of-self-2 g c =
     create_held c.self.inside.root c.self.inside.last c.reserve.new.self.items c.put_parts.new.tables.items c.args.name c.args.columns c.in-Ok.ready.place c.in-Ok.ready.catalogue c.in-Ok.ready.parts
     c.put_parts.ensures c.in-Ok.ensures.parts c.in-Ok.ensures.catalogue
-    (held_still c.self.inside.root c.self.inside.tables.items c.reserve.new.self.items (ap (map projections_of) c.reserve.ensures.items) c.self.invariant) c.in-Ok-settle.ensures.valid
+    (held_still c.self.inside.root c.self.inside.tables.items c.reserve.new.self.items (ap (map projections_of) c.reserve.ensures.items) c.self.invariant) c.in-Ok.ensures.valid
 
 pub returns-clause-made : goal.returns-clause-made
 returns-clause-made g c = λ d stands sound.
@@ -48,3 +49,6 @@ returns-clause-drawn g c =
     let catalogue = c.in-Ok.ready.catalogue in
     subst (λ (s : Seen). DrawsOne s.catalogue (at_epoch last catalogue)) c.self.view_is
     (one_drawn root catalogue last last (create_draws root catalogue last c.in-Ok.ready.place c.args.name c.args.columns c.in-Ok.ensures.catalogue))
+
+pub settle-requires-clause-drawn : goal.settle-requires-clause-drawn
+settle-requires-clause-drawn g c = omega (arith, ap (λ (k : Catalogue). k.next) c.in-Ok.ensures.catalogue)

@@ -1,4 +1,4 @@
-use Rattle.std.proofs.Common.{subst}
+use Rattle.std.proofs.Common.{subst, ap, arith}
 use Rattle.col_disk.specs.declared.disk.DiskFault.TheVariants as disk_fault
 use Rattle.store_commit.specs.Seen.{Seen}
 use Rattle.table_store.specs.Drawing.{DrawsOne}
@@ -7,6 +7,7 @@ use Rattle.table_store.proofs.Drawn.{drop_draws, one_drawn}
 use Rattle.store_commit.proofs.Settled.{made_nothing}
 use Rattle.table_store.specs.Creating.{dropped}
 use Rattle.table_store.proofs.Makes.{settled_not, settled_done, drop_makes, drop_seen, drop_held}
+use Rattle.catalog_types.specs.declared.catalogue.Catalogue.{Catalogue}
 use Rattle.table_store.proofs.store.TableStore.drop_table.Goals as goal
 
 pub returns-in-Err-clause-made : goal.returns-in-Err-clause-made
@@ -16,22 +17,25 @@ pub returns-in-Err-settle-clause-made : goal.returns-in-Err-settle-clause-made
 returns-in-Err-settle-clause-made g c = λ d name stands there.
     settled_not g.D.Disk c.args.self.now _ _ c.in-Err-settle.fault d (dropped name d)
     (drop_makes g.D.Disk c.self.inside.root c.self.inside.last c.self.inside.tables.items c.args.self.now name c.args.table c.in-Ok.catalogue _ d c.in-Err-settle.ensures.made
-    c.self.view_is c.in-Ok.ensures there stands)
+    c.self.view_is c.in-Ok.ensures.catalogue there stands)
 
 pub invariant_of-self : goal.invariant_of-self
 invariant_of-self g c =
-    drop_held c.self.inside.root c.self.inside.last c.self.inside.tables.items c.remove.new.self.items c.args.table c.in-Ok.catalogue c.remove.ensures.items c.in-Ok.ensures c.self.invariant c.in-Ok-settle.ensures.valid
+    drop_held c.self.inside.root c.self.inside.last c.self.inside.tables.items c.remove.new.self.items c.args.table c.in-Ok.catalogue c.remove.ensures.items c.in-Ok.ensures.catalogue c.self.invariant c.in-Ok.ensures.valid
 
 pub returns-clause-made : goal.returns-clause-made
 returns-clause-made g c = λ d name stands there.
     settled_done g.D.Disk c.args.self.now _ _ d (dropped name d)
-    (drop_seen c.self.inside.root c.self.inside.last c.self.inside.tables.items c.remove.new.self.items c.args.table c.in-Ok.catalogue c.remove.ensures.items c.in-Ok.ensures)
+    (drop_seen c.self.inside.root c.self.inside.last c.self.inside.tables.items c.remove.new.self.items c.args.table c.in-Ok.catalogue c.remove.ensures.items c.in-Ok.ensures.catalogue)
     (drop_makes g.D.Disk c.self.inside.root c.self.inside.last c.self.inside.tables.items c.args.self.now name c.args.table c.in-Ok.catalogue _ d c.in-Ok-settle.ensures.made
-    c.self.view_is c.in-Ok.ensures there stands)
+    c.self.view_is c.in-Ok.ensures.catalogue there stands)
 
 pub returns-clause-drawn : goal.returns-clause-drawn
 returns-clause-drawn g c =
     let root = c.self.inside.root in
     let last = c.self.inside.last in
     let catalogue = c.in-Ok.catalogue in
-    subst (λ (s : Seen). DrawsOne s.catalogue (at_epoch last catalogue)) c.self.view_is (one_drawn root catalogue last last (drop_draws root catalogue last c.args.table c.in-Ok.ensures))
+    subst (λ (s : Seen). DrawsOne s.catalogue (at_epoch last catalogue)) c.self.view_is (one_drawn root catalogue last last (drop_draws root catalogue last c.args.table c.in-Ok.ensures.catalogue))
+
+pub settle-requires-clause-drawn : goal.settle-requires-clause-drawn
+settle-requires-clause-drawn g c = omega (arith, ap (λ (k : Catalogue). k.next) c.in-Ok.ensures.catalogue)

@@ -1,4 +1,4 @@
-use Rattle.std.proofs.Common.{◌≡◌, ◌≤◌, ◌<◌, List, map, length, set, refl, rules, sym, ◌∙◌, ap, subst}
+use Rattle.std.proofs.Common.{◌≡◌, ◌≤◌, ◌<◌, List, map, length, set, refl, rules, sym, ◌∙◌, ap, subst, arith}
 use Rattle.std.specs.Prelude.{Err}
 use Rattle.col_disk.specs.Faults.{IsUnblamed}
 use Rattle.col_disk.specs.declared.disk.StoreFault.{StoreFault}
@@ -14,6 +14,7 @@ use Rattle.table_store.specs.Moving.{with_entry_at}
 use Rattle.table_store.proofs.Installed.{install_made, nothing_done, read_only, renewed_there, renewed_table, renewed_place}
 use Rattle.table_store.proofs.Makes.{move_held, move_seen, store_done, store_makes}
 use Rattle.table_store.proofs.Unblamed.{load_unblamed, of_disk}
+use Rattle.catalog_types.specs.declared.catalogue.Catalogue.{Catalogue}
 use Rattle.table_store.proofs.store.TableStore.install.Goals as goal
 
 pub returns-then-next-ge-MOST_NUMBERS-clause-made : goal.returns-then-next-ge-MOST_NUMBERS-clause-made
@@ -46,7 +47,7 @@ returns-in-Err-settle-clause-made g c = λ d stands holds.
     subst (λ (f : StoreFault). Makes g.D.Disk fault.Memory c.args.self.now c.args.self.now c.args.disk.now c.settle.new.disk (Err f) d (reached_at c.args.entry.lge i j d)) (sym c.from.ensures)
     (store_makes g.D.Disk c.args.self.now _ c.args.self.now c.in-Err-settle.fault d (reached_at c.args.entry.lge i j d)
     (install_made c.what_is_read_is_stored.ensures.stored g.D.Disk c.self.inside.root c.in-Ok-with_entry_at.catalogue c.self.inside.last (map projections_of items) c.args.self.now i j c.args.next c.in-Ok.store.stored c.args.entry _ d
-    c.in-Err-settle.ensures.made c.self.view_is own c.in-Ok.ensures.entry c.in-Ok.ensures.loaded c.read_again.ensures.looks c.in-Ok-with_entry_at.ensures
+    c.in-Err-settle.ensures.made c.self.view_is own c.in-Ok.ensures.entry c.in-Ok.ensures.loaded c.read_again.ensures.looks c.in-Ok-with_entry_at.ensures.catalogue
     (subst (λ (s : Seen). s.catalogue.next ≤ c.args.next) (sym c.self.view_is) c.requires.drawn) (subst (λ (s : Seen). s.catalogue.ahm ≤ c.args.entry.lge) (sym c.self.view_is) c.requires.reached)
     (subst (λ (s : Seen). c.args.entry.lge ≤ s.catalogue.last) (sym c.self.view_is) c.requires.closed) stands holds))
 
@@ -71,7 +72,7 @@ invariant_of-self g c =
     let own : IsRenewalAt (map projections_of items) i j c.args.entry = subst (λ (s : Seen). IsRenewalAt s.stores i j c.args.entry) (sym c.self.view_is) c.requires.there in
     move_held c.self.inside.root c.in-Ok-with_entry_at.catalogue c.self.inside.last c.args.next i j items (set items i c.replace.new.self) c.index_mut.result.now c.in-Ok.store
     (renewed_table items i j c.args.entry own) c.index_mut.ensures.value (renewed_place items i j c.args.entry c.index_mut.result.now c.index_mut.ensures.value own) (ap (set items i) c.replace.ensures)
-    (c.in-Ok-with_entry_at.ensures ∙ ap (λ (e : Projection). with_entry_at c.self.inside.last c.args.next i j e c.self.inside.root) (sym c.in-Ok.ensures.entry)) c.self.invariant c.in-Ok-settle.ensures.valid
+    (c.in-Ok-with_entry_at.ensures.catalogue ∙ ap (λ (e : Projection). with_entry_at c.self.inside.last c.args.next i j e c.self.inside.root) (sym c.in-Ok.ensures.entry)) c.self.invariant c.in-Ok-with_entry_at.ensures.valid
 
 pub returns-clause-made : goal.returns-clause-made
 returns-clause-made g c = λ d stands holds.
@@ -82,8 +83,11 @@ returns-clause-made g c = λ d stands holds.
     store_done g.D.Disk c.args.self.now _ _ d (reached_at c.args.entry.lge i j d)
     (move_seen c.self.inside.root c.in-Ok-with_entry_at.catalogue c.self.inside.last c.args.next i j items (set items i c.replace.new.self) c.index_mut.result.now c.in-Ok.store
     (renewed_table items i j c.args.entry own) c.index_mut.ensures.value (renewed_place items i j c.args.entry c.index_mut.result.now c.index_mut.ensures.value own) (ap (set items i) c.replace.ensures)
-    (c.in-Ok-with_entry_at.ensures ∙ ap (λ (e : Projection). with_entry_at c.self.inside.last c.args.next i j e c.self.inside.root) (sym c.in-Ok.ensures.entry)))
+    (c.in-Ok-with_entry_at.ensures.catalogue ∙ ap (λ (e : Projection). with_entry_at c.self.inside.last c.args.next i j e c.self.inside.root) (sym c.in-Ok.ensures.entry)))
     (install_made c.what_is_read_is_stored.ensures.stored g.D.Disk c.self.inside.root c.in-Ok-with_entry_at.catalogue c.self.inside.last (map projections_of items) c.args.self.now i j c.args.next c.in-Ok.store.stored c.args.entry _ d
-    c.in-Ok-settle.ensures.made c.self.view_is own c.in-Ok.ensures.entry c.in-Ok.ensures.loaded c.read_again.ensures.looks c.in-Ok-with_entry_at.ensures
+    c.in-Ok-settle.ensures.made c.self.view_is own c.in-Ok.ensures.entry c.in-Ok.ensures.loaded c.read_again.ensures.looks c.in-Ok-with_entry_at.ensures.catalogue
     (subst (λ (s : Seen). s.catalogue.next ≤ c.args.next) (sym c.self.view_is) c.requires.drawn) (subst (λ (s : Seen). s.catalogue.ahm ≤ c.args.entry.lge) (sym c.self.view_is) c.requires.reached)
     (subst (λ (s : Seen). c.args.entry.lge ≤ s.catalogue.last) (sym c.self.view_is) c.requires.closed) stands holds)
+
+pub settle-requires-clause-drawn : goal.settle-requires-clause-drawn
+settle-requires-clause-drawn g c = omega (arith, ap (λ (k : Catalogue). k.next) c.in-Ok-with_entry_at.ensures.catalogue)

@@ -65,7 +65,7 @@ invariant_of-self g c =
     move_held c.self.inside.root c.in-Ok.ready.catalogue c.self.inside.last c.in-Ok.ready.version i j items (set items i c.replace.new.self) c.index_mut.result.now c.in-Ok.ready.store
     (fresh_table items i j fresh) c.index_mut.ensures.value (fresh_place items i j c.index_mut.result.now c.index_mut.ensures.value fresh) (ap (set items i) c.replace.ensures)
     (rewritten_catalogue c.self.inside.last c.self.inside.root (map projections_of c.as_slice.result.now) i j c.in-Ok.ready.version c.in-Ok.ready.catalogue c.in-Ok.ready.store.stored
-    (g.D.Disk.holds c.args.disk.now) (g.D.Disk.holds c.prepare_move.new.disk) c.in-Ok.ensures.moved_out) c.self.invariant c.in-Ok-settle.ensures.valid
+    (g.D.Disk.holds c.args.disk.now) (g.D.Disk.holds c.prepare_move.new.disk) c.in-Ok.ensures.moved_out) c.self.invariant c.in-Ok.ensures.valid
 
 pub returns-clause-made : goal.returns-clause-made
 returns-clause-made g c = λ d stands.
