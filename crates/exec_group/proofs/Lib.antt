@@ -1,3 +1,4 @@
 pub mod Growing
 pub mod Keys
 pub mod More
+pub mod Together

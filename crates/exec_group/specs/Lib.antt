@@ -1,2 +1,3 @@
 pub mod Accumulators
+pub mod Columns
 pub mod Groups

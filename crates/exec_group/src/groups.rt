@@ -1,17 +1,21 @@
 //! Groups, each found by its key.
 
-ghost use Rattle.std.specs.Prelude.{◌≡◌, ◌++◌, ◌∷◌, List, [], true, get_or, map, set, IfOk, OnOk, IsErrOf};
+ghost use Rattle.std.specs.Prelude.{◌≡◌, ◌<◌, ◌≤◌, ◌++◌, ◌∷◌, List, [], true, get_or, length, map, set, take, IfOk, OnOk, IsErrOf};
 ghost use Rattle.std.specs.List.{All};
 ghost use Rattle.col_value.specs.Order.{IsRow};
 ghost use Rattle.col_value.specs.declared.value.Value.{Value};
 ghost use Rattle.sql_bound.specs.declared.query.BoundQuery.{BoundQuery};
 ghost use Rattle.exec_group.specs.Accumulators.{fresh, is_bounded_aggregate, taken_by_all, worth_or_null};
+ghost use Rattle.exec_group.specs.Columns.{pushed_at_all, row_of, taken_by_each, AreRowsAt};
 ghost use Rattle.exec_group.specs.Groups.{Held, AreGroups, HasGreatSum, HasTooGreat, HoldsGroups, one_group, pushed};
 ghost use Rattle.exec_group.specs.declared.accumulator.Accumulator.TheVariants.{TooGreat};
 ghost use Rattle.exec_group.specs.declared.fault.GroupFault.{GroupFault};
 
 use crate::GroupFault;
+use crate::cells::key_at;
+use crate::runs::run_length;
 use crate::tally::Tally;
+use block_codec::Block;
 use col_value::{List, Row, Value, WideRow};
 use row_keys::KeyTable;
 use sql_bound::{Aggregate, BoundQuery};
@@ -100,6 +104,83 @@ impl Groups {
         }
     }
 
+    /// Takes the rows of the query at places of columns: those beside each other that have one key together.
+    pub fn push_columns(
+        &mut self,
+        alloc: Global,
+        query: &BoundQuery,
+        columns: &[Option<Block>],
+        places: &[usize],
+    ) -> Result<(), AllocError>
+        requires bounded { All (λ a. is_bounded_aggregate a ≡ true) query.now.aggs }
+        requires rows { AreRowsAt columns.now places.now }
+        ensures { OnOk result ((rows : List (List Value)) → HoldsGroups query.now rows self.old → HoldsGroups query.now (rows ++ map (row_of columns.now) places.now) self.new) }
+    {
+        self.put_columns(
+            alloc,
+            query.keys.as_slice(),
+            query.aggs.as_slice(),
+            columns,
+            places,
+        )
+    }
+
+    /// Puts the rows at places to their groups.
+    #[tactic(auto, using(crate::proofs::Together::put_all, crate::proofs::Together::put_more, crate::proofs::Together::within_more))]
+    fn put_columns(
+        &mut self,
+        alloc: Global,
+        keys: &[usize],
+        aggs: &[Aggregate],
+        columns: &[Option<Block>],
+        places: &[usize],
+    ) -> Result<(), AllocError>
+        requires bounded { All (λ a. is_bounded_aggregate a ≡ true) aggs.now }
+        requires rows { AreRowsAt columns.now places.now }
+        ensures { OnOk result (self.new ≡ pushed_at_all columns.now keys.now aggs.now places.now self.old) }
+    {
+        let mut at = 0;
+        while at < places.len() {
+            let n = self.put_run(alloc, keys, aggs, columns, &places[at..])?;
+            at += n;
+        }
+        Ok(())
+    }
+
+    /// Puts the first of the rows at places, and those behind it that have its key, to their group, or begins a group with the first alone;
+    /// answers how many it put.
+    fn put_run(
+        &mut self,
+        alloc: Global,
+        keys: &[usize],
+        aggs: &[Aggregate],
+        columns: &[Option<Block>],
+        places: &[usize],
+    ) -> Result<usize, AllocError>
+        requires some { 0 < length places.now }
+        requires bounded { All (λ a. is_bounded_aggregate a ≡ true) aggs.now }
+        requires rows { AreRowsAt columns.now places.now }
+        ensures some { IfOk result (λ n. 0 < n) }
+        ensures within { IfOk result (λ n. n ≤ length places.now) }
+        ensures put { IfOk result (λ n. self.new ≡ pushed_at_all columns.now keys.now aggs.now (take n places.now) self.old) }
+    {
+        let first = places[0];
+        let key = key_at(alloc, keys, columns, first)?;
+        match self.keys.find_key(&key) {
+            Some(place) => {
+                let n = 1 + run_length(keys, columns, first, &places[1..]);
+                take_run_at(&mut self.tallies, alloc, place, aggs, columns, &places[..n])?;
+                Ok(n)
+            },
+            None => {
+                self.tallies
+                    .push(first_run(alloc, aggs, columns, &[first])?)?;
+                self.keys.add_key(key)?;
+                Ok(1)
+            },
+        }
+    }
+
     /// The groups of all rows taken, and a fault where a SUM passes what a result holds in one of them.
     pub fn finish(self, alloc: Global) -> Result<Grouped, GroupFault>
         ensures groups { IfOk result (λ g. (q : BoundQuery) (rows : List (List Value)) → HoldsGroups q rows self → AreGroups q rows g) }
@@ -142,6 +223,41 @@ fn take_at(
 {
     if place < tallies.len() {
         tallies[place].take(alloc, aggs, row)?;
+    }
+    Ok(())
+}
+
+/// The aggregates over the rows at places.
+fn first_run(
+    alloc: Global,
+    aggs: &[Aggregate],
+    columns: &[Option<Block>],
+    places: &[usize],
+) -> Result<Tally, AllocError>
+    requires bounded { All (λ a. is_bounded_aggregate a ≡ true) aggs.now }
+    requires rows { AreRowsAt columns.now places.now }
+    ensures { IfOk result (λ t. t ≡ taken_by_each columns.now places.now aggs.now (fresh aggs.now)) }
+{
+    let mut tally = Tally::new(alloc, aggs)?;
+    tally.take_run(alloc, aggs, columns, places)?;
+    Ok(tally)
+}
+
+/// Lets the aggregates at this place take the rows at places of columns.
+fn take_run_at(
+    tallies: &mut Vec<Tally>,
+    alloc: Global,
+    place: usize,
+    aggs: &[Aggregate],
+    columns: &[Option<Block>],
+    places: &[usize],
+) -> Result<(), AllocError>
+    requires bounded { All (λ a. is_bounded_aggregate a ≡ true) aggs.now }
+    requires rows { AreRowsAt columns.now places.now }
+    ensures { OnOk result (tallies.new.items ≡ set tallies.old.items place (taken_by_each columns.now places.now aggs.now (get_or tallies.old.items place []))) }
+{
+    if place < tallies.len() {
+        tallies[place].take_run(alloc, aggs, columns, places)?;
     }
     Ok(())
 }

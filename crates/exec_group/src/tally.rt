@@ -5,10 +5,13 @@ ghost use Rattle.std.specs.List.{All};
 ghost use Rattle.col_value.specs.Order.{IsRow};
 ghost use Rattle.expr_value.specs.Worths.{wide_of};
 ghost use Rattle.exec_group.specs.Accumulators.{HasGreat, argument_in, fresh, is_bounded_aggregate, taken, taken_by_all, worth_or_null};
+ghost use Rattle.exec_group.specs.Columns.{taken_by_each, AreRowsAt};
 ghost use Rattle.exec_group.specs.declared.accumulator.Accumulator.TheVariants.{TooGreat};
 ghost use Rattle.exec_group.specs.declared.fault.GroupFault.{GroupFault};
 
+use crate::columns::take_run_at;
 use crate::{Accumulator, GroupFault};
+use block_codec::Block;
 use col_value::{List, Value, Wide, WideRow};
 use expr_value::{Sight, Worth, value_of};
 use sql_bound::{Aggregate, Expr};
@@ -55,6 +58,24 @@ impl Tally {
     {
         for (i, a) in aggs.iter().enumerate() {
             take_at(&mut self.list, alloc, i, &argument_of(a, row))?;
+        }
+        Ok(())
+    }
+
+    /// The same over the rows at places of columns.
+    pub fn take_run(
+        &mut self,
+        alloc: Global,
+        aggs: &[Aggregate],
+        columns: &[Option<Block>],
+        places: &[usize],
+    ) -> Result<(), AllocError>
+        requires bounded { All (λ a. is_bounded_aggregate a ≡ true) aggs.now }
+        requires rows { AreRowsAt columns.now places.now }
+        ensures { OnOk result (self.new ≡ taken_by_each columns.now places.now aggs.now self.old) }
+    {
+        for (i, a) in aggs.iter().enumerate() {
+            take_run_at(&mut self.list, alloc, i, a, columns, places)?;
         }
         Ok(())
     }

@@ -257,6 +257,10 @@ row_valid columns places at i row have lt is made =
     let inside : i < have.count = subst (λ (n : ℕ). n < have.count) (sym is) (have.within at 0 lt) in
     subst (λ (vs : List Value). All IsValue vs) (sym made) (cells_valid have.count i columns inside have.long)
 
+-- the rows at the places are rows of values
+pub rows_valid : (columns : List (Option (List Value))) (places : List ℕ) → HaveAll columns places → All (λ i. All IsValue (row_of columns i)) places
+rows_valid columns places have = All-weaker (λ i. i < have.count) (λ i. All IsValue (row_of columns i)) (λ i inside. cells_valid have.count i columns inside have.long) places have.within
+
 pub row_found : (columns : List (Option (List Value))) (places : List ℕ) (at i : ℕ) (row : List Value) → at < length places → i ≡ get_or places at 0 → row ≡ row_of columns i → IsSomeAnd (slice_get (map (row_of columns) places) at) (λ r. row ≡ r)
 row_found columns places at i row lt is made =
     subst (λ (o : Option (List Value)). IsSomeAnd o (λ r. row ≡ r))

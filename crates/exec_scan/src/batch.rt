@@ -162,6 +162,18 @@ impl Batch {
         }
     }
 
+    /// The columns and the places of the rows in them, where the rows are held so.
+    #[tactic(auto, using(crate::proofs::Alive::rows_valid))]
+    pub fn columns(&self) -> Option<(&[Option<Block>], &[usize])>
+        ensures rows { IfSome result (λ x. map (row_of x.0.now) x.1.now ≡ self.now.rows) }
+        ensures valid { IfSome result (λ x. All (λ i. IsRow (row_of x.0.now i)) x.1.now) }
+    {
+        match &self.form {
+            Form::Columns(columns, places) => Some((columns.as_slice(), places.as_slice())),
+            Form::Made(_, _, _) => None,
+        }
+    }
+
     /// Makes `row` the row at a place. A text that it has there already isn't copied again.
     pub fn copy_row(
         &self,

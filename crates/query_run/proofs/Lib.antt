@@ -8,3 +8,4 @@ pub mod Taken
 pub mod Bars
 pub mod Beside
 pub mod Columns
+pub mod Together

@@ -1,15 +1,18 @@
 //! What is collected of the tuples of a query.
 
-ghost use Rattle.std.specs.Prelude.{◌≡◌, ◌++◌, ◌∷◌, false, List, [], OnOk, IfOk};
+ghost use Rattle.std.specs.Prelude.{◌≡◌, ◌+◌, ◌<◌, ◌++◌, ◌∷◌, true, false, List, [], map, OnOk, IfOk};
 ghost use Rattle.std.specs.Option.{IfSome};
 ghost use Rattle.col_value.specs.Order.{IsRow};
 ghost use Rattle.col_value.specs.declared.value.Value.{Value};
+ghost use Rattle.exec_group.specs.Columns.{row_of, AreRowsAt};
+ghost use Rattle.sql_bound.specs.Bounds.{column_bound};
 ghost use Rattle.query_laws.specs.Bounded.{IsBoundedQuery};
 ghost use Rattle.query_order.specs.Enough.{AreFew};
 ghost use Rattle.query_run.specs.Outputs.{HoldsOutput, IsAdded, IsBar};
 
 use crate::bar::{bar_of, is_barred, is_behind};
 use crate::seen::{has_windows, seen_row};
+use block_codec::Block;
 use col_value::{Row, Value, WideRow};
 use exec_group::Groups;
 use expr_value::items_of;
@@ -72,6 +75,34 @@ impl Collected {
         }
         let row = items_of(alloc, query.items.as_slice(), tuple)?;
         add_row(alloc, &mut self.rows, &mut self.bar, query, row)
+    }
+
+    /// Takes the tuples at places of columns, which are kept. More than 2^63 - 2 tuples find no memory.
+    pub fn take_columns(
+        &mut self,
+        alloc: Global,
+        query: &BoundQuery,
+        columns: &[Option<Block>],
+        places: &[usize],
+    ) -> Result<(), AllocError>
+        requires bounded { IsBoundedQuery query.now }
+        requires grouped { query.now.grouped ≡ true }
+        requires rows { AreRowsAt columns.now places.now }
+        ensures { OnOk result ((rows : List (List Value)) → HoldsOutput query.now rows self.old → HoldsOutput query.now (rows ++ map (row_of columns.now) places.now) self.new) }
+    {
+        self.taken = more_taken(self.taken, places.len())?;
+        self.groups.push_columns(alloc, query, columns, places)
+    }
+}
+
+/// How many tuples there are with so many more, of which more than 2^63 - 2 find no memory.
+fn more_taken(taken: u64, count: usize) -> Result<u64, AllocError>
+    ensures sum { IfOk result (λ n. n ≡ taken + count) }
+    ensures few { IfOk result (λ n. n < column_bound) }
+{
+    match taken.checked_add(count as u64) {
+        Some(sum) if sum <= MOST => Ok(sum),
+        _ => Err(AllocError),
     }
 }
 

@@ -8,13 +8,14 @@
 //! made.
 //! The tuples of a query with windows are held in the columns that it uses, and the windows' values stand beside them at the end.
 //! A `Run` is the same where the rows of the first FROM item come one by one, and are not held: `HasTaken` in `specs/Runs.antt` says
-//! what came.
+//! what came. Where the query has no other item and is over groups, they may come in columns, and no row is made of them.
 #![tactic(auto)]
 
 mod bar;
 mod collected;
 mod equated;
 mod fault;
+mod filter;
 mod laws;
 mod output;
 mod printing;

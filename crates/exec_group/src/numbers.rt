@@ -1,0 +1,114 @@
+//! The number that an expression is worth in a row that stands in columns.
+
+ghost use Rattle.std.specs.Prelude.{◌≡◌, neg_ℤ, if◌then◌else◌, Some, map};
+ghost use Rattle.std.specs.Option.{IfSome};
+ghost use Rattle.col_value.specs.Order.{widened};
+ghost use Rattle.col_value.specs.declared.value.Value.TheVariants as value;
+ghost use Rattle.col_value.specs.declared.wide.Wide.TheVariants as wide;
+ghost use Rattle.std.specs.List.{slice_index_or};
+ghost use Rattle.sql_bound.specs.Values.{of_row, value_of};
+ghost use Rattle.expr_value.specs.Terms.{added, multiplied, term_value};
+ghost use Rattle.exec_group.specs.Columns.{row_of};
+
+use crate::cells::worth_at;
+use block_codec::Block;
+use col_value::Wide;
+use expr_value::Worth;
+use sql_bound::{BoundTerm, Expr};
+
+/// The number as one of 64 bits, if it is one.
+fn short(n: i128) -> Option<i64>
+    ensures { IfSome result (λ m. m ≡ n) }
+{
+    match i64::try_from(n) {
+        Ok(m) => Some(m),
+        Err(_) => None,
+    }
+}
+
+/// The number of a literal, if it is one of 64 bits.
+fn literal(value: &Wide) -> Option<i64>
+    ensures { IfSome result (λ n. value.now ≡ wide.Int n) }
+{
+    match value {
+        Wide::Int(n) => short(*n),
+        _ => None,
+    }
+}
+
+/// The number of a column, if it has one.
+fn column_at(columns: &[Option<Block>], column: usize, place: usize) -> Option<i64>
+    ensures { IfSome result (λ n. widened (slice_index_or (row_of columns.now place) column value.Null) ≡ wide.Int n) }
+{
+    match worth_at(columns, column, place) {
+        Some(Worth::Int(n)) => short(n),
+        _ => None,
+    }
+}
+
+/// The number that an expression is worth in the row at a place, where all on the way to it are numbers of 64 bits.
+#[cycle(number)]
+pub fn number_at(e: &Expr, columns: &[Option<Block>], place: usize) -> Option<i64>
+    ensures { IfSome result (λ n. value_of (of_row (row_of columns.now place)) e.now ≡ wide.Int n) }
+{
+    match e {
+        Expr::Lit(value) => literal(value),
+        Expr::Col(i) => column_at(columns, *i, place),
+        Expr::Sum(terms) => sum_at(terms.as_slice(), columns, place),
+        Expr::Product(parts) => product_at(parts.as_slice(), columns, place),
+        _ => None,
+    }
+}
+
+/// The sum of all parts.
+#[cycle(number)]
+fn sum_at(terms: &[BoundTerm], columns: &[Option<Block>], place: usize) -> Option<i64>
+    ensures { IfSome result (λ n. added (map (term_value (of_row (row_of columns.now place))) terms.now) ≡ Some n) }
+{
+    let mut so_far = 0i64;
+    for term in terms {
+        let Some(part) = term_at(term, columns, place) else {
+            return None;
+        };
+        let Some(sum) = so_far.checked_add(part) else {
+            return None;
+        };
+        so_far = sum;
+    }
+    Some(so_far)
+}
+
+/// A part of a sum, its sign turned where a minus stands before it.
+#[cycle(number)]
+fn term_at(term: &BoundTerm, columns: &[Option<Block>], place: usize) -> Option<i64>
+    ensures { IfSome result (λ n. term_value (of_row (row_of columns.now place)) term.now ≡ wide.Int n) }
+{
+    match number_at(&term.part, columns, place) {
+        Some(part) => signed(term.minus, part),
+        None => None,
+    }
+}
+
+/// The product of all parts.
+#[cycle(number)]
+fn product_at(parts: &[Expr], columns: &[Option<Block>], place: usize) -> Option<i64>
+    ensures { IfSome result (λ n. multiplied (map (value_of (of_row (row_of columns.now place))) parts.now) ≡ Some n) }
+{
+    let mut so_far = 1i64;
+    for part in parts {
+        let Some(factor) = number_at(part, columns, place) else {
+            return None;
+        };
+        let Some(product) = so_far.checked_mul(factor) else {
+            return None;
+        };
+        so_far = product;
+    }
+    Some(so_far)
+}
+
+fn signed(minus: bool, n: i64) -> Option<i64>
+    ensures { IfSome result (λ m. m ≡ (if minus then neg_ℤ n else n)) }
+{
+    if minus { n.checked_neg() } else { Some(n) }
+}
