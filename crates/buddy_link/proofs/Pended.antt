@@ -4,12 +4,13 @@ use Rattle.std.specs.Prelude.{nat_lt, bytes_eq}
 use Rattle.std.specs.List.{All, AllZip}
 use Rattle.std.proofs.lemmas.Bool.Decides.{nat_tests}
 use Rattle.std.proofs.lemmas.List.{take_more}
-use Rattle.std.proofs.lemmas.List.Elements.{All-head, All-tail}
+use Rattle.std.proofs.lemmas.List.Elements.{All-cons, All-head, All-nil, All-tail}
 use Rattle.common_laws.specs.Bags.{SameBag}
 use Rattle.common_laws.proofs.BagLaws.{bag_length}
 use Rattle.col_disk.specs.declared.disk.Disk.{Ghosts}
 use Rattle.col_value.specs.declared.row.Asked.{Asked}
 use Rattle.col_value.specs.declared.value.Value.{Value}
+use Rattle.col_value.specs.Order.{IsRow}
 use Rattle.db_model.specs.Database.{Database, Table, table_named}
 use Rattle.db_model.specs.Events.{change_of}
 use Rattle.db_model.specs.Sound.{IsSound, IsSoundDatabase}
@@ -22,7 +23,7 @@ use Rattle.store_core.specs.Sessions.{own_of, rows_given, with_marked, with_own}
 use Rattle.catch_model.specs.Added.{deleted_in, inserted_in}
 use Rattle.catch_laws.specs.Replay.{IsAt, Pends}
 use Rattle.catch_laws.proofs.Pending.{pends_more, pends_none, pends_skip}
-use Rattle.catch_tables.specs.Keyed.{Changed, delete_of, has_change_in, is_some_row, of_epoch, row_of}
+use Rattle.catch_tables.specs.Keyed.{Changed, delete_of, has_change_in, is_some_row, of_epoch, row_of, AreRows}
 use Rattle.catch_tables.specs.declared.epochs.Keyed.{Keyed}
 use Rattle.buddy_link.specs.Replaying.{all_pended, pended, IsOrderedOf}
 
@@ -137,3 +138,11 @@ pended_more n i tables c start mid new lt at was is =
 
 pub dropped_more : (n : ℕ) (c : Changed) (start mid new : Running) → with_own [] mid ≡ with_own [] start → new ≡ pended n c mid → with_own [] new ≡ with_own [] start
 dropped_more n c start mid new was is = ap (with_own []) is ∙ dropped_pended n c mid ∙ was
+
+-- rows that are copied are rows of a table
+pub rows_valid : (ks : List Keyed) (rows : List (List Value)) → rows ≡ map row_of ks → AreRows ks → All IsRow rows
+rows_valid ks rows is valid = subst (λ (rs : List (List Value)). All IsRow rs) (sym is) (each ks valid)
+  where
+    each : (xs : List Keyed) → AreRows xs → All IsRow (map row_of xs)
+    each [] all = All-nil IsRow
+    each (x ∷ xs) all = All-cons IsRow (row_of x) (map row_of xs) (All-head (λ k. IsRow (row_of k)) x xs all) (each xs (All-tail (λ k. IsRow (row_of k)) x xs all))

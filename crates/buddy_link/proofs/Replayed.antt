@@ -169,11 +169,16 @@ ends_moved disk mark last a b s is old new reach begun good last_is ahead sound 
     let (after, all, here) = moves.done in
     let still : IsStill a.database.last s after = all_still a.database.last s after false (still_at mark last a b s begun good sound at) all in
     record {
-      done = (refl, after, here, record {
-        caught = caught_at mark last a b s after last_is ahead sound at still;
-        good = reach s after sound.database all ∙ still.last ∙ at.last ∙ last_is;
-        idle = still.sessions ∙ at.idle;
-      });
+      done = (
+        refl,
+        after,
+        here,
+        record {
+          caught = caught_at mark last a b s after last_is ahead sound at still;
+          good = reach s after sound.database all ∙ still.last ∙ at.last ∙ last_is;
+          idle = still.sessions ∙ at.idle;
+        },
+      );
       left = tt;
     }
 
@@ -194,12 +199,15 @@ stops_moving {D} disk mark last a b s is old new f begun good last_is ahead soun
     by (link.TooMany n) none spent short = none
     by link.NumbersSpent ok spent short =
         let (after, all, here) = spent refl in
-        let still : IsStill a.database.last s after = all_still a.database.last s after true begun_still all in
-        (after, here, record {
-          caught = caught_at mark last a b s after last_is ahead sound at still;
-          good = good_unmoved a.database.last s after still (stops after all) ∙ sym good;
-          idle = still.sessions ∙ at.idle;
-        })
+        let still : IsStill a.database.last s after = all_still a.database.last s after true begun_still all in (
+          after,
+          here,
+          record {
+            caught = caught_at mark last a b s after last_is ahead sound at still;
+            good = good_unmoved a.database.last s after still (stops after all) ∙ sym good;
+            idle = still.sessions ∙ at.idle;
+          },
+        )
       where
         stops : (after : State) → MovesAll s true after → 0 < length (behind after.database)
         stops after all = still_behind (length (behind s.database)) a.database.last s (record s { busy = 0 }) after (record { cuts = begun_still.cuts; last = begun_still.last; sessions = begun_still.sessions; sound = begun_still.sound; ends = begun_still.ends }) all.jobs (omega arith)
@@ -209,16 +217,19 @@ stops_moving {D} disk mark last a b s is old new f begun good last_is ahead soun
     by link.Memory ok spent short =
         let (after, kept, here) = short refl in
         let still : IsStill a.database.last s after = kept_still a.database.last s after begun_still kept in
-        let same : after.database.last ≡ b.last = still.last ∙ at.last ∙ last_is in
-        (after, here, record {
-          from = subst (λ (n : ℕ). a.database.last ≤ n) (sym (still.last ∙ at.last)) at.from;
-          upto = subst (λ (n : ℕ). n ≤ b.last) (sym same) (omega arith);
-          tables = λ name. columns_still a.database.last s after still name ∙ at.tables name;
-          rows = λ name.
-              subst (λ (xs : List Stamped). SameBag xs (history mark name (cut after.database.last b))) (sym (history_still a.database.last mark s after sound.database still name))
-              (subst (λ (n : ℕ). SameBag (history mark name s.database) (history mark name (cut n b))) (sym (still.last ∙ at.last)) (at.rows name));
-          idle = still.sessions ∙ at.idle;
-        })
+        let same : after.database.last ≡ b.last = still.last ∙ at.last ∙ last_is in (
+          after,
+          here,
+          record {
+            from = subst (λ (n : ℕ). a.database.last ≤ n) (sym (still.last ∙ at.last)) at.from;
+            upto = subst (λ (n : ℕ). n ≤ b.last) (sym same) (omega arith);
+            tables = λ name. columns_still a.database.last s after still name ∙ at.tables name;
+            rows = λ name.
+                subst (λ (xs : List Stamped). SameBag xs (history mark name (cut after.database.last b))) (sym (history_still a.database.last mark s after sound.database still name))
+                (subst (λ (n : ℕ). SameBag (history mark name s.database) (history mark name (cut n b))) (sym (still.last ∙ at.last)) (at.rows name));
+            idle = still.sessions ∙ at.idle;
+          },
+        )
 
 -- ---- images
 

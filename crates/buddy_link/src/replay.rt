@@ -15,9 +15,7 @@ ghost use Rattle.buddy_link.specs.Linking.{MayReplay, MovesBehind, Replays, Reop
 ghost use Rattle.buddy_link.specs.Replaying.{all_pended, pended, Comes, Setting};
 
 use crate::histories::behind_fault;
-use catch_laws::{
-    a_catch_up_begins, a_catch_up_ends, an_epoch_is_committed, an_epoch_is_pending,
-};
+use catch_laws::{a_catch_up_begins, a_catch_up_ends, an_epoch_is_committed, an_epoch_is_pending};
 use catch_model::LinkFault;
 use catch_tables::{Ordered, Told, asked_rows, copied_rows, order_all};
 use col_disk::Disk;

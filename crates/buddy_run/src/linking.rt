@@ -15,9 +15,9 @@ ghost use Rattle.buddy_run.specs.Ends.{BringsUp, IsOnTheWay, LinkEnds};
 
 use crate::status::LinkStatus;
 use buddy_link::{Link, LinkFault};
+use catch_text::{caught_text, refusal_text};
 use col_disk::{Disk, StoreFault};
 use col_io::{Sink, SinkFault, write_all};
-use catch_text::{caught_text, refusal_text};
 use std::alloc::{AllocError, Global};
 use store_core::Store;
 
@@ -152,11 +152,13 @@ pub fn link<S: Sink, A: Disk, B: Disk>(
         return LinkStatus::Usage;
     }
     match bring_up(alloc, behind, ahead) {
-        Ok(Brought {
-            first,
-            second,
-            last,
-        }) => match caught_text(alloc, first, second, last) {
+        Ok(
+            Brought {
+                first,
+                second,
+                last,
+            },
+        ) => match caught_text(alloc, first, second, last) {
             Ok(text) => tell(out, text.as_slice(), LinkStatus::Done),
             Err(AllocError) => LinkStatus::Memory,
         },

@@ -52,4 +52,3 @@ IsFirstApart [] [] name = ⊥
 IsFirstApart [] (y ∷ ys) name = name ≡ y.name
 IsFirstApart (x ∷ xs) [] name = name ≡ x.name
 IsFirstApart (x ∷ xs) (y ∷ ys) name = IsApart (slice_cmp nat_cmp x.name y.name) x y name ⊎ (IsSameTable x y × IsFirstApart xs ys name)
-

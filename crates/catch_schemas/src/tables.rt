@@ -37,18 +37,19 @@ fn are_same_columns(xs: &[Column], ys: &[Column]) -> bool
     ensures { result ≡ are_same_columns xs.now ys.now }
 {
     let (mut first, mut second) = (xs, ys);
-    while let ([x, later @ ..], [y, rest @ ..]) = (first, second) {
-        if !is_same_column(x, y) {
-            return false;
+    while let [x, later @ ..] = first {
+        match second {
+            [] => return false,
+            [y, rest @ ..] => {
+                if !is_same_column(x, y) {
+                    return false;
+                }
+                first = later;
+                second = rest;
+            }
         }
-        first = later;
-        second = rest;
     }
-    match (first, second) {
-        ([], []) => true,
-        ([], [_, ..]) => false,
-        ([_, ..], _) => false,
-    }
+    second.is_empty()
 }
 
 #[tactic(auto, using(crate::proofs::Schemas::not_apart, crate::proofs::Schemas::other_columns, crate::proofs::Schemas::lesser_name, crate::proofs::Schemas::greater_name))]
@@ -76,17 +77,21 @@ fn first_differing<'a>(xs: &'a [Table], ys: &'a [Table]) -> Option<&'a Name>
     ensures none { IfNone result (AllZip IsSameTable xs.now ys.now) }
 {
     let (mut first, mut second) = (xs, ys);
-    while let ([x, later @ ..], [y, rest @ ..]) = (first, second) {
-        if let Some(name) = apart(x, y) {
-            return Some(name);
+    while let [x, later @ ..] = first {
+        match second {
+            [] => return Some(&x.name),
+            [y, rest @ ..] => {
+                if let Some(name) = apart(x, y) {
+                    return Some(name);
+                }
+                first = later;
+                second = rest;
+            }
         }
-        first = later;
-        second = rest;
     }
-    match (first, second) {
-        ([x, ..], _) => Some(&x.name),
-        ([], [y, ..]) => Some(&y.name),
-        ([], []) => None,
+    match second {
+        [] => None,
+        [y, ..] => Some(&y.name),
     }
 }
 

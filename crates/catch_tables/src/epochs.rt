@@ -17,11 +17,7 @@ pub struct Keyed<'a> {
 }
 
 /// The rows that were inserted after an epoch.
-fn inserted_after(
-    alloc: Global,
-    rows: &[Stamped],
-    after: u64,
-) -> Result<Vec<Keyed<'_>>, AllocError>
+fn inserted_after(alloc: Global, rows: &[Stamped], after: u64) -> Result<Vec<Keyed<'_>>, AllocError>
     ensures { IfOk result (λ v. map by_insert v.items ≡ map own_insert (filter (λ s. nat_lt after s.ins) rows.now)) }
 {
     let mut out = Vec::new(alloc);
@@ -37,11 +33,7 @@ fn inserted_after(
 }
 
 /// The rows that were deleted after an epoch.
-fn deleted_after(
-    alloc: Global,
-    rows: &[Stamped],
-    after: u64,
-) -> Result<Vec<Keyed<'_>>, AllocError>
+fn deleted_after(alloc: Global, rows: &[Stamped], after: u64) -> Result<Vec<Keyed<'_>>, AllocError>
     ensures { IfOk result (λ v. map by_delete v.items ≡ map own_delete (filter (is_deleted_after after) rows.now)) }
 {
     let mut out = Vec::new(alloc);
@@ -66,11 +58,7 @@ fn in_order(rows: Vec<Keyed<'_>>) -> Result<Vec<Keyed<'_>>, AllocError>
 
 #[tactic(auto, using(crate::proofs::Keys::inserts_sorted, crate::proofs::Keys::rows_sorted))]
 /// The rows that were inserted after an epoch, in the order of the epochs that did.
-pub fn by_inserts(
-    alloc: Global,
-    rows: &[Stamped],
-    after: u64,
-) -> Result<Vec<Keyed<'_>>, AllocError>
+pub fn by_inserts(alloc: Global, rows: &[Stamped], after: u64) -> Result<Vec<Keyed<'_>>, AllocError>
     requires { All (λ s. IsRow s.row) rows.now }
     ensures told { IfOk result (λ v. AreInserts after rows.now v.items) }
     ensures valid { IfOk result (λ v. AreRows v.items) }
@@ -82,11 +70,7 @@ pub fn by_inserts(
 
 #[tactic(auto, using(crate::proofs::Keys::deletes_sorted))]
 /// The rows that were deleted after an epoch, in the order of the epochs that did.
-pub fn by_deletes(
-    alloc: Global,
-    rows: &[Stamped],
-    after: u64,
-) -> Result<Vec<Keyed<'_>>, AllocError>
+pub fn by_deletes(alloc: Global, rows: &[Stamped], after: u64) -> Result<Vec<Keyed<'_>>, AllocError>
     ensures told { IfOk result (λ v. AreDeletes after rows.now v.items) }
     ensures ascending { IfOk result (λ v. AreInOrder v.items) }
 {

@@ -95,11 +95,7 @@ pub fn asked_rows(alloc: Global, keyed: &[Keyed<'_>]) -> Result<Vec<Asked>, Allo
 }
 
 /// What the tables tell, after an epoch.
-pub fn order_all(
-    alloc: Global,
-    tables: &[Told],
-    after: u64,
-) -> Result<Vec<Ordered<'_>>, AllocError>
+pub fn order_all(alloc: Global, tables: &[Told], after: u64) -> Result<Vec<Ordered<'_>>, AllocError>
     ensures { IfOk result (λ v. AllZip (AreChangesOf after) tables.now v.items) }
 {
     let mut out = Vec::with_capacity(alloc, tables.len())?;

@@ -79,10 +79,8 @@ fn print_refusal(alloc: Global, fault: &LinkFault, out: &mut Vec<u8>) -> Result<
         LinkFault::Gap(n) => print_gap(alloc, *n, out),
         LinkFault::TooMany(n) => print_many(alloc, *n, out),
         LinkFault::NumbersSpent => out.extend_from_slice(b"NUMBERS\n"),
-        LinkFault::BehindDisk
-        | LinkFault::AheadDisk
-        | LinkFault::Damaged(_)
-        | LinkFault::Memory => Ok(()),
+        LinkFault::BehindDisk | LinkFault::AheadDisk | LinkFault::Damaged(_) | LinkFault::Memory =>
+            Ok(()),
     }
 }
 

@@ -15,8 +15,8 @@ mod store;
 
 pub use laws::{
     all_moved_reach_the_last_epoch, all_rollbacks_stand, changed_rows_stand,
-    frames_are_of_the_state, given_changes_stand, pending_rows_stand, planned_projections_have_places,
-    refreshes_may_be_asked_for, rollbacks_stand, sessions_stand,
+    frames_are_of_the_state, given_changes_stand, pending_rows_stand,
+    planned_projections_have_places, refreshes_may_be_asked_for, rollbacks_stand, sessions_stand,
 };
 pub use row_matching::{Matched, matches_are_the_matched_rows};
 pub use store::Store;
