@@ -24,7 +24,7 @@ use Rattle.row_bounds.specs.declared.bound.Bound.{Bound}
 use Rattle.exec_scan.specs.Batches.{Shown}
 use Rattle.exec_scan.specs.Scanning.{AreLeft, AsksSame, Gives, Place, Shows, start}
 use Rattle.exec_scan.proofs.Gathered.{row_next}
-use Rattle.wanted_rows.specs.Wanted.{one_of, tally, Tries}
+use Rattle.wanted_rows.specs.Wanted.{is_same, one_of, tally, Tries}
 use Rattle.store_query.specs.Feeding.{Feeds, HasFed, IsBeyond, Passes, TakesLess, TakesRows}
 use Rattle.store_query.specs.Lessening.{asked, cleared, AreGone}
 use Rattle.store_query.proofs.Lessens.{lessens_all, tally_push, Lessens}
@@ -58,6 +58,21 @@ kept_feeds q row need less old new tries takes = λ more first came was.
           All-push (λ x. less (asked x) ≡ 0) was.out row (All-weaker (λ x. need (asked x) ≡ 0) (λ x. less (asked x) ≡ 0) (λ x zero. same (asked x) ∙ zero) was.out was.none)
           (same (asked row) ∙ here);
     }
+
+-- rows that the run takes together, where none is to be taken out
+pub all_feed : (q : BoundQuery) (rows : Rows) (need : Asked → ℕ) (old new : Run) → ((a : Asked) → need a ≡ 0) → TakesRows q rows old new → Feeds q rows need old need new
+all_feed q rows need old new zero takes = λ more first came was. record {
+  out = was.out ++ rows;
+  taken = takes more was.out was.taken;
+  counts = λ a. omega (arith, was.counts a, tally_both a came, tally_both a was.out);
+  none = All-append (λ x. need (asked x) ≡ 0) was.out rows was.none (λ k d h. zero (asked (get_or rows k d)));
+}
+  where
+    tally_both : (a : Asked) (xs : Rows) → tally a (map asked (xs ++ rows)) ≡ tally a (map asked xs) + tally a (map asked rows)
+    tally_both a xs = ap (λ (ys : List Asked). tally a ys) (map-append asked xs rows) ∙ count_append (λ (x : Asked). is_same x a) (map asked xs) (map asked rows)
+
+pub made_feed : (q : BoundQuery) (rows made : Rows) (need : Asked → ℕ) (old new : Run) → made ≡ rows → ((a : Asked) → need a ≡ 0) → TakesRows q made old new → Feeds q rows need old need new
+made_feed q rows made need old new is zero takes = all_feed q rows need old new zero (subst (λ (rs : Rows). TakesRows q rs old new) is takes)
 
 -- a run that takes rows stays one of the query
 pub takes_run : (q : BoundQuery) (rows : Rows) (old new : Run) → TakesRows q rows old new → IsRunOf q old → IsRunOf q new

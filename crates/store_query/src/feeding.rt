@@ -1,6 +1,6 @@
 //! Rows that go to a run of the query, one by one.
 
-ghost use Rattle.std.specs.Prelude.{◌≡◌, ◌∷◌, List, [], Some, length, map, IfOk, IfErr, OnOk};
+ghost use Rattle.std.specs.Prelude.{◌≡◌, ◌∷◌, true, false, List, [], Some, length, map, IfOk, IfErr, OnOk};
 ghost use Rattle.std.specs.List.{All};
 ghost use Rattle.common_laws.specs.Causes.{HasCause};
 ghost use Rattle.common_laws.specs.Maps.{Contents};
@@ -71,8 +71,32 @@ fn feed(
     run.take(alloc, query, row)
 }
 
-/// The same with the rows of a batch.
-fn feed_batch(
+/// Gives the rows of a batch to the run in their columns, if it takes them so and none is to be taken out; answers whether it did.
+#[tactic(auto, using(crate::proofs::Fed::takes_run))]
+fn feed_columns(
+    alloc: Global,
+    query: &BoundQuery,
+    wants: &Wants,
+    run: &mut Run,
+    batch: &Batch,
+) -> Result<bool, AllocError>
+    requires bounded { IsBoundedQuery query.now }
+    requires run { IsRunOf query.now run.old }
+    ensures fed { IfOk result (λ took. took ≡ true → Feeds query.now batch.now.rows (need_in wants.now) run.old (need_in wants.now) run.new) }
+    ensures run { IfOk result (λ took. took ≡ true → IsRunOf query.now run.new) }
+    ensures stays { IfOk result (λ took. took ≡ false → run.new ≡ run.old) }
+{
+    if !wants.is_done() {
+        return Ok(false);
+    }
+    match batch.columns() {
+        Some((columns, places)) => run.take_columns(alloc, query, columns, places),
+        None => Ok(false),
+    }
+}
+
+/// Gives the rows of a batch to the run, or takes them out, one after another.
+fn feed_each(
     alloc: Global,
     query: &BoundQuery,
     wants: &mut Wants,
@@ -90,6 +114,25 @@ fn feed_batch(
         feed(alloc, query, wants, run, row.as_slice())?;
     }
     Ok(())
+}
+
+/// The same, in the columns of the batch where the run takes them.
+fn feed_batch(
+    alloc: Global,
+    query: &BoundQuery,
+    wants: &mut Wants,
+    run: &mut Run,
+    batch: &Batch,
+) -> Result<(), AllocError>
+    requires bounded { IsBoundedQuery query.now }
+    requires run { IsRunOf query.now run.old }
+    ensures fed { OnOk result (Feeds query.now batch.now.rows (need_in wants.old) run.old (need_in wants.new) run.new) }
+    ensures run { OnOk result (IsRunOf query.now run.new) }
+{
+    if feed_columns(alloc, query, wants, run, batch)? {
+        return Ok(());
+    }
+    feed_each(alloc, query, wants, run, batch)
 }
 
 /// The same with the rows of a projection that are visible at an epoch, made for the table's columns: for each of these `places` has its

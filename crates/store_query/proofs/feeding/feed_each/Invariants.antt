@@ -2,7 +2,7 @@ use Rattle.std.proofs.Common.{take}
 use Rattle.query_run.specs.Runs.{IsRunOf}
 use Rattle.wanted_rows.specs.Wanted.{need_in}
 use Rattle.store_query.specs.Feeding.{Feeds}
-use Rattle.store_query.proofs.feeding.feed_batch.Given as goal
+use Rattle.store_query.proofs.feeding.feed_each.Given as goal
 
 abbrev pub invariant-loop-i : goal.invariant-loop-i
 invariant-loop-i l = record {

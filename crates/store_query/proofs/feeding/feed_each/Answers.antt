@@ -4,7 +4,7 @@ use Rattle.std.specs.Option.{IsSomeAnd}
 use Rattle.col_value.specs.declared.value.Value.{Value}
 use Rattle.wanted_rows.specs.Wanted.{need_in}
 use Rattle.store_query.proofs.Fed.{feeds_all, feeds_next, feeds_none}
-use Rattle.store_query.proofs.feeding.feed_batch.Goals as goal
+use Rattle.store_query.proofs.feeding.feed_each.Goals as goal
 
 pub loop-i-init : goal.loop-i-init
 loop-i-init c = record {
