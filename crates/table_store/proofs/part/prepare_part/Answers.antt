@@ -1,13 +1,9 @@
 use Rattle.std.proofs.Common.{rules}
 use Rattle.col_disk.proofs.Moving.{moved_none}
-use Rattle.table_store.proofs.Unblamed.{part_unblamed}
 use Rattle.table_store.proofs.part.prepare_part.Goals as goal
 
 pub returns-then-not-entry-clause-moved : goal.returns-then-not-entry-clause-moved
 returns-then-not-entry-clause-moved g c = moved_none g.D.Disk c.args.disk.now
 
-pub returns-in-Err-clause-moved : goal.returns-in-Err-clause-moved
-returns-in-Err-clause-moved g c = moved_none g.D.Disk c.args.disk.now
-
-pub returns-in-Err-prepare_marks-clause-unblamed : goal.returns-in-Err-prepare_marks-clause-unblamed
-returns-in-Err-prepare_marks-clause-unblamed g c = λ m told readable. part_unblamed m (g.D.Disk.holds c.args.disk.now) c.args.store.now.stored c.in-Err-prepare_marks.fault told (search rules) readable c.in-Err-prepare_marks.ensures.blamed
+pub returns-in-Err-clause-unblamed : goal.returns-in-Err-clause-unblamed
+returns-in-Err-clause-unblamed g c = λ m told readable. c.in-Err.ensures.unblamed m told (search rules) readable
