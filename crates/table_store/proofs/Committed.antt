@@ -95,6 +95,14 @@ committed_has m mark epoch rows new deletes p r lt later within ready has =
     subst (λ (ss : List (List Value)). HasHistory m mark (mark_all epoch deletes rows ++ map (inserted_at epoch) new) (with_rows (map (inserted_at epoch) ss) (deleted_from epoch r.marks p))) (sym ready.rows_are)
     (inserted_has m mark epoch (mark_all epoch deletes rows) new p r.marks later (deleted_has m mark epoch rows deletes p r.marks lt later within ready.marks_are has))
 
+entry_kept : (epoch : ℕ) (o : Option Ready) (p : Projected) → (applied epoch o p).entry ≡ p.entry
+entry_kept epoch None p = refl
+entry_kept epoch (Some r) p = by r.marks
+  where
+    by : (o : Option Places) → (deleted_from epoch o p).entry ≡ p.entry
+    by None = refl
+    by (Some places) = refl
+
 part_committed : (m : Contents) (mark epoch : ℕ) (rows : List Stamped) (new : List (List Value)) (deletes : List Asked) (p : Projected) (o : Option Ready) → mark < epoch → (p.entry.fresh ≡ true → p.entry.lge < epoch) → Within deletes rows
     → IsReady m new deletes p o → HasRows m mark rows p → HasRows m mark (mark_all epoch deletes rows ++ map (inserted_at epoch) new) (applied epoch o p)
 part_committed m mark epoch rows new deletes p o lt later within ready has = by p.entry.fresh refl o ready.fresh ready.stale has.fresh has.stale
@@ -121,24 +129,19 @@ part_committed m mark epoch rows new deletes p o lt later within ready has = by 
     same : (q : Option Ready) → q ≡ None → applied epoch q p ≡ p
     same q is = ap (λ (r : Option Ready). applied epoch r p) is
 
+    now : (r : Ready) → p.entry.fresh ≡ true → (applied epoch (Some r) p).entry.fresh ≡ true
+    now r is = ap (λ (e : Projection). e.fresh) (entry_kept epoch (Some r) p) ∙ is
+
     by : (b : Bool) → p.entry.fresh ≡ b → (q : Option Ready) → OnTrue b (IsSomeAnd q (IsReadyWith m new deletes p)) → OnFalse b (q ≡ None) → OnTrue b (HasHistory m mark rows p) → OnFalse b (IsBare p) → HasRows m mark after (applied epoch q p)
     by true is None there none history bare = absurd there
     by true is (Some r) there none history bare = record {
-      fresh = on p.entry.fresh (HasHistory m mark after (applied epoch (Some r) p)) is (committed_has m mark epoch rows new deletes p r lt (later is) within there history);
-      stale = off p.entry.fresh (IsBare (applied epoch (Some r) p)) is;
+      fresh = on (applied epoch (Some r) p).entry.fresh (HasHistory m mark after (applied epoch (Some r) p)) (now r is) (committed_has m mark epoch rows new deletes p r lt (later is) within there history);
+      stale = off (applied epoch (Some r) p).entry.fresh (IsBare (applied epoch (Some r) p)) (now r is);
     }
     by false is q there none history bare =
         subst (HasRows m mark after) (sym (same q none)) (record { fresh = nothing p.entry.fresh (HasHistory m mark after p) is; stale = also p.entry.fresh (IsBare p) is bare })
 
 -- ---- a table
-
-entry_kept : (epoch : ℕ) (o : Option Ready) (p : Projected) → (applied epoch o p).entry ≡ p.entry
-entry_kept epoch None p = refl
-entry_kept epoch (Some r) p = by r.marks
-  where
-    by : (o : Option Places) → (deleted_from epoch o p).entry ≡ p.entry
-    by None = refl
-    by (Some places) = refl
 
 entries_kept : (m : Contents) (epoch : ℕ) (new : List (List Value)) (deletes : List Asked) (ps : List Projected) (os : List (Option Ready)) → AllZip (IsReady m new deletes) ps os
     → map (λ p. p.entry) (all_applied epoch os ps) ≡ map (λ p. p.entry) ps

@@ -1,4 +1,3 @@
-use Rattle.std.proofs.Common.{rules}
 use Rattle.col_disk.proofs.Moving.{moved_none}
 use Rattle.table_store.proofs.Unblamed.{part_unblamed}
 use Rattle.table_store.proofs.part.marks_for.Goals as goal
