@@ -8,6 +8,7 @@ use Rattle.common_laws.specs.Bags.{SameBag}
 use Rattle.common_laws.specs.Maps.{Contents}
 use Rattle.common_laws.proofs.BagLaws.{bag_refl, bag_trans, bag_append, bag_map, bag_filter, count_cons, count_append}
 use Rattle.col_value.specs.declared.value.Value.{Value}
+use Rattle.col_value.specs.Order.{projected}
 use Rattle.col_value.specs.declared.row.Asked.{Asked}
 use Rattle.col_value.specs.declared.row.Stamped.{Stamped}
 use Rattle.row_history.specs.History.{is_retained, retained, on_columns, asked_on, stamped, inserted_at, mark_all, Within}
@@ -16,13 +17,13 @@ use Rattle.catalog_types.specs.declared.catalogue.Projection.{Projection}
 use Rattle.catalog_types.specs.declared.catalogue.Table as kept
 use Rattle.db_model.specs.Database.{Table}
 use Rattle.stored_rows.specs.Stored.{Projected, with_rows}
-use Rattle.proj_store.specs.Marking.{with_marks}
+use Rattle.proj_store.specs.Marking.{with_marks, IsPrepared, Places}
 use Rattle.proj_store.proofs.Marked.{prepared_takes}
 use Rattle.proj_store.proofs.Above.{marks_above}
 use Rattle.folder_model.specs.Projections.{ordinals, HasHistory, IsBare, HasRows}
 use Rattle.folder_model.specs.Tables.{StandsForTable}
 use Rattle.folder_model.proofs.Inserting.{history_inserted}
-use Rattle.table_store.specs.Changing.{Ready, IsReadyWith, IsReady, applied, all_applied}
+use Rattle.table_store.specs.Changing.{Ready, AreFound, IsReadyWith, IsReady, applied, all_applied, deleted_from}
 
 -- what a test keeps, and the rest
 bag_parted : {X : Type 0} (p : X → Bool) (xs : List X) → SameBag xs (filter p xs ++ filter (λ x. not (p x)) xs)
@@ -63,22 +64,44 @@ within_columns columns mark stored rows asked history (rest, bag) =
 
 -- ---- one projection
 
-deleted_has : (m : Contents) (mark epoch : ℕ) (rows : List Stamped) (new : List (List Value)) (deletes : List Asked) (p : Projected) (r : Ready) → mark < epoch → p.entry.lge < epoch → Within deletes rows
-    → IsReadyWith m new deletes p r → HasHistory m mark rows p → HasHistory m mark (mark_all epoch deletes rows) (with_marks epoch r.marks p)
-deleted_has m mark epoch rows new deletes p r lt later within ready has =
-    let (now, stores, takes) = prepared_takes m epoch p (map (asked_on (ordinals p.entry)) deletes) r.marks has.stored ready.marks_are has.are (within_columns (ordinals p.entry) mark has.stored rows deletes has.history within) in
+found_has : (m : Contents) (mark epoch : ℕ) (rows : List Stamped) (deletes : List Asked) (p : Projected) (places : Places) → mark < epoch → p.entry.lge < epoch → Within deletes rows
+    → IsPrepared m p (map (asked_on (ordinals p.entry)) deletes) places → HasHistory m mark rows p → HasHistory m mark (mark_all epoch deletes rows) (with_marks epoch places p)
+found_has m mark epoch rows deletes p places lt later within found has =
+    let (now, stores, takes) = prepared_takes m epoch p (map (asked_on (ordinals p.entry)) deletes) places has.stored found has.are (within_columns (ordinals p.entry) mark has.stored rows deletes has.history within) in
     record {
       stored = now;
       are = stores;
       history = taken_alike (ordinals p.entry) mark epoch deletes has.stored now rows (mark_all epoch deletes rows) lt has.history takes (mark_takes epoch deletes rows within);
-      above = marks_above p.entry.lge epoch p r.marks has.above later;
+      above = marks_above p.entry.lge epoch p places has.above later;
     }
+
+none_deleted : (columns : List ℕ) (deletes : List Asked) → map (asked_on columns) deletes ≡ [] → deletes ≡ []
+none_deleted columns [] none = refl
+none_deleted columns (a ∷ deletes) none = absurd (cc)
+
+deleted_has : (m : Contents) (mark epoch : ℕ) (rows : List Stamped) (deletes : List Asked) (p : Projected) (o : Option Places) → mark < epoch → p.entry.lge < epoch → Within deletes rows
+    → AreFound m p (map (asked_on (ordinals p.entry)) deletes) o → HasHistory m mark rows p → HasHistory m mark (mark_all epoch deletes rows) (deleted_from epoch o p)
+deleted_has m mark epoch rows deletes p None lt later within found has = subst (λ (ds : List Asked). HasHistory m mark (mark_all epoch ds rows) p) (sym (none_deleted (ordinals p.entry) deletes found)) has
+deleted_has m mark epoch rows deletes p (Some places) lt later within found has = found_has m mark epoch rows deletes p places lt later within found has
+
+inserted_has : (m : Contents) (mark epoch : ℕ) (rows : List Stamped) (new : List (List Value)) (p : Projected) (o : Option Places) → p.entry.lge < epoch → HasHistory m mark rows (deleted_from epoch o p)
+    → HasHistory m mark (rows ++ map (inserted_at epoch) new) (with_rows (map (inserted_at epoch) (map (λ row. projected row (ordinals p.entry)) new)) (deleted_from epoch o p))
+inserted_has m mark epoch rows new p None later has = history_inserted m mark epoch rows new p later has
+inserted_has m mark epoch rows new p (Some places) later has = history_inserted m mark epoch rows new (with_marks epoch places p) later has
 
 committed_has : (m : Contents) (mark epoch : ℕ) (rows : List Stamped) (new : List (List Value)) (deletes : List Asked) (p : Projected) (r : Ready) → mark < epoch → p.entry.lge < epoch → Within deletes rows
     → IsReadyWith m new deletes p r → HasHistory m mark rows p → HasHistory m mark (mark_all epoch deletes rows ++ map (inserted_at epoch) new) (applied epoch (Some r) p)
 committed_has m mark epoch rows new deletes p r lt later within ready has =
-    subst (λ (ss : List (List Value)). HasHistory m mark (mark_all epoch deletes rows ++ map (inserted_at epoch) new) (with_rows (map (inserted_at epoch) ss) (with_marks epoch r.marks p))) (sym ready.rows_are)
-    (history_inserted m mark epoch (mark_all epoch deletes rows) new (with_marks epoch r.marks p) later (deleted_has m mark epoch rows new deletes p r lt later within ready has))
+    subst (λ (ss : List (List Value)). HasHistory m mark (mark_all epoch deletes rows ++ map (inserted_at epoch) new) (with_rows (map (inserted_at epoch) ss) (deleted_from epoch r.marks p))) (sym ready.rows_are)
+    (inserted_has m mark epoch (mark_all epoch deletes rows) new p r.marks later (deleted_has m mark epoch rows deletes p r.marks lt later within ready.marks_are has))
+
+entry_kept : (epoch : ℕ) (o : Option Ready) (p : Projected) → (applied epoch o p).entry ≡ p.entry
+entry_kept epoch None p = refl
+entry_kept epoch (Some r) p = by r.marks
+  where
+    by : (o : Option Places) → (deleted_from epoch o p).entry ≡ p.entry
+    by None = refl
+    by (Some places) = refl
 
 part_committed : (m : Contents) (mark epoch : ℕ) (rows : List Stamped) (new : List (List Value)) (deletes : List Asked) (p : Projected) (o : Option Ready) → mark < epoch → (p.entry.fresh ≡ true → p.entry.lge < epoch) → Within deletes rows
     → IsReady m new deletes p o → HasRows m mark rows p → HasRows m mark (mark_all epoch deletes rows ++ map (inserted_at epoch) new) (applied epoch o p)
@@ -106,20 +129,19 @@ part_committed m mark epoch rows new deletes p o lt later within ready has = by 
     same : (q : Option Ready) → q ≡ None → applied epoch q p ≡ p
     same q is = ap (λ (r : Option Ready). applied epoch r p) is
 
+    now : (r : Ready) → p.entry.fresh ≡ true → (applied epoch (Some r) p).entry.fresh ≡ true
+    now r is = ap (λ (e : Projection). e.fresh) (entry_kept epoch (Some r) p) ∙ is
+
     by : (b : Bool) → p.entry.fresh ≡ b → (q : Option Ready) → OnTrue b (IsSomeAnd q (IsReadyWith m new deletes p)) → OnFalse b (q ≡ None) → OnTrue b (HasHistory m mark rows p) → OnFalse b (IsBare p) → HasRows m mark after (applied epoch q p)
     by true is None there none history bare = absurd there
     by true is (Some r) there none history bare = record {
-      fresh = on p.entry.fresh (HasHistory m mark after (applied epoch (Some r) p)) is (committed_has m mark epoch rows new deletes p r lt (later is) within there history);
-      stale = off p.entry.fresh (IsBare (applied epoch (Some r) p)) is;
+      fresh = on (applied epoch (Some r) p).entry.fresh (HasHistory m mark after (applied epoch (Some r) p)) (now r is) (committed_has m mark epoch rows new deletes p r lt (later is) within there history);
+      stale = off (applied epoch (Some r) p).entry.fresh (IsBare (applied epoch (Some r) p)) (now r is);
     }
     by false is q there none history bare =
         subst (HasRows m mark after) (sym (same q none)) (record { fresh = nothing p.entry.fresh (HasHistory m mark after p) is; stale = also p.entry.fresh (IsBare p) is bare })
 
 -- ---- a table
-
-entry_kept : (epoch : ℕ) (o : Option Ready) (p : Projected) → (applied epoch o p).entry ≡ p.entry
-entry_kept epoch None p = refl
-entry_kept epoch (Some r) p = refl
 
 entries_kept : (m : Contents) (epoch : ℕ) (new : List (List Value)) (deletes : List Asked) (ps : List Projected) (os : List (Option Ready)) → AllZip (IsReady m new deletes) ps os
     → map (λ p. p.entry) (all_applied epoch os ps) ≡ map (λ p. p.entry) ps

@@ -1,17 +1,31 @@
--- What is ready for each table, made one table after the other.
+-- What is ready for a projection, and for each table, made one table after the other.
 use Rattle.std.proofs.Common.{◌≡◌, ℕ, ◌+◌, ◌<◌, ◌≤◌, ◌++◌, Bool, true, false, List, [], ◌∷◌, cond, length, map, take, get_or, refl, sym, ◌∙◌, ap, subst, arith}
-use Rattle.std.specs.Prelude.{Option, Some, bytes_eq}
+use Rattle.std.specs.Prelude.{Option, Some, None, bytes_eq}
 use Rattle.std.specs.Option.{option_map_or}
 use Rattle.std.specs.List.{AllZip}
+use Rattle.std.proofs.lemmas.Bool.{OnTrue_from, OnFalse_from}
 use Rattle.std.proofs.lemmas.List.{take_more, take_all, get_or-map, length-map}
 use Rattle.common_laws.specs.Maps.{Contents}
+use Rattle.col_value.specs.declared.value.Value.{Value}
+use Rattle.col_value.specs.Order.{projected}
 use Rattle.col_value.specs.declared.row.Asked.{Asked}
+use Rattle.row_history.specs.History.{asked_on}
 use Rattle.catalog_types.specs.declared.catalogue.Table as kept
 use Rattle.db_model.specs.State.{Changes, pending_rows, pending_deletes}
 use Rattle.db_model.specs.Locks.{changes_on}
 use Rattle.stored_rows.specs.Stored.{Projected}
-use Rattle.table_store.specs.Changing.{Ready, IsReady}
+use Rattle.folder_model.specs.Projections.{ordinals}
+use Rattle.table_store.specs.Changing.{Ready, IsReady, IsReadyWith, AreFound}
 use Rattle.table_store.specs.Committing.{AreReady}
+
+-- ---- a projection
+
+pub part_ready : (m : Contents) (rows : List (List Value)) (deletes : List Asked) (p q : Projected) (r : Ready) → p.entry.fresh ≡ true → q ≡ p → r.rows ≡ map (λ row. projected row (ordinals q.entry)) rows
+    → AreFound m p (map (asked_on (ordinals p.entry)) deletes) r.marks → IsReady m rows deletes p (Some r)
+part_ready m rows deletes p q r fresh same come found = record {
+  fresh = OnTrue_from p.entry.fresh (IsReadyWith m rows deletes p r) (λ is. record { rows_are = come ∙ ap (λ (x : Projected). map (λ row. projected row (ordinals x.entry)) rows) same; marks_are = found });
+  stale = OnFalse_from p.entry.fresh (Some r ≡ None) (λ is. absurd (cc));
+}
 
 -- ---- what is pending in a table
 

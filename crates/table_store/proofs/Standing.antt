@@ -21,6 +21,7 @@ use Rattle.db_model.specs.State.{Changes, has_changes, committed}
 use Rattle.db_model.specs.Sound.{ReachesMark, IsSoundShape, IsSoundTable, IsSoundDatabase, ChangesFit, IsSoundSession}
 use Rattle.stored_rows.specs.Stored.{Projected}
 use Rattle.proj_store.specs.Loaded.{Loaded}
+use Rattle.proj_store.specs.Marking.{Places}
 use Rattle.folder_model.specs.Projections.{shape_of}
 use Rattle.folder_model.specs.Tables.{StandForTables, AreDatabase}
 use Rattle.folder_model.specs.Standing.{IsRootOf, StandsFor}
@@ -30,7 +31,7 @@ use Rattle.folder_model.proofs.Committing.{stands_moved, moved_reopens}
 use Rattle.store_commit.specs.Seen.{Seen, Stands, seen}
 use Rattle.store_commit.specs.Making.{Makes}
 use Rattle.table_store.specs.Held.{at_epoch, projections_of, seen_of, IsHeld}
-use Rattle.table_store.specs.Changing.{Ready, applied, all_applied, tables_applied}
+use Rattle.table_store.specs.Changing.{Ready, applied, all_applied, deleted_from, tables_applied}
 use Rattle.table_store.specs.Committing.{AreReady}
 use Rattle.sound_laws.specs.Commits.{commit_table}
 use Rattle.sound_laws.proofs.Changes.{changes_committed, names_differ, found_all, all_within}
@@ -154,7 +155,11 @@ reads_only disk {old} {new} was is f d e stands moved = record {
 
 entry_kept : (epoch : ℕ) (o : Option Ready) (p : Projected) → (applied epoch o p).entry ≡ p.entry
 entry_kept epoch None p = refl
-entry_kept epoch (Some r) p = refl
+entry_kept epoch (Some r) p = by r.marks
+  where
+    by : (o : Option Places) → (deleted_from epoch o p).entry ≡ p.entry
+    by None = refl
+    by (Some places) = refl
 
 parts_kept : (epoch : ℕ) (os : List (Option Ready)) (ps : List Projected) → map (λ p. p.entry) (all_applied epoch os ps) ≡ map (λ p. p.entry) ps
 parts_kept epoch [] ps = refl

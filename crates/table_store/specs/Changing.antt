@@ -14,10 +14,10 @@ use Rattle.proj_store.specs.Marking.{Places, IsPrepared, CanMark, with_marks}
 use Rattle.folder_model.specs.Projections.{ordinals}
 use Rattle.sound_laws.specs.Moves.{change_at}
 
--- rows that come, and the places of rows that are deleted
+-- rows that come, and the places of rows that are deleted, if any are asked for
 pub record Ready : Type 0 where
   pub rows : List (List Value)
-  pub marks : Places
+  pub marks : Option Places
 
 -- the rows that a projection gets: those of the table itself where it takes them, or rows of its own
 abbrev pub coming : Bool → List (List Value) → List (List Value) → List (List Value)
@@ -49,20 +49,34 @@ AreWhole rows p = map (λ row. projected row (ordinals p.entry)) rows ≡ rows
 abbrev pub AreWholeAt : List (List Value) → List Projected → ℕ → Type 0
 AreWholeAt rows ps i = (p : Projected) → p ≡ slice_index_or ps i p → AreWhole rows p
 
+-- a projection whose rows at some places are deleted, if any are asked for
+abbrev pub deleted_from : ℕ → Option Places → Projected → Projected
+deleted_from epoch None p = p
+deleted_from epoch (Some places) p = with_marks epoch places p
+
 -- a projection after a commit; nothing is done to one that isn't up to date
 abbrev pub applied : ℕ → Option Ready → Projected → Projected
 applied epoch None p = p
-applied epoch (Some r) p = with_rows (map (inserted_at epoch) r.rows) (with_marks epoch r.marks p)
+applied epoch (Some r) p = with_rows (map (inserted_at epoch) r.rows) (deleted_from epoch r.marks p)
 
--- there is room for the rows and the marks
+-- there is room for the marks, and for them and the rows
+abbrev pub CanDelete : Option Places → Loaded → Type 0
+CanDelete None p = Unit {0}
+CanDelete (Some places) p = CanMark places p
+
 abbrev pub CanApply : Option Ready → Loaded → Type 0
 CanApply None p = Unit {0}
-CanApply (Some r) p = CanMark r.marks p × (length r.rows ≤ p.spare)
+CanApply (Some r) p = CanDelete r.marks p × (length r.rows ≤ p.spare)
+
+-- these rows are deleted: there is none, or their places are found
+abbrev pub AreFound : Contents → Projected → List Asked → Option Places → Type 0
+AreFound m p wanted None = wanted ≡ []
+AreFound m p wanted (Some places) = IsPrepared m p wanted places
 
 -- for these rows and deletes of the table, with the projection's columns
 pub record IsReadyWith (m : Contents) (rows : List (List Value)) (deletes : List Asked) (p : Projected) (r : Ready) : Type 0 where
   pub rows_are : r.rows ≡ map (λ row. projected row (ordinals p.entry)) rows
-  pub marks_are : IsPrepared m p (map (asked_on (ordinals p.entry)) deletes) r.marks
+  pub marks_are : AreFound m p (map (asked_on (ordinals p.entry)) deletes) r.marks
 
 pub record IsReady (m : Contents) (rows : List (List Value)) (deletes : List Asked) (p : Projected) (o : Option Ready) : Type 0 where
   pub fresh : OnTrue p.entry.fresh (IsSomeAnd o (IsReadyWith m rows deletes p))

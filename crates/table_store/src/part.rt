@@ -9,7 +9,7 @@ ghost use Rattle.col_value.specs.Order.{IsRow, projected};
 ghost use Rattle.col_value.specs.declared.value.Value.TheVariants.{Null};
 ghost use Rattle.row_history.specs.History.{asked_on};
 ghost use Rattle.folder_model.specs.Projections.{ordinals};
-ghost use Rattle.table_store.specs.Changing.{applied, coming, in_order, with_coming, AreWhole, CanApply, IsReady};
+ghost use Rattle.table_store.specs.Changing.{applied, coming, deleted_from, in_order, with_coming, AreFound, AreWhole, CanApply, CanDelete, IsReady};
 ghost use Rattle.col_disk.specs.Faults.{IsUnblamed};
 ghost use Rattle.table_store.specs.Faults.{IsReadable};
 
@@ -20,11 +20,11 @@ use proj_store::{Marks, ProjStore, ReadyRows};
 use std::alloc::{AllocError, Global};
 use std::marker::Model;
 
-/// What a commit does to a projection: rows that come, and the places of rows that are deleted.
+/// What a commit does to a projection: rows that come, and the places of rows that are deleted, if any are asked for.
 #[derive(Drop)]
 pub struct ReadyPart {
     rows: ReadyRows,
-    marks: Marks,
+    marks: Option<Marks>,
 }
 
 impl Model for ReadyPart {
@@ -136,6 +136,35 @@ fn rows_for(
     store.prepare_rows(own)
 }
 
+/// Finds the rows that are deleted, and makes room for their marks. Where none is asked for, no row is looked at.
+fn marks_for<D: Disk>(
+    alloc: Global,
+    disk: &mut D,
+    store: &mut ProjStore,
+    deletes: &[Asked],
+) -> Result<Option<Marks>, StoreFault>
+    ensures found { IfOk result (λ o. (m : Contents) → D.holds disk.old ≡ Some m → AreFound m store.old.stored (map (asked_on (ordinals store.old.stored.entry)) deletes.now) o) }
+    ensures ready { IfOk result (λ o. CanDelete o store.new) }
+    ensures stored { store.new.stored ≡ store.old.stored }
+    ensures spare { store.new.spare ≡ store.old.spare }
+    ensures unblamed { IfErr result (λ fault. (m : Contents) → D.holds disk.old ≡ Some m → store.old.stored.entry.fresh ≡ true → IsReadable m store.old.stored → IsUnblamed fault) }
+    ensures kept { D.holds disk.new ≡ D.holds disk.old }
+    ensures moved { Moved ⟦<D as Disk>⟧ NoName NoName disk.old disk.new }
+    ensures cause { HasCause StoreFault.Disk (D.faults disk.old) (D.faults disk.new) result }
+{
+    if deletes.is_empty() {
+        return Ok(None);
+    }
+    let wanted = match deletes_on(alloc, deletes, store.entry()) {
+        Ok(wanted) => wanted,
+        Err(AllocError) => return Err(StoreFault::Memory),
+    };
+    match store.prepare_marks(alloc, disk, wanted) {
+        Ok(marks) => Ok(Some(marks)),
+        Err(fault) => Err(fault),
+    }
+}
+
 /// Makes ready what a commit of these rows and deletes of the table does to a projection; nothing changes but the room. Where it `takes` the
 /// rows of the table themselves, these come later.
 pub fn prepare_part<D: Disk>(
@@ -159,11 +188,7 @@ pub fn prepare_part<D: Disk>(
     if !store.entry().fresh {
         return Ok(None);
     }
-    let wanted = match deletes_on(alloc, deletes, store.entry()) {
-        Ok(wanted) => wanted,
-        Err(AllocError) => return Err(StoreFault::Memory),
-    };
-    let marks = match store.prepare_marks(alloc, disk, wanted) {
+    let marks = match marks_for(alloc, disk, store, deletes) {
         Ok(marks) => marks,
         Err(fault) => return Err(fault),
     };
@@ -187,6 +212,18 @@ pub fn with_coming(ready: Option<ReadyPart>, rows: Vec<Row>) -> Option<ReadyPart
     }
 }
 
+/// Marks the rows that are deleted. It takes no memory.
+fn apply_marks(store: &mut ProjStore, marks: Option<Marks>, epoch: u64)
+    requires { CanDelete marks store.old }
+    ensures stored { store.new.stored ≡ deleted_from epoch marks store.old.stored }
+    ensures spare { store.new.spare ≡ store.old.spare }
+{
+    match marks {
+        Some(marks) => store.apply_marks(marks, epoch),
+        None => {}
+    }
+}
+
 /// Does to a projection what was made ready, at an epoch. It takes no memory.
 pub fn apply_part(store: &mut ProjStore, ready: Option<ReadyPart>, epoch: u64)
     requires { CanApply ready store.old }
@@ -194,7 +231,7 @@ pub fn apply_part(store: &mut ProjStore, ready: Option<ReadyPart>, epoch: u64)
 {
     match ready {
         Some(ReadyPart { rows, marks }) => {
-            store.apply_marks(marks, epoch);
+            apply_marks(store, marks, epoch);
             store.apply_rows(rows, epoch);
         }
         None => {}

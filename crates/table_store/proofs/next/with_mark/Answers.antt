@@ -1,6 +1,5 @@
 use Rattle.catalog_types.specs.Valid.{IsValid}
-use Rattle.std.proofs.Common.{◌≡◌, ◌≤◌, List, arith, subst}
-use Rattle.catalog_types.specs.declared.catalogue.Table as kept
+use Rattle.std.proofs.Common.{◌≡◌, arith, subst}
 use Rattle.catalog_laws.specs.Going.{HaveReached}
 use Rattle.table_store.specs.Creating.{with_mark}
 use Rattle.table_store.proofs.Nexts.{one_ok, mark_put}

@@ -1,5 +1,4 @@
-use Rattle.std.proofs.Common.{◌≡◌, ◌<◌, ◌∙◌, length, sym, ap, subst, arith}
-use Rattle.catalog_types.specs.declared.catalogue.Catalogue.{Catalogue}
+use Rattle.std.proofs.Common.{◌≡◌, ◌∙◌, sym, subst}
 use Rattle.catalog_types.specs.Valid.{IsValid}
 use Rattle.table_store.proofs.Nexts.{both_ok, one_ok, IsValidAt, table_joined, table_within}
 use Rattle.table_store.specs.Creating.{with_table}
