@@ -5,7 +5,8 @@ use Rattle.common_laws.specs.Told.{Appends, AppendsFront}
 use Rattle.col_disk.specs.Moved.{ImageOf}
 use Rattle.col_disk.specs.declared.disk.Disk.{Ghosts}
 use Rattle.db_model.specs.Database.{Database}
-use Rattle.db_model.specs.Epochs.{cut}
+use Rattle.db_model.specs.Epochs.{cut, last_good}
+use Rattle.db_model.specs.State.{State, idle_sessions}
 use Rattle.folder_model.specs.Reopening.{Reopens}
 use Rattle.store_opening.specs.Opening.{IsStill}
 use Rattle.catch_model.specs.Caught.{later_mark, IsCaughtUp}
@@ -30,10 +31,24 @@ code_of LinkStatus.Memory = 7
 abbrev pub ReopensCaughtUp : Database → Database → Contents → Type 0
 ReopensCaughtUp a b x = (d : Database) × IsCaughtUp (later_mark a b) d b × Reopens x (cut b.last d)
 
+-- a folder reopens to what it was, cut at its newest epoch, or to a database that has caught up
+abbrev pub ReopensEither : Database → Database → Contents → Type 0
+ReopensEither a b x = Reopens x (cut a.last a) ⊎ ReopensCaughtUp a b x
+
+-- a folder was opened: no session has changes, and all data is on disk up to the newest epoch
+pub record IsOpened (a : State) : Type 0 where
+  pub idle : a.sessions ≡ idle_sessions
+  pub good : last_good a.database ≡ a.database.last
+
 -- What a crash leaves of the folder behind at any moment: what it would have left before the opening had synced, or it reopens to what it was, cut at its newest epoch, or
 -- to a database that has caught up.
 abbrev pub IsOnTheWay : {D : Type 0} → Ghosts D → D → Database → Database → Contents → Type 0
-IsOnTheWay disk old a b x = IsStill disk old a x ⊎ (Reopens x (cut a.last a) ⊎ ReopensCaughtUp a b x)
+IsOnTheWay disk old a b x = IsStill disk old a x ⊎ ReopensEither a b x
+
+-- What a crash leaves of the folder ahead at any moment: what it would have left before the opening had synced, or it reopens to what it was, or to that cut at its newest
+-- epoch.
+abbrev pub IsStillOrCut : {D : Type 0} → Ghosts D → D → Database → Contents → Type 0
+IsStillOrCut disk old b x = IsStill disk old b x ⊎ Reopens x (cut b.last b)
 
 -- whatever a crash leaves of the folder behind reopens to a database that has caught up
 abbrev pub HasCaughtUp : {D : Type 0} → Ghosts D → D → Database → Database → Type 0
@@ -65,6 +80,16 @@ pub record BringsUp {D : Type 0} (disk : Ghosts D) (now : D) (a b : Database) (r
   pub done : IfOk result (λ r. (r ≡ brought a.last b.last b.last) × HasCaughtUp disk now a b)
   pub stopped : IfErr result (StopsBy a b)
 
+-- a sink failed, or memory was short
+abbrev pub IsSinkStop : LinkStatus → Type 0
+IsSinkStop LinkStatus.Done = ⊥
+IsSinkStop LinkStatus.Refused = ⊥
+IsSinkStop LinkStatus.Usage = ⊥
+IsSinkStop LinkStatus.SinkFault = Unit {0}
+IsSinkStop LinkStatus.DiskFault = ⊥
+IsSinkStop (LinkStatus.Damaged name) = ⊥
+IsSinkStop LinkStatus.Memory = Unit {0}
+
 -- the line that tells how far it came
 abbrev pub done_text : Database → Database → List ℕ
 done_text a b = caught_text a.last b.last b.last
@@ -76,6 +101,30 @@ TellsRefusal a b before after = (fault : LinkFault) × IsToldRefusal a b fault �
 -- or a front of one of these lines
 abbrev pub TellsFront : Database → Database → Option (List ℕ) → Option (List ℕ) → Type 0
 TellsFront a b before after = AppendsFront before after (done_text a b) ⊎ ((fault : LinkFault) × IsToldRefusal a b fault × AppendsFront before after (refusal_text fault))
+
+-- the sink took a line, or a front of it
+abbrev pub IsToldBy : LinkStatus → List ℕ → Option (List ℕ) → Option (List ℕ) → Type 0
+IsToldBy LinkStatus.Done text before after = ⊥
+IsToldBy LinkStatus.Refused text before after = Appends before after text
+IsToldBy LinkStatus.Usage text before after = ⊥
+IsToldBy LinkStatus.SinkFault text before after = AppendsFront before after text
+IsToldBy LinkStatus.DiskFault text before after = ⊥
+IsToldBy (LinkStatus.Damaged name) text before after = ⊥
+IsToldBy LinkStatus.Memory text before after = (after ≡ before) ⊎ AppendsFront before after text
+
+-- how a catch-up ends that didn't come to its end
+abbrev pub StopEnds : LinkStatus → Database → Database → Option (List ℕ) → Option (List ℕ) → Type 0
+StopEnds LinkStatus.Done a b before after = ⊥
+StopEnds LinkStatus.Refused a b before after = TellsRefusal a b before after
+StopEnds LinkStatus.Usage a b before after = ⊥
+StopEnds LinkStatus.SinkFault a b before after = TellsFront a b before after
+StopEnds LinkStatus.DiskFault a b before after = after ≡ before
+StopEnds (LinkStatus.Damaged name) a b before after = ⊥
+StopEnds LinkStatus.Memory a b before after = (after ≡ before) ⊎ TellsFront a b before after
+
+-- a disk failed
+abbrev pub IsDiskFault : LinkFault → Type 0
+IsDiskFault fault = (fault ≡ BehindDisk) ⊎ (fault ≡ AheadDisk)
 
 -- How a catch-up of two folders ends, by its status: the folder behind reopened to `a` and the one ahead to `b`.
 abbrev pub LinkEnds : LinkStatus → {D : Type 0} → Ghosts D → D → Database → Database → Option (List ℕ) → Option (List ℕ) → Type 0

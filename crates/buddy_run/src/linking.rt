@@ -3,21 +3,23 @@
 ghost use Rattle.std.specs.Prelude.{ℕ, ◌≡◌, ◌≢◌, ◌≤◌, ◌⊎◌, length, Some, IfOk, IfErr, OnOk, IsErrOf};
 ghost use Rattle.common_laws.specs.Causes.{HasCause, Rose};
 ghost use Rattle.common_laws.specs.Maps.{Contents};
-ghost use Rattle.col_disk.specs.Moved.{Leaves};
+ghost use Rattle.common_laws.specs.Told.{Appends, AppendsFront};
+ghost use Rattle.col_disk.specs.Moved.{Leaves, Moved, NoName};
 ghost use Rattle.db_model.specs.Database.{Database};
-ghost use Rattle.db_model.specs.State.{opened_with};
+ghost use Rattle.db_model.specs.State.{State, opened_with};
 ghost use Rattle.folder_model.specs.Reopening.{Reopens};
 ghost use Rattle.store_core.specs.Running.{IsState};
 ghost use Rattle.store_opening.specs.Opening.{IsStill};
 ghost use Rattle.buddy_run.specs.declared.status.LinkStatus.TheVariants.{Usage as usage, SinkFault as sink_fault, DiskFault as disk_fault};
 ghost use Rattle.buddy_link.specs.Linking.{IsShort};
-ghost use Rattle.buddy_run.specs.Ends.{BringsUp, IsOnTheWay, LinkEnds};
+ghost use Rattle.catch_text.specs.Lines as lines;
+ghost use Rattle.buddy_run.specs.Ends.{BringsUp, IsOnTheWay, IsOpened, IsSinkStop, IsStillOrCut, LinkEnds, ReopensEither, StopsBy, IsToldBy, StopEnds, IsDiskFault};
 
 use crate::status::LinkStatus;
 use buddy_link::{Link, LinkFault};
-use catch_text::{caught_text, refusal_text};
 use col_disk::{Disk, StoreFault};
 use col_io::{Sink, SinkFault, write_all};
+use catch_text::{caught_text, refusal_text};
 use std::alloc::{AllocError, Global};
 use store_core::Store;
 
@@ -58,6 +60,39 @@ fn open_ahead<B: Disk>(alloc: Global, ahead: &mut B) -> Result<Store, LinkFault>
     }
 }
 
+/// A store over the folder behind is brought up to one over the folder ahead.
+fn follow<A: Disk, B: Disk>(
+    alloc: Global,
+    store: &mut Store,
+    behind: &mut A,
+    source: &Store,
+    ahead: &mut B,
+) -> Result<Brought, LinkFault>
+    ensures brings { (a b : State) → IsState ⟦<A as Disk>⟧ store.old behind.old a → IsState ⟦<B as Disk>⟧ source.now ahead.old b → IsOpened a → BringsUp ⟦<A as Disk>⟧ behind.new a.database b.database result }
+    ensures any_moment { (a b : State) → IsState ⟦<A as Disk>⟧ store.old behind.old a → IsState ⟦<B as Disk>⟧ source.now ahead.old b → IsOpened a → Leaves ⟦<A as Disk>⟧ (ReopensEither a.database b.database) behind.old behind.new }
+    ensures ahead_moved { Moved ⟦<B as Disk>⟧ NoName NoName ahead.old ahead.new }
+    ensures behind_cause { HasCause LinkFault.BehindDisk (A.faults behind.old) (A.faults behind.new) result }
+    ensures ahead_cause { HasCause LinkFault.AheadDisk (B.faults ahead.old) (B.faults ahead.new) result }
+{
+    let first = store.last();
+    let mut link = match Link::begin(alloc, store, behind, source, ahead) {
+        Ok(link) => link,
+        Err(fault) => return Err(fault),
+    };
+    let second = match link.historical(alloc, store, behind) {
+        Ok(second) => second,
+        Err(fault) => return Err(fault),
+    };
+    match link.current(alloc, store, behind, source, ahead) {
+        Ok(last) => Ok(Brought {
+            first,
+            second,
+            last,
+        }),
+        Err(fault) => Err(fault),
+    }
+}
+
 /// The folder behind is brought up to the folder ahead.
 fn bring_up<A: Disk, B: Disk>(
     alloc: Global,
@@ -66,7 +101,7 @@ fn bring_up<A: Disk, B: Disk>(
 ) -> Result<Brought, LinkFault>
     ensures brings { (m n : Contents) (a b : Database) → A.holds behind.old ≡ Some m → Reopens m a → B.holds ahead.old ≡ Some n → Reopens n b → BringsUp ⟦<A as Disk>⟧ behind.new a b result }
     ensures any_moment { (m n : Contents) (a b : Database) → A.holds behind.old ≡ Some m → Reopens m a → B.holds ahead.old ≡ Some n → Reopens n b → Leaves ⟦<A as Disk>⟧ (IsOnTheWay ⟦<A as Disk>⟧ behind.old a b) behind.old behind.new }
-    ensures ahead_stays { (n : Contents) (b : Database) → B.holds ahead.old ≡ Some n → Reopens n b → Leaves ⟦<B as Disk>⟧ (IsStill ⟦<B as Disk>⟧ ahead.old b) ahead.old ahead.new }
+    ensures ahead_stays { (n : Contents) (b : Database) → B.holds ahead.old ≡ Some n → Reopens n b → Leaves ⟦<B as Disk>⟧ (IsStillOrCut ⟦<B as Disk>⟧ ahead.old b) ahead.old ahead.new }
     ensures behind_cause { HasCause LinkFault.BehindDisk (A.faults behind.old) (A.faults behind.new) result }
     ensures ahead_cause { HasCause LinkFault.AheadDisk (B.faults ahead.old) (B.faults ahead.new) result }
 {
@@ -78,44 +113,42 @@ fn bring_up<A: Disk, B: Disk>(
         Ok(source) => source,
         Err(fault) => return Err(fault),
     };
-    let first = store.last();
-    let mut link = match Link::begin(alloc, &store, behind, &source, ahead) {
-        Ok(link) => link,
-        Err(fault) => return Err(fault),
-    };
-    let second = match link.historical(alloc, &mut store, behind) {
-        Ok(second) => second,
-        Err(fault) => return Err(fault),
-    };
-    match link.current(alloc, &mut store, behind, &source, ahead) {
-        Ok(last) => Ok(Brought {
-            first,
-            second,
-            last,
-        }),
-        Err(fault) => Err(fault),
-    }
+    follow(alloc, &mut store, behind, &source, ahead)
 }
 
-/// Writes a line, and answers a status.
-fn tell<S: Sink>(out: &mut S, text: &[u8], status: LinkStatus) -> LinkStatus {
+/// Writes a line. After a fault a front of it was taken.
+fn tell<S: Sink>(out: &mut S, text: &[u8]) -> Result<(), LinkStatus>
+    ensures whole { OnOk result (Appends (S.taken out.old) (S.taken out.new) text.now) }
+    ensures front { IfErr result (λ status. IsSinkStop status × AppendsFront (S.taken out.old) (S.taken out.new) text.now) }
+    ensures sink { IsErrOf result sink_fault → Rose (S.faults out.old) (S.faults out.new) }
+{
     match write_all(out, text) {
-        Ok(()) => status,
-        Err(SinkFault::Failed) => LinkStatus::SinkFault,
-        Err(SinkFault::Memory) => LinkStatus::Memory,
+        Ok(()) => Ok(()),
+        Err(SinkFault::Failed) => Err(LinkStatus::SinkFault),
+        Err(SinkFault::Memory) => Err(LinkStatus::Memory),
     }
 }
 
 /// Writes why the catch-up is refused.
-fn tell_refusal<S: Sink>(alloc: Global, out: &mut S, fault: &LinkFault) -> LinkStatus {
+fn tell_refusal<S: Sink>(alloc: Global, out: &mut S, fault: &LinkFault) -> LinkStatus
+    ensures tells { IsToldBy result (lines.refusal_text fault.now) (S.taken out.old) (S.taken out.new) }
+    ensures sink { result ≡ sink_fault → Rose (S.faults out.old) (S.faults out.new) }
+{
     match refusal_text(alloc, fault) {
-        Ok(text) => tell(out, text.as_slice(), LinkStatus::Refused),
+        Ok(text) => match tell(out, text.as_slice()) {
+            Ok(()) => LinkStatus::Refused,
+            Err(status) => status,
+        },
         Err(AllocError) => LinkStatus::Memory,
     }
 }
 
 /// The status of a catch-up that didn't come to its end; why it is refused is written.
-fn stopped<S: Sink>(alloc: Global, out: &mut S, fault: &LinkFault) -> LinkStatus {
+fn stopped<S: Sink>(alloc: Global, out: &mut S, fault: &LinkFault) -> LinkStatus
+    ensures ends { (a b : Database) → StopsBy a b fault.now → StopEnds result a b (S.taken out.old) (S.taken out.new) }
+    ensures sink { result ≡ sink_fault → Rose (S.faults out.old) (S.faults out.new) }
+    ensures disk { result ≡ disk_fault → IsDiskFault fault.now }
+{
     match fault {
         LinkFault::BehindDisk | LinkFault::AheadDisk => LinkStatus::DiskFault,
         LinkFault::Damaged(name) => LinkStatus::Damaged(*name),
@@ -144,7 +177,7 @@ pub fn link<S: Sink, A: Disk, B: Disk>(
     ensures idle { length words.now ≢ 3 → (result ≡ usage) × (behind.new ≡ behind.old) × (ahead.new ≡ ahead.old) × (out.new ≡ out.old) }
     ensures ends { (m n : Contents) (a b : Database) → length words.now ≡ 3 → A.holds behind.old ≡ Some m → Reopens m a → B.holds ahead.old ≡ Some n → Reopens n b → LinkEnds result ⟦<A as Disk>⟧ behind.new a b (S.taken out.old) (S.taken out.new) }
     ensures any_moment { (m n : Contents) (a b : Database) → A.holds behind.old ≡ Some m → Reopens m a → B.holds ahead.old ≡ Some n → Reopens n b → Leaves ⟦<A as Disk>⟧ (IsOnTheWay ⟦<A as Disk>⟧ behind.old a b) behind.old behind.new }
-    ensures ahead_stays { (n : Contents) (b : Database) → B.holds ahead.old ≡ Some n → Reopens n b → Leaves ⟦<B as Disk>⟧ (IsStill ⟦<B as Disk>⟧ ahead.old b) ahead.old ahead.new }
+    ensures ahead_stays { (n : Contents) (b : Database) → B.holds ahead.old ≡ Some n → Reopens n b → Leaves ⟦<B as Disk>⟧ (IsStillOrCut ⟦<B as Disk>⟧ ahead.old b) ahead.old ahead.new }
     ensures sink { result ≡ sink_fault → Rose (S.faults out.old) (S.faults out.new) }
     ensures fault { result ≡ disk_fault → Rose (A.faults behind.old) (A.faults behind.new) ⊎ Rose (B.faults ahead.old) (B.faults ahead.new) }
 {
@@ -152,14 +185,15 @@ pub fn link<S: Sink, A: Disk, B: Disk>(
         return LinkStatus::Usage;
     }
     match bring_up(alloc, behind, ahead) {
-        Ok(
-            Brought {
-                first,
-                second,
-                last,
+        Ok(Brought {
+            first,
+            second,
+            last,
+        }) => match caught_text(alloc, first, second, last) {
+            Ok(text) => match tell(out, text.as_slice()) {
+                Ok(()) => LinkStatus::Done,
+                Err(status) => status,
             },
-        ) => match caught_text(alloc, first, second, last) {
-            Ok(text) => tell(out, text.as_slice(), LinkStatus::Done),
             Err(AllocError) => LinkStatus::Memory,
         },
         Err(fault) => stopped(alloc, out, &fault),
