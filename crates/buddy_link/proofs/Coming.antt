@@ -1,6 +1,6 @@
 -- A replay from one epoch to the next, over a running store.
-use Rattle.std.proofs.Common.{◌≡◌, ◌+◌, ◌≤◌, inl, inr, ℕ, List, [], refl, sym, ap, ◌∙◌, arith, subst}
-use Rattle.std.specs.Prelude.{true, Result, Ok, Err, IsErrOf}
+use Rattle.std.proofs.Common.{◌≡◌, ◌+◌, ◌≤◌, inl, inr, ℕ, [], refl, sym, ◌∙◌, arith, subst}
+use Rattle.std.specs.Prelude.{true, false, not, Bool, Result, Ok, Err, IsErrOf}
 use Rattle.common_laws.specs.Maps.{Contents}
 use Rattle.col_disk.specs.Faults.{IsUnblamed}
 use Rattle.col_disk.specs.Moved.{Leaves}
@@ -16,10 +16,11 @@ use Rattle.db_model.specs.State.{State}
 use Rattle.folder_model.specs.Reopening.{Reopens}
 use Rattle.store_commit.specs.Making.{ReopensToEither}
 use Rattle.table_store.proofs.Standing.{reads_only}
-use Rattle.store_core.specs.Events.{BeforeOrAfter, Does, ReopensTo}
+use Rattle.store_core.specs.Events.{BeforeOrAfter, Does}
 use Rattle.store_core.specs.Running.{Running, IsState}
 use Rattle.store_core.specs.Sessions.{with_own}
 use Rattle.catch_model.specs.Added.{has_change}
+use Rattle.catch_model.specs.Refused.{is_gap, NoEpoch}
 use Rattle.catch_model.specs.declared.fault.LinkFault.{LinkFault}
 use Rattle.catch_model.specs.declared.fault.LinkFault.TheVariants as link
 use Rattle.catch_laws.specs.Replay.{IsAt}
@@ -49,7 +50,7 @@ still_leaves disk r now s here =
 
 -- ---- one epoch
 
-abbrev memory : Result (Unit {0}) LinkFault
+abbrev pub memory : Result (Unit {0}) LinkFault
 memory = Err link.Memory
 
 -- where it couldn't become pending
@@ -77,7 +78,7 @@ replayed_ok = Ok tt
 abbrev commit_failed : StoreFault → Result (Unit {0}) StoreFault
 commit_failed f = Err f
 
-abbrev replay_failed : LinkFault → Result (Unit {0}) LinkFault
+abbrev pub replay_failed : LinkFault → Result (Unit {0}) LinkFault
 replay_failed f = Err f
 
 -- where it was committed
@@ -89,14 +90,14 @@ comes_committed disk old new mark n start b was is good sound le some pended doe
     let at : IsAt mark start b (n + 1) (changes_committed s) = pends_commit mark start b n s pended.here.sound sound le pended.pends some in
     record {
       done = (changes_committed s, subst (λ (t : State). IsState disk is new t) did.done.1 did.done.2, at);
-      short = λ wants. absurd wants;
+      short = λ wants. absurd (cc);
       fault = tt;
       any_moment = leaves_wider disk (λ x reopens. commit_leaves mark n start b s x good pended.pends.at at reopens) did.any_moment;
     }
 
 -- where the commit failed
 pub comes_failed : {D : Type 0} (disk : Ghosts D) (old new : D) → Drops disk → (mark n : ℕ) (start b : Database) (was left is : Running) (f : StoreFault) → last_good start ≡ start.last → IsSoundDatabase b → mark ≤ n → has_change b (n + 1) ≡ true → IsPended disk mark start b n b.tables was old
-    → ((state : State) → IsState disk was old state → Does disk store.Memory was left old new (commit_failed f) state (λ after. after ≡ changes_committed state)) → ((state : State) → IsState disk was old state → IsUnblamed f) → is ≡ with_own [] left
+    → ((state : State) → IsState disk was old state → Does disk store.Memory was left old new (commit_failed f) state (λ after. after ≡ changes_committed state)) → ((state : State) → IsState disk was old state → IsUnblamed f) → is ≡ with_own [] was
     → Comes disk mark start b n (n + 1) is old new (replay_failed (behind_fault f))
 comes_failed {D} disk old new drops mark n start b was left is f good sound le some pended does unblamed same = record {
   done = tt;
@@ -117,10 +118,10 @@ comes_failed {D} disk old new drops mark n start b was left is f good sound le s
     Short : LinkFault → Type 0
     Short g = IsErrOf (replay_failed g) link.Memory → (k : ℕ) × (n ≤ k) × (k ≤ n + 1) × (t : State) × IsState disk is new t × IsAt mark start b k t
 
-    by : (g : StoreFault) → (IsErrOf (commit_failed g) store.Memory → IsState disk left new pended.state) → Short (behind_fault g)
+    by : (g : StoreFault) → (IsErrOf (commit_failed g) store.Memory → IsState disk was new pended.state) → Short (behind_fault g)
     by store.Disk undone wants = absurd (cc)
     by (store.Damaged q) undone wants = absurd (cc)
-    by store.Memory undone wants = (n, omega arith, omega arith, changes_dropped pended.state, subst (λ (r : Running). IsState disk r new (changes_dropped pended.state)) (sym same) (drops new left pended.state (undone refl)), pended.pends.at)
+    by store.Memory undone wants = (n, omega arith, omega arith, changes_dropped pended.state, subst (λ (r : Running). IsState disk r new (changes_dropped pended.state)) (sym same) (drops new was pended.state (undone refl)), pended.pends.at)
 
     blamed : (g : StoreFault) → IsUnblamed g → IsShortBehind (behind_fault g)
     blamed store.Disk ok = tt
@@ -133,7 +134,7 @@ comes_failed {D} disk old new drops mark n start b was left is f good sound le s
 pub comes_none : {D : Type 0} (disk : Ghosts D) (now : D) (mark n : ℕ) (start b : Database) (r : Running) (s : State) → last_good start ≡ start.last → IsState disk r now s → IsAt mark start b n s → Comes disk mark start b n n r now now replayed_ok
 comes_none disk now mark n start b r s good here at = record {
   done = (s, here, at);
-  short = λ wants. absurd wants;
+  short = λ wants. absurd (cc);
   fault = tt;
   any_moment = leaves_wider disk (λ x reopens. at_reopens mark n start b s x at good reopens) (still_leaves disk r now s here);
 }
@@ -146,10 +147,33 @@ comes_joined disk old mid new mark from middle upto start b was is result le fir
     let then = second s at here in
     record {
       done = then.done;
-      short = λ wants. let (k, low, high, more) = then.short wants in (k, further k low, high, more);
+      short = λ wants. let (k, low, high, t, there, come) = then.short wants in (k, further k low, high, t, there, come);
       fault = then.fault;
       any_moment = leaves_join disk first.any_moment then.any_moment;
     }
   where
     further : (k : ℕ) → middle ≤ k → from ≤ k
     further k low = omega (arith, le, low)
+
+-- one of them was the last that could be tried
+pub comes_stopped : {D : Type 0} (disk : Ghosts D) (old new : D) (mark from upto last : ℕ) (start b : Database) (is : Running) (f : LinkFault) → upto ≤ last → Comes disk mark start b from upto is old new (replay_failed f) → Comes disk mark start b from last is old new (replay_failed f)
+comes_stopped disk old new mark from upto last start b is f le comes = record {
+  done = tt;
+  short = λ wants. let (k, low, high, t, there, come) = comes.short wants in (k, low, within k high, t, there, come);
+  fault = comes.fault;
+  any_moment = comes.any_moment;
+}
+  where
+    within : (k : ℕ) → k ≤ upto → k ≤ last
+    within k high = omega (arith, le, high)
+
+-- an epoch that comes changed something
+pub some_change : (after last n : ℕ) (b : Database) → NoEpoch (is_gap b) after last → after ≤ n → n + 1 ≤ last → has_change b (n + 1) ≡ true
+some_change after last n b no_gap low high = by (has_change b (n + 1)) (no_gap (n + 1) (omega (arith, low)) high)
+  where
+    by : (x : Bool) → not x ≡ false → x ≡ true
+    by true is = refl
+    by false is = absurd (cc)
+
+pub comes_upto : {D : Type 0} (disk : Ghosts D) (old new : D) (mark from upto last : ℕ) (start b : Database) (is : Running) → upto ≡ last → Comes disk mark start b from upto is old new replayed_ok → Comes disk mark start b from last is old new replayed_ok
+comes_upto disk old new mark from upto last start b is same comes = subst (λ (k : ℕ). Comes disk mark start b from k is old new replayed_ok) same comes

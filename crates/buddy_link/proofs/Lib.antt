@@ -1,5 +1,9 @@
 pub mod Pended
 pub mod Coming
 pub mod Moved
+pub mod Stays
+pub mod Named
+pub mod Compared
+pub mod Begun
 pub mod Telling
 pub mod Replayed

@@ -1,25 +1,20 @@
 -- A moveout of all behind a replay: no row changes, and what is on disk reaches the epoch of the start or the newest one.
-use Rattle.std.proofs.Common.{◌≡◌, ◌+◌, ◌≤◌, ◌<◌, inl, inr, ℕ, zero, suc, Bool, true, false, cond, List, [], ◌∷◌, map, filter, length, Option, Some, None, refl, sym, ap, ◌∙◌, arith, subst}
-use Rattle.std.specs.Prelude.{min, fold, nat_lt, option_map, ◌⊎◌, ◌&&◌}
+use Rattle.std.proofs.Common.{◌≡◌, ◌≤◌, inl, inr, ℕ, zero, suc, Bool, true, false, cond, List, [], ◌∷◌, map, filter, length, Option, Some, None, refl, sym, ap, ◌∙◌, arith, subst}
+use Rattle.std.specs.Prelude.{min, fold, option_map, ◌⊎◌}
 use Rattle.std.specs.Bool.{OnTrue}
 use Rattle.std.specs.List.{All}
-use Rattle.std.proofs.lemmas.Bool.Decides.{nat_tests}
-use Rattle.std.proofs.lemmas.List.Elements.{All-cons, All-filter, All-head, All-nil, All-tail, All-weaker, filter_passes}
+use Rattle.std.proofs.lemmas.List.Elements.{All-cons, All-head, All-nil, All-tail, All-weaker}
 use Rattle.common_laws.specs.Bags.{SameBag}
-use Rattle.common_laws.specs.Maps.{Contents}
-use Rattle.common_laws.proofs.Truths.{and_true}
-use Rattle.col_value.specs.declared.column.Column.{Column}
 use Rattle.col_value.specs.declared.row.Stamped.{Stamped}
-use Rattle.db_model.specs.Database.{Database, Shape, Table, is_behind, table_named}
+use Rattle.db_model.specs.Database.{Database, Shape, Table, table_named}
 use Rattle.db_model.specs.Epochs.{all_shapes, cut, cut_table, last_good, least_or}
-use Rattle.db_model.specs.Mover.{behind, first_behind, given_up, moved_one, reached_to, MovesAll, MovesFirst, MovesOut}
-use Rattle.db_model.specs.Numbers.{IsDrawn}
+use Rattle.db_model.specs.Mover.{behind, first_behind, given_up, reached_to, MovesAll, MovesFirst, MovesOut}
 use Rattle.db_model.specs.Sound.{ReachesMark, IsSoundDatabase, IsSoundShape, IsSoundTable}
-use Rattle.db_model.specs.State.{Changes, State}
-use Rattle.db_laws.proofs.Goods.{good_itself, shapes_apart, shapes_joined, IsGood, Reaches, TableReaches}
+use Rattle.db_model.specs.State.{State}
+use Rattle.db_laws.proofs.Goods.{good_itself, shapes_apart, shapes_joined, Reaches, TableReaches}
 use Rattle.sound_laws.specs.Moves.{change_at, reached_in}
 use Rattle.state_laws.proofs.Tables.{map_named}
-use Rattle.store_core.proofs.Placed.{all_change, count_moved, cut_moved, first_moved, moved_last, sound_moved, MovedAt}
+use Rattle.store_core.proofs.Placed.{all_change, cut_moved, first_moved, moved_last, sound_moved, MovedAt}
 use Rattle.store_core.specs.Cuts.{IsKept}
 use Rattle.catch_model.specs.Caught.{columns_of, history, IsCaughtUp}
 use Rattle.catch_laws.proofs.Committed.{whole_history}

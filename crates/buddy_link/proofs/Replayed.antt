@@ -1,6 +1,6 @@
 -- A replay from its begin to its end.
-use Rattle.std.proofs.Common.{◌≡◌, ◌+◌, ◌≤◌, ◌<◌, inl, inr, ℕ, zero, suc, Bool, true, false, List, [], ◌∷◌, filter, length, refl, sym, ap, ◌∙◌, arith, subst}
-use Rattle.std.specs.Prelude.{max, nat_lt, ◌⊎◌, ◌&&◌, Result, Ok, Err, IsErrOf}
+use Rattle.std.proofs.Common.{◌≡◌, ◌+◌, ◌≤◌, ◌<◌, inl, inr, ℕ, zero, suc, true, false, List, [], ◌∷◌, filter, length, refl, sym, ap, ◌∙◌, arith, subst}
+use Rattle.std.specs.Prelude.{max, nat_lt, ◌⊎◌, Result, Ok, Err, IsErrOf}
 use Rattle.std.specs.List.{All, AllZip}
 use Rattle.std.proofs.lemmas.Bool.Decides.{nat_tests}
 use Rattle.std.proofs.lemmas.List.Elements.{All-filter, All-head, filter_passes}
@@ -18,20 +18,23 @@ use Rattle.db_model.specs.Sound.{IsSound, IsSoundDatabase}
 use Rattle.db_model.specs.State.{State}
 use Rattle.db_laws.proofs.Goods.{good_itself, shapes_joined, Reaches}
 use Rattle.folder_model.specs.Reopening.{Reopens}
+use Rattle.store_core.proofs.Ended.{all_reach}
 use Rattle.store_core.proofs.Placed.{count_moved, first_moved}
 use Rattle.store_core.specs.Cuts.{IsKept}
 use Rattle.store_core.specs.Events.{ReopensTo}
 use Rattle.store_core.specs.Running.{Running, IsState}
-use Rattle.catch_model.specs.Caught.{history, later_mark, IsCaughtUp}
-use Rattle.catch_model.specs.Refused.{IsAccepted}
+use Rattle.store_core.specs.Sessions.{with_current}
+use Rattle.catch_model.specs.Caught.{history, IsCaughtUp}
+use Rattle.catch_model.specs.Refused.{is_gap, IsAccepted, NoEpoch}
 use Rattle.catch_model.specs.declared.fault.LinkFault.{LinkFault}
 use Rattle.catch_model.specs.declared.fault.LinkFault.TheVariants as link
 use Rattle.catch_laws.specs.Replay.{IsAt}
 use Rattle.catch_laws.proofs.Ends.{begins, ends}
 use Rattle.catch_tables.specs.Keyed.{AreChangesOf, Changed}
 use Rattle.catch_tables.specs.Told.{History}
-use Rattle.buddy_link.specs.Linking.{HasEpochsOf, IsReplayed, IsUnmoved, LeavesBehind, MayReplay, MovesBehind, MovesOrStops, Replays, ReopensBehindOrCaught}
-use Rattle.buddy_link.specs.Replaying.{Comes, IsShortBehind, ReopensBehind, Setting}
+use Rattle.buddy_link.specs.Linking.{HasEpochsOf, LeavesBehind, MayReplay, MovesBehind, MovesOrStops, Replays, ReopensBehindOrCaught}
+use Rattle.buddy_link.specs.Replaying.{Comes, IsShortBehind, Setting}
+use Rattle.buddy_link.proofs.Coming.{at_reopens, replayed_ok, still_leaves}
 use Rattle.buddy_link.proofs.Moved.{all_still, caught_still, columns_still, good_either, history_still, kept_still, still_begins, still_moved, IsStill}
 use Rattle.buddy_link.proofs.Telling.{all_ordered}
 
@@ -55,7 +58,7 @@ at_begin mark after last tables a b may =
     subst (λ (m : ℕ). IsAt m a.database b a.database.last a) (sym may.mark_is) (begins b a (subst (IsAccepted a.database b) may.after_is may.accepted) may.idle)
 
 -- session 1 is the current one
-abbrev first_session : State → State
+abbrev pub first_session : State → State
 first_session a = record a { current = 1 }
 
 pub at_start : (mark after last : ℕ) (tables : List History) (a : State) (b : Database) → MayReplay mark after last tables a b → IsAt mark a.database b after (first_session a)
@@ -75,10 +78,10 @@ epochs_of mark k a b s le at = record {
   idle = at.idle;
 }
 
-abbrev failed : LinkFault → Result ℕ LinkFault
+abbrev pub failed : LinkFault → Result ℕ LinkFault
 failed f = Err f
 
-abbrev stopped : LinkFault → Result (Unit {0}) LinkFault
+abbrev pub stopped : LinkFault → Result (Unit {0}) LinkFault
 stopped f = Err f
 
 -- where the epochs couldn't all be committed
@@ -147,25 +150,21 @@ good_unmoved e s new still some = by (good_either e s new still)
     by (inl is) = is
     by (inr is) =
         let less = low (all_shapes new.database.tables) some (shapes_joined (Reaches (last_good new.database)) new.database.tables (good_itself new.database still.sound).tables) in
-        absurd (no (last_good new.database) new.database.last s.database.last less still.last is)
+        absurd (never (last_good new.database) new.database.last s.database.last less still.last is)
       where
-        no : (g m l : ℕ) → g < m → m ≡ l → g ≡ l → ⊥
-        no g m l lt one two = omega (arith, lt, one, two)
+        never : (g m l : ℕ) → g < m → m ≡ l → g ≡ l → ⊥
+        never g m l lt one two = omega (arith, lt, one, two)
 
-abbrev moved_ok : Result (Unit {0}) LinkFault
+abbrev pub moved_ok : Result (Unit {0}) LinkFault
 moved_ok = Ok tt
 
-abbrev replayed_to : ℕ → Result ℕ LinkFault
+abbrev pub replayed_to : ℕ → Result ℕ LinkFault
 replayed_to n = Ok n
 
--- the law of a moveout of all that didn't stop
-abbrev pub MovesReach : Type 0
-MovesReach = (old new : State) → IsSoundDatabase old.database → MovesAll old false new → last_good new.database ≡ new.database.last
-
 -- where all went to disk
-pub ends_moved : {D : Type 0} (disk : Ghosts D) (mark last : ℕ) (a : State) (b : Database) (s : State) (is : Running) (old new : D) → MovesReach → IsSound a → last_good a.database ≡ a.database.last → last ≡ b.last → IsSoundDatabase b → IsSound s → IsAt mark a.database b last s → MovesBehind disk is old new moved_ok s
+pub ends_moved : {D : Type 0} (disk : Ghosts D) (mark last : ℕ) (a : State) (b : Database) (s : State) (is : Running) (old new : D) → IsSound a → last_good a.database ≡ a.database.last → last ≡ b.last → IsSoundDatabase b → IsSound s → IsAt mark a.database b last s → MovesBehind disk is old new moved_ok s
     → Replays disk mark last is new (replayed_to last) a b
-ends_moved disk mark last a b s is old new reach begun good last_is ahead sound at moves =
+ends_moved disk mark last a b s is old new begun good last_is ahead sound at moves =
     let (after, all, here) = moves.done in
     let still : IsStill a.database.last s after = all_still a.database.last s after false (still_at mark last a b s begun good sound at) all in
     record {
@@ -175,9 +174,10 @@ ends_moved disk mark last a b s is old new reach begun good last_is ahead sound 
         here,
         record {
           caught = caught_at mark last a b s after last_is ahead sound at still;
-          good = reach s after sound.database all ∙ still.last ∙ at.last ∙ last_is;
+          good = all_reach s after sound.database all ∙ still.last ∙ at.last ∙ last_is;
           idle = still.sessions ∙ at.idle;
         },
+        ap (λ (d : Database). d.ahm) (still.cuts 0) ∙ at.ahm,
       );
       left = tt;
     }
@@ -250,3 +250,58 @@ pub moves_leaves : {D T : Type 0} (disk : Ghosts D) (mark last : ℕ) (a : State
     → MovesBehind disk is old new result s → Leaves disk (ReopensBehindOrCaught mark a b) old new
 moves_leaves disk mark last a b s is old new result begun good last_is ahead sound at moves =
     leaves_wider disk (λ x at_mid. moved_image mark last a b s at_mid.0 x begun good last_is ahead sound at at_mid.1 at_mid.2) moves.any_moment
+
+-- where it couldn't begin
+pub begins_leaves : {D : Type 0} (disk : Ghosts D) (mark after last : ℕ) (tables : List History) (a : State) (b : Database) (is : Running) (now : D) → MayReplay mark after last tables a b → IsState disk is now (first_session a) → Leaves disk (ReopensBehindOrCaught mark a b) now now
+begins_leaves disk mark after last tables a b is now may here =
+    leaves_wider disk (λ x reopens. inl (at_reopens mark after a.database b (first_session a) x (at_start mark after last tables a b may) may.good reopens)) (still_leaves disk is now (first_session a) here)
+
+-- ---- over the calls
+
+-- the law of a store whose session changes
+abbrev pub Sessions : {D : Type 0} → Ghosts D → Type 0
+Sessions {D} disk = (now : D) (r : Running) (state : State) (n : ℕ) → 1 ≤ n → n ≤ 8 → IsState disk r now state → IsState disk (with_current n r) now (record state { current = n })
+
+pub started : {D : Type 0} (disk : Ghosts D) (now : D) → Sessions disk → (was is : Running) (a : State) → is ≡ with_current 1 was → IsState disk was now a → IsState disk is now (first_session a)
+started disk now sessions was is a same here = subst (λ (r : Running). IsState disk r now (first_session a)) (sym same) (sessions now was a 1 (omega arith) (omega arith) here)
+
+-- what the commits of the epochs make of a store
+abbrev pub Commits : {D T : Type 0} → Ghosts D → ℕ → ℕ → List Changed → Running → Running → D → D → Result T LinkFault → Type 0
+Commits disk after last cs was is old new result =
+    (mark : ℕ) (start b : Database) (s : State) → after ≤ last → Setting mark after start b cs → NoEpoch (is_gap b) after last → IsAt mark start b after s → IsState disk was old s → Comes disk mark start b after last is old new result
+
+pub upto_ahead : (mark after last : ℕ) (tables : List History) (a : State) (b : Database) → MayReplay mark after last tables a b → last ≤ b.last
+upto_ahead mark after last tables a b may = let is = may.last_is in omega (arith, is)
+
+pub commits_come : {D T : Type 0} (disk : Ghosts D) (mark after last : ℕ) (tables : List History) (a : State) (b : Database) (cs : List Changed) (was is : Running) (old new : D) (result : Result T LinkFault) → IsSound a → MayReplay mark after last tables a b → AllZip (AreChangesOf after) tables cs → IsState disk was old (first_session a)
+    → Commits disk after last cs was is old new result → Comes disk mark a.database b after last is old new result
+commits_come disk mark after last tables a b cs was is old new result sound may are here commits =
+    commits mark a.database b (first_session a) above (setting_of mark after last tables a b cs sound may are) (subst (NoEpoch (is_gap b) after) (sym may.last_is) may.accepted.no_gap) (at_start mark after last tables a b may) here
+  where
+    above : after ≤ last
+    above = let one = may.after_is in let two = may.last_is in let le = may.accepted.ahead.last in omega (arith, one, two, le)
+
+-- what a moveout of all makes of a store
+abbrev pub Moves : {D T : Type 0} → Ghosts D → Running → Running → D → D → Result T LinkFault → Type 0
+Moves disk was is old new result = (s : State) → IsState disk was old s → MovesBehind disk is old new result s
+
+-- behind the commits all went to disk
+pub replays_all : {D : Type 0} (disk : Ghosts D) (mark after last : ℕ) (tables : List History) (a : State) (b : Database) (was is : Running) (old mid new : D) → IsSound a → MayReplay mark after last tables a b → Comes disk mark a.database b after last was old mid replayed_ok → Moves disk was is mid new moved_ok
+    → Replays disk mark last is new (replayed_to last) a b
+replays_all disk mark after last tables a b was is old mid new begun may comes moves =
+    let (s, here, at) = comes.done in
+    ends_moved disk mark last a b s is mid new begun may.good may.last_is may.sound here.sound at (moves s here)
+
+-- behind the commits not all went to disk
+pub replays_some : {D : Type 0} (disk : Ghosts D) (mark after last : ℕ) (tables : List History) (a : State) (b : Database) (was is : Running) (old mid new : D) (f : LinkFault) → IsSound a → MayReplay mark after last tables a b → Comes disk mark a.database b after last was old mid replayed_ok → Moves disk was is mid new (stopped f)
+    → Replays disk mark last is new (failed f) a b
+replays_some disk mark after last tables a b was is old mid new f begun may comes moves =
+    let (s, here, at) = comes.done in
+    stops_moving disk mark last a b s is mid new f begun may.good may.last_is may.sound here.sound at (moves s here)
+
+-- whatever a crash leaves of both
+pub replays_leave : {D T : Type 0} (disk : Ghosts D) (mark after last : ℕ) (tables : List History) (a : State) (b : Database) (was is : Running) (old mid new : D) (result : Result T LinkFault) → IsSound a → MayReplay mark after last tables a b → Comes disk mark a.database b after last was old mid replayed_ok → Moves disk was is mid new result
+    → Leaves disk (ReopensBehindOrCaught mark a b) old new
+replays_leave disk mark after last tables a b was is old mid new result begun may comes moves =
+    let (s, here, at) = comes.done in
+    leaves_join disk (comes_leaves disk mark after last a b was old mid replayed_ok comes) (moves_leaves disk mark last a b s is mid new result begun may.good may.last_is may.sound here.sound at (moves s here))

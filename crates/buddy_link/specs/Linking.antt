@@ -152,9 +152,9 @@ LeavesBehind Here mark a b Memory = (new : State) × Here new × HasEpochsOf mar
 abbrev pub ReopensBehindOrCaught : ℕ → State → Database → Contents → Type 0
 ReopensBehindOrCaught mark a b x = Reopens x (cut a.database.last a.database) ⊎ ((new : State) × IsCaughtUp mark new.database b × Reopens x (cut b.last new.database))
 
--- What a replay makes of the store behind.
+-- What a replay makes of the store behind. Its mark stays.
 pub record Replays {D : Type 0} (disk : Ghosts D) (mark last : ℕ) (is : Running) (now : D) (result : Result ℕ LinkFault) (a : State) (b : Database) : Type 0 where
-  pub done : IfOk result (λ n. (n ≡ last) × (new : State) × IsState disk is now new × IsReplayed mark b new)
+  pub done : IfOk result (λ n. (n ≡ last) × (new : State) × IsState disk is now new × IsReplayed mark b new × (new.database.ahm ≡ a.database.ahm))
   pub left : IfErr result (LeavesBehind (IsState disk is now) mark a b)
 
 -- all is moved out, or the numbers are spent; or memory was short
@@ -177,9 +177,9 @@ pub record MayGoOn (f : ℕ) (a : State) : Type 0 where
   pub idle : a.sessions ≡ idle_sessions
   pub good : last_good a.database ≡ a.database.last
 
--- What `current` makes of the store behind.
+-- What `current` makes of the store behind. Its mark stays.
 pub record GoesOn {D : Type 0} (disk : Ghosts D) (f : ℕ) (is : Running) (now : D) (result : Result ℕ LinkFault) (a : State) (b : Database) : Type 0 where
-  pub done : IfOk result (λ n. (n ≡ b.last) × IsAccepted a.database b f × (new : State) × IsState disk is now new × IsReplayed (later_mark a.database b) b new)
+  pub done : IfOk result (λ n. (n ≡ b.last) × IsAccepted a.database b f × (new : State) × IsState disk is now new × IsReplayed (later_mark a.database b) b new × (new.database.ahm ≡ a.database.ahm))
   pub left : IfErr result (λ fault. (Ends a.database b f fault × IsState disk is now a) ⊎ LeavesBehind (IsState disk is now) (later_mark a.database b) a b fault)
 
 -- What a moveout of all makes of a store over a state.

@@ -1,7 +1,7 @@
 //! What both tell of their tables.
 
-ghost use Rattle.std.specs.Prelude.{◌≡◌, ◌≤◌, IfOk, IfErr};
-ghost use Rattle.std.specs.List.{All};
+ghost use Rattle.std.specs.Prelude.{◌≡◌, ◌≤◌, IfOk, IfErr, IsErrOf, IsSomeAnd};
+ghost use Rattle.std.specs.List.{slice_get, All};
 ghost use Rattle.common_laws.specs.Causes.{HasCause};
 ghost use Rattle.col_disk.specs.Moved.{Moved, NoName};
 ghost use Rattle.col_value.specs.Order.{IsRow};
@@ -9,13 +9,13 @@ ghost use Rattle.db_model.specs.State.{State};
 ghost use Rattle.store_core.specs.Running.{IsState};
 ghost use Rattle.catch_model.specs.Refused.{IsAhead, IsOlder};
 ghost use Rattle.catch_tables.specs.Told.{AreToldBy};
-ghost use Rattle.buddy_link.specs.Linking.{ahead_fault, behind_fault, mark_between, Ends, EndsAt, IsShort, IsToldAt, TellsAt};
-ghost use Rattle.buddy_link.specs.Replaying.{IsShortBehind};
+ghost use Rattle.buddy_link.specs.Linking.{ahead_fault, behind_fault, mark_between, Ends, EndsAt, IsToldAt, TellsAt};
+ghost use Rattle.buddy_link.specs.Replaying.{IsShortAhead, IsShortBehind};
 
 use catch_model::LinkFault;
 use catch_tables::{Told, difference_at};
 use col_disk::{Disk, StoreFault};
-use col_value::Stamped;
+use col_value::{Name, Stamped};
 use std::alloc::Global;
 use store_core::Store;
 
@@ -63,6 +63,7 @@ fn read_behind<A: Disk>(
 ) -> Result<Vec<Stamped>, LinkFault>
     ensures found { IfOk result (λ v. (a : State) → IsState ⟦<A as Disk>⟧ pair.now.behind.now at.old a → TellsAt (mark_between pair.now.behind.now pair.now.ahead.now) place v.items a.database) }
     ensures short { IfErr result (λ fault. (a : State) → IsState ⟦<A as Disk>⟧ pair.now.behind.now at.old a → IsShortBehind fault) }
+    ensures own { IsErrOf result LinkFault.AheadDisk → ⊥ }
     ensures kept { A.holds at.new ≡ A.holds at.old }
     ensures moved { Moved ⟦<A as Disk>⟧ NoName NoName at.old at.new }
     ensures cause { HasCause LinkFault.BehindDisk (A.faults at.old) (A.faults at.new) result }
@@ -82,7 +83,8 @@ fn read_ahead<B: Disk>(
 ) -> Result<Vec<Stamped>, LinkFault>
     ensures found { IfOk result (λ v. (b : State) → IsState ⟦<B as Disk>⟧ pair.now.ahead.now from.old b → TellsAt (mark_between pair.now.behind.now pair.now.ahead.now) place v.items b.database) }
     ensures valid { IfOk result (λ v. All (λ s. IsRow s.row) v.items) }
-    ensures short { IfErr result (λ fault. (b : State) → IsState ⟦<B as Disk>⟧ pair.now.ahead.now from.old b → IsShort fault) }
+    ensures short { IfErr result (λ fault. (b : State) → IsState ⟦<B as Disk>⟧ pair.now.ahead.now from.old b → IsShortAhead fault) }
+    ensures own { IsErrOf result LinkFault.BehindDisk → ⊥ }
     ensures kept { B.holds from.new ≡ B.holds from.old }
     ensures moved { Moved ⟦<B as Disk>⟧ NoName NoName from.old from.new }
     ensures cause { HasCause LinkFault.AheadDisk (B.faults from.old) (B.faults from.new) result }
@@ -90,6 +92,17 @@ fn read_ahead<B: Disk>(
     match pair.ahead.history(alloc, place, mark_of(pair), from) {
         Ok(rows) => Ok(rows),
         Err(fault) => Err(ahead_fault(fault)),
+    }
+}
+
+/// The name of the table at a place ahead.
+fn name_ahead(alloc: Global, pair: &Pair<'_>, place: usize) -> Result<Name, LinkFault>
+    ensures found { IfOk result (λ n. IsSomeAnd (slice_get pair.now.ahead.now.seen.catalogue.tables place) (λ t. t.name ≡ n)) }
+    ensures short { IfErr result (λ fault. fault ≡ LinkFault.Memory) }
+{
+    match pair.ahead.tables().get(place) {
+        Some(table) => Ok(table.name.copy(alloc)?),
+        None => Err(LinkFault::Memory),
     }
 }
 
@@ -112,10 +125,7 @@ fn tell_one<A: Disk, B: Disk>(
 {
     let behind = read_behind(alloc, pair, place, at)?;
     let ahead = read_ahead(alloc, pair, place, from)?;
-    let name = match pair.ahead.tables().get(place) {
-        Some(table) => table.name.copy(alloc)?,
-        None => return Err(LinkFault::Memory),
-    };
+    let name = name_ahead(alloc, pair, place)?;
     match difference_at(alloc, behind, ahead.as_slice(), pair.epoch)? {
         Some(row) => Err(LinkFault::Differs { table: name, row }),
         None => Ok(Told::new(name, ahead)),

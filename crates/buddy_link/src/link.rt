@@ -1,6 +1,6 @@
 //! The three calls.
 
-ghost use Rattle.std.specs.Prelude.{◌≡◌, IfOk, IfErr};
+ghost use Rattle.std.specs.Prelude.{◌≡◌, IfOk, IfErr, IsErrOf};
 ghost use Rattle.common_laws.specs.Causes.{HasCause};
 ghost use Rattle.col_disk.specs.Moved.{Leaves, Moved, NoName};
 ghost use Rattle.db_model.specs.Database.{Database};
@@ -57,18 +57,15 @@ impl Link {
         ensures ahead_moved { Moved ⟦<B as Disk>⟧ NoName NoName from.old from.new }
         ensures ahead_cause { HasCause LinkFault.AheadDisk (B.faults from.old) (B.faults from.new) result }
     {
+        let (e, f) = (behind.last(), ahead.last());
         let pair = Pair {
             behind,
             ahead,
-            epoch: behind.last(),
+            epoch: e,
         };
+        let mark = mark_of(&pair);
         let tables = check(alloc, &pair, at, from)?;
-        Ok(Link {
-            e: behind.last(),
-            f: ahead.last(),
-            mark: mark_of(&pair),
-            tables,
-        })
+        Ok(Link { e, f, mark, tables })
     }
 
     /// The epochs of the store ahead up to its newest at the begin are committed in the one behind, and all its data goes to disk. Answers that epoch.
@@ -81,10 +78,10 @@ impl Link {
         ensures replays { (a : State) (b : Database) → IsState ⟦<A as Disk>⟧ behind.old at.old a → MayReplay self.old.mark self.old.e self.old.f self.old.tables a b → Replays ⟦<A as Disk>⟧ self.old.mark self.old.f behind.new at.new result a b }
         ensures any_moment { (a : State) (b : Database) → IsState ⟦<A as Disk>⟧ behind.old at.old a → MayReplay self.old.mark self.old.e self.old.f self.old.tables a b → Leaves ⟦<A as Disk>⟧ (ReopensBehindOrCaught self.old.mark a b) at.old at.new }
         ensures same { self.new ≡ self.old }
+        ensures own { IsErrOf result LinkFault.AheadDisk → ⊥ }
         ensures cause { HasCause LinkFault.BehindDisk (A.faults at.old) (A.faults at.new) result }
     {
-        replay(alloc, behind, at, self.tables.as_slice(), self.e, self.f)?;
-        Ok(self.f)
+        replay(alloc, behind, at, self.tables.as_slice(), self.e, self.f)
     }
 
     /// The store ahead is read once more, and what it committed since the begin is brought to the one behind. It is refused exactly where `IsRefused`
@@ -111,8 +108,6 @@ impl Link {
             epoch: self.f,
         };
         let tables = check(alloc, &pair, at, from)?;
-        let last = ahead.last();
-        replay(alloc, behind, at, tables.as_slice(), self.f, last)?;
-        Ok(last)
+        replay(alloc, behind, at, tables.as_slice(), self.f, ahead.last())
     }
 }

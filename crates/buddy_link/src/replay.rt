@@ -1,6 +1,6 @@
 //! Epochs of the store ahead, committed in the one behind.
 
-ghost use Rattle.std.specs.Prelude.{◌≡◌, ◌≤◌, ◌+◌, ℕ, [], true, IfErr, OnErr, OnOk};
+ghost use Rattle.std.specs.Prelude.{◌≡◌, ◌≤◌, ◌+◌, ℕ, [], true, IfErr, OnErr, OnOk, IsErrOf};
 ghost use Rattle.std.specs.List.{AllZip};
 ghost use Rattle.common_laws.specs.Causes.{HasCause};
 ghost use Rattle.col_disk.specs.Moved.{Leaves};
@@ -15,7 +15,7 @@ ghost use Rattle.buddy_link.specs.Linking.{MayReplay, MovesBehind, Replays, Reop
 ghost use Rattle.buddy_link.specs.Replaying.{all_pended, pended, Comes, Setting};
 
 use crate::histories::behind_fault;
-use catch_laws::{a_catch_up_begins, a_catch_up_ends, an_epoch_is_committed, an_epoch_is_pending};
+use catch_laws::{an_epoch_is_committed, an_epoch_is_pending};
 use catch_model::LinkFault;
 use catch_tables::{Ordered, Told, asked_rows, copied_rows, order_all};
 use col_disk::Disk;
@@ -68,6 +68,7 @@ fn commit_one<A: Disk>(
 ) -> Result<(), LinkFault>
     ensures comes { (mark after n : ℕ) (start b : Database) (s : State) → epoch ≡ n + 1 → after ≤ n → Setting mark after start b tables.now → has_change b epoch ≡ true → IsAt mark start b n s
         → IsState ⟦<A as Disk>⟧ behind.old at.old s → Comes ⟦<A as Disk>⟧ mark start b n epoch behind.new at.old at.new result }
+    ensures own { IsErrOf result LinkFault.AheadDisk → ⊥ }
     ensures cause { HasCause LinkFault.BehindDisk (A.faults at.old) (A.faults at.new) result }
 {
     an_epoch_is_pending();
@@ -101,6 +102,7 @@ fn commit_all<A: Disk>(
 ) -> Result<(), LinkFault>
     ensures comes { (mark : ℕ) (start b : Database) (s : State) → after ≤ last → Setting mark after start b tables.now → NoEpoch (is_gap b) after last → IsAt mark start b after s
         → IsState ⟦<A as Disk>⟧ behind.old at.old s → Comes ⟦<A as Disk>⟧ mark start b after last behind.new at.old at.new result }
+    ensures own { IsErrOf result LinkFault.AheadDisk → ⊥ }
     ensures cause { HasCause LinkFault.BehindDisk (A.faults at.old) (A.faults at.new) result }
 {
     for closed in after..last {
@@ -112,6 +114,7 @@ fn commit_all<A: Disk>(
 /// All data of the store behind goes to disk.
 fn move_all<A: Disk>(alloc: Global, behind: &mut Store, at: &mut A) -> Result<(), LinkFault>
     ensures moves { (s : State) → IsState ⟦<A as Disk>⟧ behind.old at.old s → MovesBehind ⟦<A as Disk>⟧ behind.new at.old at.new result s }
+    ensures own { IsErrOf result LinkFault.AheadDisk → ⊥ }
     ensures cause { HasCause LinkFault.BehindDisk (A.faults at.old) (A.faults at.new) result }
 {
     match behind.move_all(alloc, at) {
@@ -132,10 +135,9 @@ pub fn replay<A: Disk>(
 ) -> Result<u64, LinkFault>
     ensures replays { (mark : ℕ) (a : State) (b : Database) → IsState ⟦<A as Disk>⟧ behind.old at.old a → MayReplay mark after last tables.now a b → Replays ⟦<A as Disk>⟧ mark last behind.new at.new result a b }
     ensures any_moment { (mark : ℕ) (a : State) (b : Database) → IsState ⟦<A as Disk>⟧ behind.old at.old a → MayReplay mark after last tables.now a b → Leaves ⟦<A as Disk>⟧ (ReopensBehindOrCaught mark a b) at.old at.new }
+    ensures own { IsErrOf result LinkFault.AheadDisk → ⊥ }
     ensures cause { HasCause LinkFault.BehindDisk (A.faults at.old) (A.faults at.new) result }
 {
-    a_catch_up_begins();
-    a_catch_up_ends();
     sessions_stand::<A>();
     behind.use_session(1);
     let ordered = order_all(alloc, tables, after)?;
