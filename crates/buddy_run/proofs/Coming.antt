@@ -1,5 +1,7 @@
 -- What a catch-up comes to.
 use Rattle.std.proofs.Common.{◌≡◌, ◌≤◌, ◌<◌, ◌⊎◌, inl, inr, ℕ, List, [], refl, sym, ◌∙◌, ap, subst, arith}
+use Rattle.std.specs.Prelude.{Result, Ok, Err, IsErrOf}
+use Rattle.common_laws.specs.Causes.{HasCause}
 use Rattle.common_laws.specs.Bags.{SameBag}
 use Rattle.common_laws.specs.Maps.{Contents}
 use Rattle.col_disk.specs.Moved.{ImageOf}
@@ -61,8 +63,27 @@ left_stops a b Here mark s d (fault.TooMany n) is = absurd is
 left_stops a b Here mark s d fault.NumbersSpent is = inr refl
 left_stops a b Here mark s d fault.BehindDisk is = tt
 left_stops a b Here mark s d fault.AheadDisk is = absurd is
-left_stops a b Here mark s d (fault.Damaged name) is = tt
+left_stops a b Here mark s d (fault.Damaged name) is = absurd is
 left_stops a b Here mark s d fault.Memory is = tt
+
+-- the fault of one call is that of another
+pub fault_is : {T U : Type 0} (f g : LinkFault) → IsErrOf {T = T} (Err f) g → IsErrOf {T = U} (Err f) g
+fault_is {T} {U} f g is = ap err (ap fault_of is)
+  where
+    err : LinkFault → Result U LinkFault
+    err h = Err h
+
+    fault_of : Result T LinkFault → LinkFault
+    fault_of (Ok b) = f
+    fault_of (Err h) = h
+
+-- a fault that isn't this one has no cause to name
+pub not_caused : {T U : Type 0} (f g : LinkFault) (before now : ℕ) → before ≤ now → (IsErrOf {T = T} (Err f) g → ⊥) → HasCause {T = U} g before now (Err f)
+not_caused {T} {U} f g before now le not = record { later = le; failed = λ is. absurd (not (fault_is {T = U} {U = T} f g is)) }
+
+-- a call that comes behind another
+pub caused_later : {T : Type 0} (f : LinkFault) (r : Result T LinkFault) (before mid now : ℕ) → before ≤ mid → HasCause f mid now r → HasCause f before now r
+caused_later f r before mid now le cause = record { later = let later = cause.later in omega (arith, le, later); failed = λ is. let rose = cause.failed is in omega (arith, le, rose) }
 
 -- ---- a database that has caught up
 

@@ -1,2 +1,5 @@
 pub mod Opened
 pub mod Coming
+pub mod Following
+pub mod Opening
+pub mod Ending

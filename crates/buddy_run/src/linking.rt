@@ -17,9 +17,9 @@ ghost use Rattle.buddy_run.specs.Ends.{BringsUp, IsOnTheWay, IsOpened, IsSinkSto
 
 use crate::status::LinkStatus;
 use buddy_link::{Link, LinkFault};
+use catch_text::{caught_text, refusal_text};
 use col_disk::{Disk, StoreFault};
 use col_io::{Sink, SinkFault, write_all};
-use catch_text::{caught_text, refusal_text};
 use std::alloc::{AllocError, Global};
 use store_core::Store;
 
@@ -36,6 +36,7 @@ fn open_behind<A: Disk>(alloc: Global, behind: &mut A) -> Result<Store, LinkFaul
     ensures opened { IfOk result (λ s. (m : Contents) (a : Database) → A.holds behind.old ≡ Some m → Reopens m a → (parts : ℕ) × IsState ⟦<A as Disk>⟧ s behind.new (opened_with s.seen.catalogue.next parts a)) }
     ensures any_moment { (m : Contents) (a : Database) → A.holds behind.old ≡ Some m → Reopens m a → Leaves ⟦<A as Disk>⟧ (IsStill ⟦<A as Disk>⟧ behind.old a) behind.old behind.new }
     ensures short { IfErr result (λ fault. (m : Contents) (a : Database) → A.holds behind.old ≡ Some m → Reopens m a → IsShort fault) }
+    ensures own { IsErrOf result LinkFault.AheadDisk → ⊥ }
     ensures cause { HasCause LinkFault.BehindDisk (A.faults behind.old) (A.faults behind.new) result }
 {
     match Store::open(alloc, behind) {
@@ -50,6 +51,7 @@ fn open_ahead<B: Disk>(alloc: Global, ahead: &mut B) -> Result<Store, LinkFault>
     ensures opened { IfOk result (λ s. (n : Contents) (b : Database) → B.holds ahead.old ≡ Some n → Reopens n b → (parts : ℕ) × IsState ⟦<B as Disk>⟧ s ahead.new (opened_with s.seen.catalogue.next parts b)) }
     ensures any_moment { (n : Contents) (b : Database) → B.holds ahead.old ≡ Some n → Reopens n b → Leaves ⟦<B as Disk>⟧ (IsStill ⟦<B as Disk>⟧ ahead.old b) ahead.old ahead.new }
     ensures short { IfErr result (λ fault. (n : Contents) (b : Database) → B.holds ahead.old ≡ Some n → Reopens n b → IsShort fault) }
+    ensures own { IsErrOf result LinkFault.BehindDisk → ⊥ }
     ensures cause { HasCause LinkFault.AheadDisk (B.faults ahead.old) (B.faults ahead.new) result }
 {
     match Store::open(alloc, ahead) {
@@ -147,6 +149,7 @@ fn tell_refusal<S: Sink>(alloc: Global, out: &mut S, fault: &LinkFault) -> LinkS
 fn stopped<S: Sink>(alloc: Global, out: &mut S, fault: &LinkFault) -> LinkStatus
     ensures ends { (a b : Database) → StopsBy a b fault.now → StopEnds result a b (S.taken out.old) (S.taken out.new) }
     ensures sink { result ≡ sink_fault → Rose (S.faults out.old) (S.faults out.new) }
+    ensures own { result ≡ usage → ⊥ }
     ensures disk { result ≡ disk_fault → IsDiskFault fault.now }
 {
     match fault {
@@ -185,11 +188,13 @@ pub fn link<S: Sink, A: Disk, B: Disk>(
         return LinkStatus::Usage;
     }
     match bring_up(alloc, behind, ahead) {
-        Ok(Brought {
-            first,
-            second,
-            last,
-        }) => match caught_text(alloc, first, second, last) {
+        Ok(
+            Brought {
+                first,
+                second,
+                last,
+            },
+        ) => match caught_text(alloc, first, second, last) {
             Ok(text) => match tell(out, text.as_slice()) {
                 Ok(()) => LinkStatus::Done,
                 Err(status) => status,
