@@ -1,25 +1,18 @@
 -- What a catch-up comes to.
-use Rattle.std.proofs.Common.{◌≡◌, ◌≤◌, ◌<◌, ◌⊎◌, inl, inr, ℕ, List, [], refl, sym, ◌∙◌, ap, subst, arith}
+use Rattle.std.proofs.Common.{◌≤◌, inl, inr, ℕ, List, refl, sym, ap, subst, arith}
 use Rattle.std.specs.Prelude.{Result, Ok, Err, IsErrOf}
 use Rattle.common_laws.specs.Causes.{HasCause}
 use Rattle.common_laws.specs.Bags.{SameBag}
-use Rattle.common_laws.specs.Maps.{Contents}
-use Rattle.col_disk.specs.Moved.{ImageOf}
-use Rattle.col_disk.specs.declared.disk.Disk.{Ghosts}
-use Rattle.col_value.specs.declared.row.Stamped.{Stamped}
 use Rattle.db_model.specs.Database.{Database}
-use Rattle.db_model.specs.Epochs.{cut, last_good}
 use Rattle.db_model.specs.Sound.{IsSoundDatabase}
 use Rattle.db_model.specs.State.{State}
-use Rattle.folder_model.specs.Reopening.{Reopens}
-use Rattle.store_core.specs.Running.{Running, IsState}
 use Rattle.catch_model.specs.Caught.{history, later_mark, IsCaughtUp}
 use Rattle.catch_model.specs.Refused.{IsOlderIn, IsRefused}
 use Rattle.catch_model.specs.declared.fault.LinkFault.{LinkFault}
 use Rattle.catch_model.specs.declared.fault.LinkFault.TheVariants as fault
 use Rattle.catch_laws.proofs.Committed.{whole_history}
-use Rattle.buddy_link.specs.Linking.{Ends, IsReplayed, IsShort, LeavesBehind}
-use Rattle.buddy_run.specs.Ends.{HasCaughtUp, ReopensCaughtUp, StopsBy}
+use Rattle.buddy_link.specs.Linking.{Ends, IsShort, LeavesBehind}
+use Rattle.buddy_run.specs.Ends.{StopsBy}
 
 -- ---- why it stops
 

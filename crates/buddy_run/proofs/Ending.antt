@@ -1,6 +1,6 @@
 -- The status of a catch-up and what the sink took.
-use Rattle.std.proofs.Common.{◌≡◌, ◌⊎◌, inl, inr, ℕ, List, refl, sym, ◌∙◌, ap, subst}
-use Rattle.std.specs.Prelude.{Option, Result, Ok, Err, IsErrOf}
+use Rattle.std.proofs.Common.{◌≡◌, ◌⊎◌, inl, inr, ℕ, List, ◌∙◌, ap, subst}
+use Rattle.std.specs.Prelude.{Option, Result, Err}
 use Rattle.common_laws.specs.Causes.{HasCause, Rose}
 use Rattle.common_laws.specs.Told.{Appends, AppendsFront}
 use Rattle.col_disk.specs.declared.disk.Disk.{Ghosts}

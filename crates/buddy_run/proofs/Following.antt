@@ -1,8 +1,8 @@
 -- How the three calls of a link bring a store up to another.
-use Rattle.std.proofs.Common.{◌≡◌, ◌≤◌, ◌⊎◌, inl, inr, ℕ, refl, sym, ◌∙◌, ap, subst}
+use Rattle.std.proofs.Common.{◌≡◌, ◌⊎◌, inl, inr, ℕ, sym, ◌∙◌, ap, subst}
 use Rattle.std.specs.Prelude.{max, Result, Ok, Err}
 use Rattle.common_laws.specs.Maps.{Contents}
-use Rattle.col_disk.specs.Moved.{ImageOf, Leaves, Moved, NoName}
+use Rattle.col_disk.specs.Moved.{Leaves, Moved, NoName}
 use Rattle.col_disk.specs.declared.disk.Disk.{Ghosts}
 use Rattle.col_disk.specs.declared.disk.StoreFault.TheVariants as store
 use Rattle.col_disk.proofs.Moving.{leaves_join, leaves_wider}
@@ -15,13 +15,13 @@ use Rattle.store_commit.specs.Making.{ReopensToEither}
 use Rattle.table_store.proofs.Standing.{reads_only}
 use Rattle.store_core.specs.Running.{Running, IsState}
 use Rattle.catch_model.specs.Caught.{later_mark, IsCaughtUp}
-use Rattle.catch_model.specs.Refused.{IsAccepted, IsRefused}
+use Rattle.catch_model.specs.Refused.{IsAccepted}
 use Rattle.catch_model.specs.declared.fault.LinkFault.{LinkFault}
 use Rattle.buddy_link.specs.Linked.{Linked, Tells}
-use Rattle.buddy_link.specs.Linking.{Ends, GoesOn, IsReplayed, LeavesBehind, MayGoOn, MayReplay, Replays, ReopensBehindOrCaught}
-use Rattle.buddy_run.specs.Ends.{brought, BringsUp, HasCaughtUp, IsOpened, ReopensCaughtUp, ReopensEither, StopsBy}
+use Rattle.buddy_link.specs.Linking.{Ends, GoesOn, IsReplayed, LeavesBehind, MayGoOn, MayReplay, ReopensBehindOrCaught}
+use Rattle.buddy_run.specs.Ends.{brought, BringsUp, HasCaughtUp, IsOpened, ReopensEither, StopsBy}
 use Rattle.buddy_run.specs.declared.linking.Brought.{Brought}
-use Rattle.buddy_run.proofs.Coming.{ends_stops, left_stops, nothing_left, short_stops}
+use Rattle.buddy_run.proofs.Coming.{left_stops, nothing_left, short_stops}
 
 -- ---- what a crash leaves
 

@@ -5,7 +5,7 @@ use Rattle.col_disk.specs.Moved.{Leaves, Moved, NoName}
 use Rattle.col_disk.specs.declared.disk.Disk.{Ghosts}
 use Rattle.col_disk.proofs.Moving.{leaves_join, leaves_wider}
 use Rattle.db_model.specs.Database.{Database}
-use Rattle.db_model.specs.State.{State, opened_with}
+use Rattle.db_model.specs.State.{opened_with}
 use Rattle.folder_model.specs.Reopening.{Reopens}
 use Rattle.store_core.specs.Running.{Running, IsState}
 use Rattle.store_opening.specs.Opening.{IsStill}

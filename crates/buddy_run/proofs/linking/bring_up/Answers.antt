@@ -1,5 +1,5 @@
 use Rattle.std.proofs.Common.{arith}
-use Rattle.db_model.specs.State.{State, opened_with}
+use Rattle.db_model.specs.State.{opened_with}
 use Rattle.catch_model.specs.declared.fault.LinkFault.TheVariants.{BehindDisk, AheadDisk}
 use Rattle.buddy_run.proofs.Coming.{caused_later, not_caused, short_stops}
 use Rattle.buddy_run.proofs.Opening.{opened_is, opening_leaves, read_only, still_leaves, way_leaves}

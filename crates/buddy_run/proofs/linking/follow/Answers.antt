@@ -1,13 +1,8 @@
-use Rattle.std.proofs.Common.{◌≡◌, ℕ, refl, sym, ap, ◌∙◌, subst}
-use Rattle.std.specs.Prelude.{Ok, Err, Result}
-use Rattle.db_model.specs.State.{State}
+use Rattle.std.proofs.Common.{◌≡◌, ℕ, sym, ap, ◌∙◌, subst}
 use Rattle.store_core.specs.Running.{IsState}
-use Rattle.catch_model.specs.Caught.{later_mark}
-use Rattle.catch_model.specs.Refused.{IsAccepted}
-use Rattle.catch_model.specs.declared.fault.LinkFault.{LinkFault}
 use Rattle.catch_model.specs.declared.fault.LinkFault.TheVariants.{AheadDisk}
-use Rattle.buddy_link.specs.Linked.{Linked, Tells}
-use Rattle.buddy_link.specs.Linking.{GoesOn, LeavesBehind, MayGoOn}
+use Rattle.buddy_link.specs.Linked.{Linked}
+use Rattle.buddy_link.specs.Linking.{GoesOn, MayGoOn}
 use Rattle.col_disk.proofs.Moving.{moved_join}
 use Rattle.buddy_link.proofs.Stays.{state_stays}
 use Rattle.buddy_run.proofs.Coming.{ends_stops, left_stops, not_caused}
