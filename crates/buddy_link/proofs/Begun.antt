@@ -9,7 +9,7 @@ use Rattle.col_disk.specs.declared.disk.StoreFault.TheVariants as store
 use Rattle.col_disk.proofs.Moving.{leaves_wider}
 use Rattle.col_value.specs.declared.row.Stamped.{Stamped}
 use Rattle.db_model.specs.Database.{Database}
-use Rattle.db_model.specs.Epochs.{cut, last_good}
+use Rattle.db_model.specs.Epochs.{cut}
 use Rattle.db_model.specs.State.{State}
 use Rattle.folder_model.specs.Reopening.{Reopens}
 use Rattle.store_commit.specs.Making.{ReopensToEither}

@@ -20,7 +20,7 @@ use Rattle.db_model.specs.Sound.{IsSoundDatabase}
 use Rattle.store_core.proofs.Purging.{found_of}
 use Rattle.catch_laws.proofs.Committed.{rows_cut}
 use Rattle.catch_model.specs.Caught.{history, later_mark, rows_of}
-use Rattle.catch_model.specs.Refused.{IsAhead, IsLeastName, IsLeastRow, IsOlder, IsOlderIn}
+use Rattle.catch_model.specs.Refused.{IsAhead, IsOlder, IsOlderIn}
 use Rattle.catch_model.specs.declared.fault.LinkFault.{LinkFault}
 use Rattle.catch_model.specs.declared.fault.LinkFault.TheVariants as link
 use Rattle.catch_tables.specs.Told.{AreToldBy, History, IsLeastIn, IsToldBy}

@@ -3,7 +3,6 @@ use Rattle.std.proofs.Common.{◌≡◌, ℕ, zero, suc, Bool, true, false, cond
 use Rattle.std.specs.Prelude.{bytes_eq, find, option_map}
 use Rattle.std.specs.List.{slice_get, All, AllZip}
 use Rattle.std.specs.Ordering.{is_eq, is_lt, nat_cmp, ordering_reverse}
-use Rattle.std.specs.Cmp.{IsTotalOrder}
 use Rattle.std.specs.Cmp.Lexicographic.{slice_cmp, nat_list_cmp_total}
 use Rattle.std.specs.declared.cmp.Ordering.{Ordering}
 use Rattle.std.specs.declared.cmp.Ordering.TheVariants.{Less, Equal, Greater}
@@ -19,7 +18,7 @@ use Rattle.catalog_types.specs.Lists.{Pairwise}
 use Rattle.catalog_types.specs.Names.{IsBelow}
 use Rattle.stored_rows.specs.Stored.{Projected}
 use Rattle.folder_model.specs.Tables.{StandForTables}
-use Rattle.db_model.specs.Database.{Database, Table}
+use Rattle.db_model.specs.Database.{Table}
 use Rattle.db_model.specs.State.{State}
 use Rattle.store_core.specs.Running.{Running, IsState}
 use Rattle.catch_model.specs.Caught.{HaveSameTables}

@@ -1,5 +1,5 @@
 -- What a running store's catalogue tells of the state that it is, and that reading leaves it.
-use Rattle.std.proofs.Common.{◌≡◌, ℕ, Bool, true, false, cond, List, [], ◌∷◌, length, arith, Option, Some, None, sym, ap, ◌∙◌, refl, subst}
+use Rattle.std.proofs.Common.{◌≡◌, ℕ, Bool, true, false, cond, List, [], ◌∷◌, length, arith, Some, sym, ap, ◌∙◌, refl, subst}
 use Rattle.std.specs.Prelude.{bytes_eq, find, max, option_map}
 use Rattle.common_laws.specs.Maps.{Contents}
 use Rattle.col_disk.specs.Moved.{Moved, NoName}
@@ -14,7 +14,7 @@ use Rattle.stored_rows.specs.Stored.{Projected}
 use Rattle.folder_model.specs.Standing.{IsRootOf}
 use Rattle.folder_model.specs.Tables.{StandForTables}
 use Rattle.folder_model.proofs.Committing.{stands_moved}
-use Rattle.db_model.specs.Database.{Database, Table, table_named}
+use Rattle.db_model.specs.Database.{Table, table_named}
 use Rattle.db_model.specs.State.{State}
 use Rattle.store_core.specs.Running.{Running, IsState}
 use Rattle.catch_model.specs.Caught.{columns_of, later_mark}

@@ -1,5 +1,5 @@
 -- What tables tell from a mark on is what the database ahead did after it.
-use Rattle.std.proofs.Common.{◌≡◌, ◌≤◌, ◌<◌, ◌||◌, ℕ, Bool, not, true, false, cond, inl, inr, List, [], ◌∷◌, map, filter, length, Option, Some, None, refl, sym, ap, ap₂, ◌∙◌, arith, subst}
+use Rattle.std.proofs.Common.{◌≡◌, ◌≤◌, ◌<◌, ◌||◌, ℕ, Bool, not, true, false, cond, inl, List, [], ◌∷◌, map, filter, length, Option, Some, None, refl, sym, ap, ap₂, ◌∙◌, arith, subst}
 use Rattle.std.specs.Prelude.{nat_lt, ◌==◌}
 use Rattle.std.specs.List.{list_any, All, AllZip}
 use Rattle.std.specs.Option.{option_map_or, IfSome}
@@ -8,7 +8,6 @@ use Rattle.std.proofs.lemmas.List.{length-map}
 use Rattle.std.proofs.lemmas.List.Elements.{All-head, All-tail, All-weaker}
 use Rattle.common_laws.specs.Bags.{SameBag}
 use Rattle.common_laws.proofs.BagLaws.{bag_filter, bag_length, bag_map, bag_trans}
-use Rattle.col_value.specs.declared.row.Asked.{Asked}
 use Rattle.col_value.specs.declared.row.Stamped.{Stamped}
 use Rattle.col_value.specs.declared.value.Value.{Value}
 use Rattle.row_history.specs.History.{is_retained, retained}

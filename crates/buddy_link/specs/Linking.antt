@@ -23,7 +23,6 @@ use Rattle.catch_model.specs.Refused.{IsAccepted, IsRefused}
 use Rattle.catch_model.specs.declared.fault.LinkFault.{LinkFault}
 use Rattle.catch_model.specs.declared.fault.LinkFault.TheVariants.{SchemaDiffers, NotBehind, HistoryGone, Differs, Gap, TooMany, NumbersSpent, BehindDisk, AheadDisk, Damaged, Memory}
 use Rattle.catch_tables.specs.Told.{History, AreToldBy, IsLeastIn, IsToldBy}
-use Rattle.buddy_link.specs.Replaying.{IsShortBehind}
 
 -- ---- faults
 

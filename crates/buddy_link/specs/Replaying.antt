@@ -1,5 +1,5 @@
 -- A replay, epoch by epoch, over a running store.
-use Rattle.std.specs.Prelude.{ℕ, ◌≡◌, ◌≤◌, ◌<◌, ◌+◌, if◌then◌else◌, true, List, fold, map, Result, IfErr, IsErrOf, OnOk}
+use Rattle.std.specs.Prelude.{ℕ, ◌≡◌, ◌≤◌, if◌then◌else◌, List, fold, map, Result, IfErr, IsErrOf, OnOk}
 use Rattle.std.specs.List.{AllZip}
 use Rattle.common_laws.specs.Maps.{Contents}
 use Rattle.col_disk.specs.Moved.{Leaves}
@@ -11,7 +11,6 @@ use Rattle.db_model.specs.State.{State}
 use Rattle.folder_model.specs.Reopening.{Reopens}
 use Rattle.store_core.specs.Running.{Running, IsState}
 use Rattle.store_core.specs.Sessions.{with_marked}
-use Rattle.catch_model.specs.Added.{has_change}
 use Rattle.catch_laws.specs.Replay.{IsAt}
 use Rattle.catch_model.specs.declared.fault.LinkFault.{LinkFault}
 use Rattle.catch_model.specs.declared.fault.LinkFault.TheVariants.{SchemaDiffers, NotBehind, HistoryGone, Differs, Gap, TooMany, NumbersSpent, BehindDisk, AheadDisk, Damaged, Memory}

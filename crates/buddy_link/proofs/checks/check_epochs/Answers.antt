@@ -1,4 +1,4 @@
-use Rattle.std.proofs.Common.{◌≡◌, ◌∙◌, ℕ, not, List, sym, subst}
+use Rattle.std.proofs.Common.{not, List, subst}
 use Rattle.std.specs.List.{list_any}
 use Rattle.catch_model.specs.Refused.{IsLeastEpoch, NoEpoch}
 use Rattle.catch_tables.specs.Keyed.{has_change_in, has_more_in, Changed}

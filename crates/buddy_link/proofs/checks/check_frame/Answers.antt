@@ -1,5 +1,4 @@
-use Rattle.std.proofs.Common.{◌≡◌, ◌≤◌, ◌<◌, List, ℕ, arith}
-use Rattle.catch_schemas.specs.Schemas.{columns_in}
+use Rattle.std.proofs.Common.{arith}
 use Rattle.buddy_link.proofs.Begun.{gone_ends, is_ahead, later_ends, of_tables, schema_ends}
 use Rattle.buddy_link.proofs.checks.check_frame.Goals as goal
 
