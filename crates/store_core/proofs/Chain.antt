@@ -1,6 +1,6 @@
 -- A moveout of all projections that are behind, over a running store: by its jobs, one after the other.
-use Rattle.std.proofs.Common.{◌≡◌, ◌<◌, ◌≤◌, ◌+◌, ◌*◌, inl, inr, ℕ, zero, suc, Bool, true, false, List, [], ◌∷◌, length, refl, sym, ◌∙◌, ap, subst, arith}
-use Rattle.std.specs.Prelude.{nat_le, is_some, Result, Ok, Err, IsErrOf, Option, Some, None}
+use Rattle.std.proofs.Common.{◌≡◌, ◌≤◌, ◌+◌, ◌*◌, inl, inr, ℕ, zero, suc, Bool, true, false, List, [], length, refl, sym, ◌∙◌, ap, subst, arith}
+use Rattle.std.specs.Prelude.{is_some, Result, Ok, Err, IsErrOf, Option, Some, None}
 use Rattle.std.specs.List.{All}
 use Rattle.std.proofs.Math.Nat.{le-mul_of_pos_right}
 use Rattle.common_laws.specs.Maps.{Contents}
@@ -9,12 +9,10 @@ use Rattle.col_disk.specs.declared.disk.StoreFault.{StoreFault}
 use Rattle.col_disk.specs.declared.disk.StoreFault.TheVariants as fault
 use Rattle.col_disk.proofs.Moving.{leaves_wider, moved_none}
 use Rattle.alike_laws.specs.Reordered.{AreAlikeSessions}
-use Rattle.catalog_types.specs.declared.catalogue.Projection.{Projection}
-use Rattle.catalog_types.specs.declared.catalogue.Table as kept
 use Rattle.db_model.specs.Database.{Database, Shape}
 use Rattle.db_model.specs.Epochs.{cut, last_good}
 use Rattle.db_model.specs.Mover.{behind, first_behind, given_up, moved_one, MovesAll, MovesFirst, MovesOut}
-use Rattle.db_model.specs.Numbers.{are_spent, most_drawn, DrawsWithin, IsDrawn}
+use Rattle.db_model.specs.Numbers.{are_spent, most_drawn, IsDrawn}
 use Rattle.db_model.specs.Sound.{IsSound, IsSoundDatabase}
 use Rattle.db_model.specs.State.{Changes, State}
 use Rattle.db_laws.proofs.Goods.{IsGood, good_itself, good_least}

@@ -1,10 +1,9 @@
 -- How many projections there are, and which of them is behind.
-use Rattle.std.proofs.Common.{◌≡◌, ◌≤◌, ◌+◌, ◌*◌, ℕ, Bool, true, false, cond, List, [], ◌∷◌, length, map, filter, sym, ◌∙◌, subst, arith}
-use Rattle.std.specs.Prelude.{◌&&◌, nat_lt, Option, Some, None, option_and_then, IsSomeAnd}
+use Rattle.std.proofs.Common.{◌≡◌, ◌≤◌, ◌*◌, ℕ, Bool, true, false, cond, List, [], ◌∷◌, length, map, filter, sym, subst, arith}
+use Rattle.std.specs.Prelude.{Option, Some, None, option_and_then, IsSomeAnd}
 use Rattle.std.specs.List.{All, slice_get}
 use Rattle.std.proofs.lemmas.List.{length-append, length-map}
 use Rattle.std.proofs.lemmas.List.Elements.{All-head, All-tail, All-weaker, filter_passes}
-use Rattle.std.proofs.lemmas.Bool.Decides.{nat_tests}
 use Rattle.catalog_types.specs.declared.catalogue.Catalogue.{Catalogue}
 use Rattle.catalog_types.specs.declared.catalogue.Projection.{Projection}
 use Rattle.catalog_types.specs.declared.catalogue.Table as kept
@@ -14,13 +13,9 @@ use Rattle.db_model.specs.Database.{is_behind}
 use Rattle.folder_model.specs.Projections.{shape_of}
 use Rattle.mover_policy.specs.declared.first.Place.{Place}
 use Rattle.mover_policy.specs.First.{all_projections, behind_in, first_in, projection_at}
-use Rattle.sound_laws.specs.Moves.{change_at}
-use Rattle.table_store.specs.Drawing.{DrawsEntry, DrawsJob, FewContainers}
-use Rattle.table_store.specs.Moving.{with_entry}
-use Rattle.table_store.proofs.Moved.{at_place}
+use Rattle.table_store.specs.Drawing.{DrawsEntry, DrawsJob}
 use Rattle.store_core.specs.Moving.{MovedBehind}
 use Rattle.store_core.proofs.First.{found_in}
-use Rattle.store_core.proofs.Placed.{all_change}
 
 -- ---- how many there are
 

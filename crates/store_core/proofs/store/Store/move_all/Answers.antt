@@ -1,11 +1,10 @@
-use Rattle.std.proofs.Common.{◌≡◌, Bool, length, sym, ap, subst, ◌∙◌}
-use Rattle.std.specs.Prelude.{nat_le, Ok, Err}
+use Rattle.std.proofs.Common.{sym, ap, subst, ◌∙◌}
+use Rattle.std.specs.Prelude.{nat_le}
 use Rattle.col_disk.specs.declared.disk.StoreFault.TheVariants as fault
-use Rattle.mover_policy.specs.First.{all_projections}
 use Rattle.store_commit.specs.Making.{Makes}
 use Rattle.store_commit.specs.Seen.{Seen}
 use Rattle.store_core.specs.Moving.{MovesAllOf}
-use Rattle.store_core.specs.Running.{running, Running}
+use Rattle.store_core.specs.Running.{running}
 use Rattle.store_core.proofs.Chain.{failed, moved_done, moved_fails, moved_spent, projections_within, unit_fault}
 use Rattle.store_core.proofs.Stepping.{gave_up_at}
 use Rattle.table_store.specs.Draining.{all_caught_up}
