@@ -9,3 +9,5 @@ pub mod Bars
 pub mod Beside
 pub mod Columns
 pub mod Together
+pub mod Lonely
+pub mod Behind
