@@ -11,3 +11,4 @@ pub mod Columns
 pub mod Together
 pub mod Lonely
 pub mod Behind
+pub mod Kept

@@ -19,7 +19,7 @@ use col_value::{Wide, WideRow};
 use sql_bound::{BoundQuery, Expr};
 
 /// The lane of numbers of a column, if it is held so.
-fn numbers_of(columns: &[Option<Block>], column: usize) -> Option<&[i64]>
+pub fn numbers_of(columns: &[Option<Block>], column: usize) -> Option<&[i64]>
     ensures { IfSome result (λ ns. (place : ℕ) → slice_index_or (row_of columns.now place) column value.Null ≡ slice_index_or (map number_value ns.now) place value.Null) }
 {
     match columns.get(column) {
