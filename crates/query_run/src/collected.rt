@@ -217,6 +217,10 @@ pub fn add_row(
 ) -> Result<(), AllocError>
     ensures { OnOk result (IsAdded query.now row rows.old.items rows.new.items bar.old bar.new) }
 {
+    if query.limit.is_none() {
+        rows.push(row)?;
+        return Ok(());
+    }
     let mut all = std::mem::replace(rows, Vec::new(alloc));
     all.push(row)?;
     if !are_many(all.as_slice(), query.limit) {

@@ -144,7 +144,7 @@ fn place_holds(numbers: &[i64], cmp: Cmp, m: i64, place: usize) -> bool
 }
 
 /// The lane of numbers of an expression that is a column held so.
-fn lane_of<'a>(e: &Expr, columns: &'a [Option<Block>]) -> Option<&'a [i64]>
+pub fn lane_of<'a>(e: &Expr, columns: &'a [Option<Block>]) -> Option<&'a [i64]>
     ensures { IfSome result (λ ns. (place : ℕ) → value_of (of_row (row_of columns.now place)) e.now ≡ widened (slice_index_or (map number_value ns.now) place Null)) }
 {
     match e {

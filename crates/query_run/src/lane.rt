@@ -4,7 +4,9 @@ ghost use Rattle.std.specs.Prelude.{◌≡◌, true, [], if◌then◌else◌, ma
 ghost use Rattle.std.specs.List.{All};
 ghost use Rattle.std.specs.Option.{IfSome};
 ghost use Rattle.std.specs.Ordering.{is_lt, ordering_reverse};
-ghost use Rattle.col_value.specs.Order.{IsRow, wide_cmp};
+ghost use Rattle.block_codec.specs.Held.{number_value};
+ghost use Rattle.col_value.specs.Order.{IsRow, wide_cmp, widened};
+ghost use Rattle.col_value.specs.declared.value.Value.TheVariants as value;
 ghost use Rattle.col_value.specs.declared.wide.Wide.TheVariants.{Null};
 ghost use Rattle.exec_group.specs.Columns.{row_of};
 ghost use Rattle.expr_value.specs.Worths.{wide_of};
@@ -14,8 +16,9 @@ ghost use Rattle.sql_bound.specs.Values.{of_row, value_of};
 ghost use Rattle.query_run.specs.Outputs.{items_in};
 
 use crate::bar::{order_of, value_in};
+use crate::filter::lane_of;
 use block_codec::Block;
-use col_value::{List, WideRow};
+use col_value::{List, Wide, WideRow};
 use exec_group::{row_at, worth_at};
 use expr_value::{Worth, items_of};
 use sql_bound::{BoundQuery, Expr};
@@ -102,6 +105,55 @@ pub fn is_barred_at(
     }
 }
 
+/// The value that a number of a lane stands for.
+fn number_wide(n: i64) -> Wide
+    ensures { result ≡ widened (number_value n) }
+{
+    if n == i64::MIN {
+        Wide::Null
+    } else {
+        Wide::Int(i128::from(n))
+    }
+}
+
+/// The number of a lane at a place as a value, if there is one.
+fn lane_wide(numbers: &[i64], place: usize) -> Option<Wide>
+    ensures { IfSome result (λ w. w ≡ widened (slice_index_or (map number_value numbers.now) place value.Null)) }
+{
+    match numbers.get(place) {
+        Some(n) => Some(number_wide(*n)),
+        None => None,
+    }
+}
+
+/// The number that an expression is worth in the row at a place as a value, if it is a column that is held as a lane of numbers.
+fn number_told_at(e: &Expr, columns: &[Option<Block>], place: usize) -> Option<Wide>
+    ensures { IfSome result (λ w. w ≡ value_of (of_row (row_of columns.now place)) e.now) }
+{
+    match lane_of(e, columns) {
+        Some(numbers) => lane_wide(numbers, place),
+        None => None,
+    }
+}
+
+/// What an expression is worth in the row at a place, with a text of its own, where no row has to be made for it.
+fn own_told_at(
+    alloc: Global,
+    e: &Expr,
+    columns: &[Option<Block>],
+    place: usize,
+) -> Result<Option<Wide>, AllocError>
+    ensures { IfOk result (λ o. IfSome o (λ w. w ≡ value_of (of_row (row_of columns.now place)) e.now)) }
+{
+    if let Some(wide) = number_told_at(e, columns, place) {
+        return Ok(Some(wide));
+    }
+    match told_at(e, columns, place) {
+        Some(worth) => Ok(Some(worth.own(alloc)?)),
+        None => Ok(None),
+    }
+}
+
 /// The output row of the row at a place, which is made for it.
 fn made_items(
     alloc: Global,
@@ -130,10 +182,10 @@ pub fn items_of_place(
 {
     let mut out = Vec::with_capacity(alloc, items.len())?;
     for item in items {
-        let Some(worth) = told_at(item, columns, place) else {
+        let Some(value) = own_told_at(alloc, item, columns, place)? else {
             return made_items(alloc, items, columns, place);
         };
-        out.push(worth.own(alloc)?)?;
+        out.push(value)?;
     }
     Ok(List::new(out))
 }
