@@ -1,13 +1,22 @@
 -- Rows at places that conditions keep, one condition after another.
-use Rattle.std.proofs.Common.{◌≡◌, ℕ, ◌+◌, ◌<◌, ◌≤◌, ◌++◌, ◌&&◌, Bool, true, false, cond, List, [], ◌∷◌, length, get_or, take, filter, refl, sym, ap, ◌∙◌, subst}
+use Rattle.std.proofs.Common.{◌≡◌, ℕ, ◌+◌, ◌<◌, ◌≤◌, ◌++◌, ◌&&◌, ◌==◌, Bool, true, false, if◌then◌else◌, cond, List, [], ◌∷◌, length, get_or, map, take, filter, refl, sym, ap, ap₂, ◌∙◌, subst}
+use Rattle.std.specs.Prelude.{slice_index_or}
 use Rattle.std.specs.List.{list_all}
+use Rattle.std.proofs.Math.ListN.{get_or-map}
 use Rattle.std.proofs.lemmas.List.{take_all, take_more}
 use Rattle.std.proofs.lemmas.List.Elements.{All-filter}
-use Rattle.col_value.specs.Order.{IsRow}
+use Rattle.block_codec.specs.Held.{picked}
+use Rattle.col_value.specs.Order.{IsRow, wide_cmp, wide_kind, widened}
+use Rattle.col_value.specs.declared.value.Value.{Value}
+use Rattle.col_value.specs.declared.value.Value.TheVariants as value
+use Rattle.col_value.specs.declared.wide.Wide.{Wide}
+use Rattle.col_value.specs.declared.wide.Wide.TheVariants as wide
 use Rattle.exec_group.specs.Columns.{row_of, AreRowsAt}
 use Rattle.sql_bound.specs.declared.expr.Expr.{Expr}
 use Rattle.sql_bound.specs.Outputs.{is_kept}
-use Rattle.sql_bound.specs.Values.{is_true, of_row, value_of}
+use Rattle.sql_bound.specs.Values.{compared, holds, is_true, of_row, value_of}
+use Rattle.sql_tree.specs.declared.tree.Cmp.{Cmp}
+use Rattle.query_run.specs.Outputs.{is_marked}
 use Rattle.query_run.proofs.Together.{Columns}
 
 abbrev pub is_true_at : Columns → Expr → ℕ → Bool
@@ -58,3 +67,26 @@ kept_none columns places kept is = is ∙ whole places
 
 pub kept_rows_at : (columns : Columns) (test : ℕ → Bool) (places kept : List ℕ) → kept ≡ filter test places → AreRowsAt columns places → AreRowsAt columns kept
 kept_rows_at columns test places kept is all = subst (AreRowsAt columns) (sym is) (All-filter test (λ i. IsRow (row_of columns i)) places all)
+
+never : (b : Bool) → (b && false) ≡ false
+never true = refl
+never false = refl
+
+-- no comparison of NULL holds
+null_told : (cmp : Cmp) (literal : Wide) → is_true (compared cmp wide.Null literal) ≡ false
+null_told cmp literal = ap (λ (b : Bool). is_true (if b then wide.Bool (holds cmp (wide_cmp wide.Null literal)) else wide.Null)) (never (0 == wide_kind literal))
+
+-- what is asked of a word's value is asked of the word
+pub word_told : (cmp : Cmp) (literal : Wide) (words : List Value) (codes : List ℕ) (place : ℕ)
+    → is_true (compared cmp (widened (slice_index_or (picked words codes) place value.Null)) literal) ≡ is_marked (map (λ w. is_true (compared cmp (widened w) literal)) words) codes place
+word_told cmp literal words codes place = sym (told (picked words codes) place) ∙ ap (λ (bs : List Bool). get_or bs place false) (each codes)
+  where
+    f : Value → Bool
+    f w = is_true (compared cmp (widened w) literal)
+
+    told : (xs : List Value) (n : ℕ) → get_or (map f xs) n false ≡ f (get_or xs n value.Null)
+    told xs n = ap (λ (d : Bool). get_or (map f xs) n d) (sym (null_told cmp literal)) ∙ get_or-map f xs n value.Null
+
+    each : (cs : List ℕ) → map f (picked words cs) ≡ map (λ p. get_or (map f words) p false) cs
+    each [] = refl
+    each (c ∷ cs) = ap₂ (λ (b : Bool) (bs : List Bool). b ∷ bs) (sym (told words c)) (each cs)

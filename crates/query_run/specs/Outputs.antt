@@ -75,3 +75,7 @@ shown q scopes = map (items_in q) (filter (is_shown q) scopes)
 -- these are the numbers of a lane with the values of an output column in the rows of columns
 abbrev pub IsLaneOf : BoundQuery → List (Option (List Value)) → ℕ → List ℤ → Type 0
 IsLaneOf q columns column numbers = (place : ℕ) → slice_index_or (items_in q (of_row (row_of columns place))) column wide.Null ≡ widened (slice_index_or (map number_value numbers) place value.Null)
+
+-- whether the word of the value at a place is marked
+abbrev pub is_marked : List Bool → List ℕ → ℕ → Bool
+is_marked marks codes place = slice_index_or (map (λ p. slice_index_or marks p false) codes) place false

@@ -3,18 +3,19 @@
 ghost use Rattle.std.specs.Prelude.{◌≡◌, ℕ, ◌++◌, ◌∷◌, [], true, if◌then◌else◌, filter, map, slice_index_or, IfOk, OnOk};
 ghost use Rattle.std.specs.List.{All};
 ghost use Rattle.std.specs.Option.{IfSome};
-ghost use Rattle.block_codec.specs.Held.{number_value};
+ghost use Rattle.block_codec.specs.Held.{number_value, picked};
 ghost use Rattle.col_value.specs.Order.{IsRow, widened};
 ghost use Rattle.col_value.specs.declared.value.Value.TheVariants.{Null};
 ghost use Rattle.col_value.specs.declared.wide.Wide.TheVariants as wide;
 ghost use Rattle.exec_group.specs.Columns.{row_of, AreRowsAt};
 ghost use Rattle.sql_bound.specs.Bounds.{is_narrow};
 ghost use Rattle.sql_bound.specs.Outputs.{is_kept};
+ghost use Rattle.query_run.specs.Outputs.{is_marked};
 ghost use Rattle.sql_bound.specs.Values.{Scope, compared, holds, is_true, of_row, value_of};
 
 use crate::past::numbers_of;
 use block_codec::Block;
-use col_value::Wide;
+use col_value::{Value, Wide};
 use exec_group::{row_at, worth_at};
 use expr_value::{Sight, Worth, is_true};
 use sql_bound::Expr;
@@ -192,6 +193,116 @@ fn lane_kept(
     Ok(kept)
 }
 
+/// The words of an expression that is a column held so, and the places of its values among them.
+fn words_of<'a>(e: &Expr, columns: &'a [Option<Block>]) -> Option<(&'a [Value], &'a [u64])>
+    ensures { IfSome result (λ x. (place : ℕ) → value_of (of_row (row_of columns.now place)) e.now ≡ widened (slice_index_or (picked x.0.now x.1.now) place Null)) }
+{
+    match e {
+        Expr::Col(i) => column_words(columns, *i),
+        _ => None,
+    }
+}
+
+/// The words of a column and the places of its values among them, if it is held so.
+fn column_words(columns: &[Option<Block>], column: usize) -> Option<(&[Value], &[u64])>
+    ensures { IfSome result (λ x. (place : ℕ) → slice_index_or (row_of columns.now place) column Null ≡ slice_index_or (picked x.0.now x.1.now) place Null) }
+{
+    match columns.get(column) {
+        Some(Some(block)) => block.coded(),
+        _ => None,
+    }
+}
+
+/// The value of an expression that is a literal.
+fn literal_of(e: &Expr) -> Option<&Wide>
+    ensures { IfSome result (λ w. (s : Scope) → value_of s e.now ≡ w.now) }
+{
+    match e {
+        Expr::Lit(value) => Some(value),
+        _ => None,
+    }
+}
+
+/// Whether a comparison with a literal holds of each word.
+fn words_hold(
+    alloc: Global,
+    cmp: Cmp,
+    literal: &Wide,
+    words: &[Value],
+) -> Result<Vec<bool>, AllocError>
+    ensures { IfOk result (λ v. v.items ≡ map (λ w. is_true (compared cmp (widened w) literal.now)) words.now) }
+{
+    let mut marks = Vec::with_capacity(alloc, words.len())?;
+    for word in words {
+        let holds = Worth::of_value(word)
+            .compared(cmp, &Worth::of_wide(literal))
+            .is_true();
+        marks.push(holds)?;
+    }
+    Ok(marks)
+}
+
+/// Whether the word of the value at a place is marked.
+fn is_marked(marks: &[bool], codes: &[u64], place: usize) -> bool
+    ensures { result ≡ is_marked marks.now codes.now place }
+{
+    match codes.get(place) {
+        Some(code) => match marks.get(*code as usize) {
+            Some(mark) => *mark,
+            None => false,
+        },
+        None => false,
+    }
+}
+
+/// The places of the rows in which a condition is true that the mark of a word tells.
+fn marked_kept(
+    alloc: Global,
+    e: &Expr,
+    columns: &[Option<Block>],
+    marks: &[bool],
+    codes: &[u64],
+    places: &[usize],
+) -> Result<Vec<usize>, AllocError>
+    requires { (place : ℕ) → is_true (value_of (of_row (row_of columns.now place)) e.now) ≡ is_marked marks.now codes.now place }
+    ensures { IfOk result (λ v. v.items ≡ filter (λ i. is_true (value_of (of_row (row_of columns.now i)) e.now)) places.now) }
+{
+    let mut kept = Vec::with_capacity(alloc, places.len())?;
+    for place in places {
+        put_place(&mut kept, is_marked(marks, codes, *place), *place)?;
+    }
+    Ok(kept)
+}
+
+/// The places of the rows in which a comparison of two expressions is true, by words where the one is a column held so, of no more words than
+/// there are places, and the other a literal.
+fn word_kept(
+    alloc: Global,
+    e: &Expr,
+    a: &Expr,
+    cmp: Cmp,
+    b: &Expr,
+    columns: &[Option<Block>],
+    places: &[usize],
+) -> Result<Vec<usize>, AllocError>
+    requires narrow { is_narrow [] e.now ≡ true }
+    requires compares { (s : Scope) → value_of s e.now ≡ compared cmp (value_of s a.now) (value_of s b.now) }
+    requires rows { AreRowsAt columns.now places.now }
+    ensures { IfOk result (λ v. v.items ≡ filter (λ i. is_true (value_of (of_row (row_of columns.now i)) e.now)) places.now) }
+{
+    let Some((words, codes)) = words_of(a, columns) else {
+        return each_kept(alloc, e, columns, places);
+    };
+    let Some(literal) = literal_of(b) else {
+        return each_kept(alloc, e, columns, places);
+    };
+    if words.len() > places.len() {
+        return each_kept(alloc, e, columns, places);
+    }
+    let marks = words_hold(alloc, cmp, literal, words)?;
+    marked_kept(alloc, e, columns, marks.as_slice(), codes, places)
+}
+
 /// The same of a comparison of two expressions, by a lane where the one is a column held so and the other a number.
 fn compared_kept(
     alloc: Global,
@@ -208,7 +319,7 @@ fn compared_kept(
     ensures { IfOk result (λ v. v.items ≡ filter (λ i. is_true (value_of (of_row (row_of columns.now i)) e.now)) places.now) }
 {
     let Some(numbers) = lane_of(a, columns) else {
-        return each_kept(alloc, e, columns, places);
+        return word_kept(alloc, e, a, cmp, b, columns, places);
     };
     match number_of(b) {
         Some(m) => lane_kept(alloc, e, columns, numbers, cmp, m, places),
