@@ -3,7 +3,7 @@ use Rattle.std.proofs.lemmas.List.{length-map}
 use Rattle.std.proofs.lemmas.Result.{on_ok_weaker}
 use Rattle.exec_group.specs.Columns.{row_of}
 use Rattle.query_run.proofs.Together.{groups_grown}
-use Rattle.query_run.proofs.collected.Collected.take_columns.Goals as goal
+use Rattle.query_run.proofs.collected.Collected.take_grouped.Goals as goal
 
 pub returns : goal.returns
 returns c =
