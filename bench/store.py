@@ -5,7 +5,7 @@
     VERT=PROGRAM BUDDY=PROGRAM bench/store.py with programs that are built already
 
 tables: N tables created, filled with one row each and ended; seconds of processor time and how they grow with a doubling.
-settled: over a folder of 400 tables, one INSERT with its COMMIT and the end: the calls that sync a file and those that list the folder.
+settled: over a folder of 400 tables, one INSERT with its COMMIT and the end: how often a file is synced and the folder listed.
 commits: a COMMIT of one row beside rows in memory, of the same table and of another one.
 durable: 200 transactions of one row, each on disk before the next, beside sqlite3's over a file with the same promise.
 years: 2,000 commits of 50 rows, a tenth of them deleted, with two steps of the mover behind each statement: containers, and one row by its key.
@@ -108,15 +108,14 @@ def settled(folder):
         measured(folder, "tables400", name)
     files = len(os.listdir(os.path.join(folder, "tables400")))
     script(folder, "one.sql", "INSERT INTO t7 VALUES (1, 'y'); COMMIT;")
-    words = ["strace", "-f", "-c", "-o", "counts", "-e", "trace=fsync,fdatasync,getdents64,openat,unlink,statx", VERT, "tables400", "one.sql"]
+    words = ["strace", "-f", "-o", "calls", "-e", "trace=fsync,fdatasync,getdents64,unlink", VERT, "tables400", "one.sql"]
     subprocess.run(words, cwd=folder, stdout=subprocess.DEVNULL, check=True)
-    counts = {}
-    for line in open(os.path.join(folder, "counts")):
-        found = re.match(r"\s*[\d.]+\s+[\d.]+\s+\d+\s+(\d+)\s+(?:\d+\s+)?(\w+)$", line)
-        if found:
-            counts[found[2]] = int(found[1])
-    syncs = counts.get("fsync", 0) + counts.get("fdatasync", 0)
-    print(f"  {files} files before   {syncs} syncs   {counts.get('getdents64', 0)} calls that list   {counts.get('unlink', 0)} removals")
+    calls = open(os.path.join(folder, "calls")).read()
+    syncs = len(re.findall(r"\b(?:fsync|fdatasync)\(", calls))
+    # a listing ends with the call that tells no more names
+    listings = len(re.findall(r"\bgetdents64\(.* = 0$", calls, re.M))
+    written = len(os.listdir(os.path.join(folder, "tables400"))) - files
+    print(f"  {files} files before, {written} more behind   {syncs} syncs   {listings} listings   {calls.count('unlink(')} removals")
 
 
 def commits(folder):

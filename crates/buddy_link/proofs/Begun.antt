@@ -25,7 +25,8 @@ use Rattle.catch_model.specs.declared.fault.LinkFault.TheVariants.{HistoryGone, 
 use Rattle.catch_schemas.specs.Schemas.{columns_in, AreAscending}
 use Rattle.catch_tables.specs.Told.{AreToldBy, History}
 use Rattle.buddy_link.specs.Linked.{linked, Tells}
-use Rattle.buddy_link.specs.Linking.{mark_between, Ends, GoesOn, IsChecked, MayGoOn, MayReplay, Replays, ReopensBehindOrCaught, TellsAt}
+use Rattle.buddy_link.specs.Linking.{mark_between, Ends, GoesOn, IsChecked, MayGoOn, MayReplay, Replays, ReopensBehindOrCaught}
+use Rattle.catch_rows.specs.Sharing.{ShareAt}
 use Rattle.buddy_link.proofs.Compared.{AreCompared, IsReadAt}
 use Rattle.buddy_link.proofs.Named.{named_alike, rising}
 use Rattle.buddy_link.proofs.Stays.{columns_told, mark_told, tables_ascend}
@@ -95,11 +96,11 @@ compared behind ahead at from r t a b epoch here there is = record {
 
 -- what was read of the table at a place
 pub read_at : {A B : Type 0} (behind : Ghosts A) (ahead : Ghosts B) (at : A) (from : B) (r t : Running) (a b : State) (place : ℕ) (name : List ℕ) (xs ys : List Stamped) → IsState behind r at a → IsState ahead t from b → IsSomeAnd (slice_get t.seen.catalogue.tables place) (λ u. u.name ≡ name)
-    → TellsAt (mark_between r t) place xs a.database → TellsAt (mark_between r t) place ys b.database → IsReadAt (mark_between r t) place name xs ys a.database b.database
-read_at behind ahead at from r t a b place name xs ys here there named one two = record {
+    → ShareAt (mark_between r t) place xs ys a.database b.database → IsReadAt (mark_between r t) place name xs ys a.database b.database
+read_at behind ahead at from r t a b place name xs ys here there named shares = record {
   named = named_there there.database.files t.seen.catalogue.ahm t.seen.catalogue.tables t.seen.stores b.database.tables place name there.database.are.tables named;
-  behind = one (subst (λ (n : ℕ). n ≤ mark_between r t) (sym here.database.are.ahm) (omega arith));
-  ahead = two (subst (λ (n : ℕ). n ≤ mark_between r t) (sym there.database.are.ahm) (omega arith));
+  sound = here.sound.database.tables;
+  shares = shares (subst (λ (n : ℕ). n ≤ mark_between r t) (sym here.database.are.ahm) (omega arith)) (subst (λ (n : ℕ). n ≤ mark_between r t) (sym there.database.are.ahm) (omega arith));
 }
 
 -- the later mark is no later than the epoch
@@ -110,7 +111,7 @@ mark_within behind ahead at from r t a b epoch here there last is =
     within : (m n : ℕ) → m ≤ epoch → n ≤ epoch → max m n ≤ epoch
     within m n one two = omega (arith, one, two)
 
-pub checked : {A B : Type 0} (behind : Ghosts A) (ahead : Ghosts B) (at : A) (from : B) (r t : Running) (a b : State) (epoch last : ℕ) (hs : List History) → IsState behind r at a → IsState ahead t from b → IsAhead a.database b.database epoch → AreToldBy (mark_between r t) hs b.database → IsOlder a.database b.database epoch
+pub checked : {A B : Type 0} (behind : Ghosts A) (ahead : Ghosts B) (at : A) (from : B) (r t : Running) (a b : State) (epoch last : ℕ) (hs : List History) → IsState behind r at a → IsState ahead t from b → IsAhead a.database b.database epoch → AreToldBy (mark_between r t) epoch hs b.database → IsOlder a.database b.database epoch
     → last ≡ b.database.last → NoEpoch (is_gap b.database) epoch last → NoEpoch (has_too_many b.database) epoch last → IsChecked epoch hs a.database b.database
 checked behind ahead at from r t a b epoch last hs here there is told older same gaps many = record {
   accepted = record {
@@ -119,7 +120,7 @@ checked behind ahead at from r t a b epoch last hs here there is told older same
     no_gap = subst (λ (n : ℕ). NoEpoch (is_gap b.database) epoch n) same gaps;
     no_more = subst (λ (n : ℕ). NoEpoch (has_too_many b.database) epoch n) same many;
   };
-  told = subst (λ (n : ℕ). AreToldBy n hs b.database) (mark_told behind ahead at from r t a b here there) told;
+  told = subst (λ (n : ℕ). AreToldBy n epoch hs b.database) (mark_told behind ahead at from r t a b here there) told;
 }
 
 -- ---- the begin
@@ -131,7 +132,7 @@ begun behind ahead at from r t a b epoch e f mark hs here there epoch_is e_is f_
     let later : mark ≡ later_mark a.database b.database = mark_is ∙ mark_told behind ahead at from r t a b here there in
     let is = found (sym same) in (
       subst (IsAccepted a.database b.database) same is.accepted,
-      record { e = e_is ∙ sym here.database.are.last; f = f_is ∙ sym there.database.are.last; mark = later; tables = subst (λ (n : ℕ). AreToldBy n hs b.database) (sym later) is.told },
+      record { e = e_is ∙ sym here.database.are.last; f = f_is ∙ sym there.database.are.last; mark = later; tables = subst (λ (n : ℕ). AreToldBy n e hs b.database) (sym later) (subst (λ (k : ℕ). AreToldBy (later_mark a.database b.database) k hs b.database) (epoch_is ∙ sym e_is) is.told) },
     )
 
 -- why there is none

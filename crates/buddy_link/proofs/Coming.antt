@@ -25,7 +25,7 @@ use Rattle.catch_model.specs.declared.fault.LinkFault.{LinkFault}
 use Rattle.catch_model.specs.declared.fault.LinkFault.TheVariants as link
 use Rattle.catch_laws.specs.Replay.{IsAt}
 use Rattle.catch_laws.proofs.Pending.{pends_commit, pends_none}
-use Rattle.buddy_link.specs.Linking.{behind_fault}
+use Rattle.catch_rows.specs.Sharing.{behind_fault}
 use Rattle.buddy_link.specs.Replaying.{Comes, IsShortBehind, ReopensBehind}
 use Rattle.buddy_link.proofs.Pended.{IsPended}
 

@@ -1,5 +1,5 @@
 -- What tables tell from a mark on is what the database ahead did after it.
-use Rattle.std.proofs.Common.{◌≡◌, ◌≤◌, ◌<◌, ◌||◌, ℕ, Bool, not, true, false, cond, inl, List, [], ◌∷◌, map, filter, length, Option, Some, None, refl, sym, ap, ap₂, ◌∙◌, arith, subst}
+use Rattle.std.proofs.Common.{◌≡◌, ◌≤◌, ◌<◌, ◌++◌, ◌||◌, ℕ, Bool, not, true, false, cond, inl, List, [], ◌∷◌, map, filter, length, Option, Some, None, refl, sym, ap, ap₂, ◌∙◌, arith, subst}
 use Rattle.std.specs.Prelude.{nat_lt, ◌==◌}
 use Rattle.std.specs.List.{list_any, All, AllZip}
 use Rattle.std.specs.Option.{option_map_or, IfSome}
@@ -8,6 +8,7 @@ use Rattle.std.proofs.lemmas.List.{length-map}
 use Rattle.std.proofs.lemmas.List.Elements.{All-head, All-tail, All-weaker}
 use Rattle.common_laws.specs.Bags.{SameBag}
 use Rattle.common_laws.proofs.BagLaws.{bag_filter, bag_length, bag_map, bag_trans}
+use Rattle.col_value.specs.declared.row.Asked.{Asked}
 use Rattle.col_value.specs.declared.row.Stamped.{Stamped}
 use Rattle.col_value.specs.declared.value.Value.{Value}
 use Rattle.row_history.specs.History.{is_retained, retained}
@@ -19,7 +20,7 @@ use Rattle.catch_model.specs.Refused.{is_gap, IsAhead, IsLeastEpoch, IsOlder, No
 use Rattle.catch_model.specs.declared.fault.LinkFault.TheVariants.{Gap, TooMany}
 use Rattle.catch_laws.proofs.Epochs.{IsLater}
 use Rattle.catch_tables.specs.Keyed.{delete_of, has_change_in, has_more_in, of_epoch, row_of, AreChangesOf, Changed}
-use Rattle.catch_tables.specs.Told.{AreToldBy, History, IsToldBy}
+use Rattle.catch_tables.specs.Told.{AreToldBy, History, IsToldBy, IsUpTo}
 use Rattle.buddy_link.specs.Linking.{Ends}
 use Rattle.buddy_link.specs.Replaying.{IsOrderedOf}
 
@@ -52,17 +53,42 @@ deleted_retained mark n rows lt = ap (map asked_of) (filter_twice (is_deleted_in
         later : (m : ℕ) → (m == n) ≡ true → nat_lt mark m ≡ true
         later m same = grind (arith, nat_tests)
 
-ordered_of : (mark after : ℕ) (h : History) (t : Table) (c : Changed) → mark ≤ after → All IsLater t.rows → IsToldBy mark h t → AreChangesOf after h c → IsOrderedOf after t c
+-- rows of which nothing is later than an epoch were inserted and deleted in none that is later
+none_inserted : (after n : ℕ) (common ys : List Stamped) → after < n → All (IsUpTo after) common → inserted_in n (common ++ ys) ≡ inserted_in n ys
+none_inserted after n [] ys lt early = refl
+none_inserted after n (s ∷ common) ys lt early =
+    ap (λ (b : Bool). map (λ (r : Stamped). r.row) (cond b (s ∷ filter (is_inserted_in n) (common ++ ys)) (filter (is_inserted_in n) (common ++ ys)))) (other s.ins (All-head (IsUpTo after) s common early).0)
+    ∙ none_inserted after n common ys lt (All-tail (IsUpTo after) s common early)
+  where
+    other : (m : ℕ) → m ≤ after → (m == n) ≡ false
+    other m le = grind (arith, nat_tests)
+
+none_deleted : (after n : ℕ) (common ys : List Stamped) → after < n → All (IsUpTo after) common → deleted_in n (common ++ ys) ≡ deleted_in n ys
+none_deleted after n [] ys lt early = refl
+none_deleted after n (s ∷ common) ys lt early =
+    ap (λ (b : Bool). map asked_of (cond b (s ∷ filter (is_deleted_in n) (common ++ ys)) (filter (is_deleted_in n) (common ++ ys)))) (other s.del (All-head (IsUpTo after) s common early).1)
+    ∙ none_deleted after n common ys lt (All-tail (IsUpTo after) s common early)
+  where
+    later : (m : ℕ) → m ≤ after → (m == n) ≡ false
+    later m le = grind (arith, nat_tests)
+
+    other : (o : Option ℕ) → IfSome o (λ d. d ≤ after) → option_map_or (λ e. e == n) o false ≡ false
+    other None le = refl
+    other (Some d) le = later d le
+
+ordered_of : (mark after : ℕ) (h : History) (t : Table) (c : Changed) → mark ≤ after → All IsLater t.rows → IsToldBy mark after h t → AreChangesOf after h c → IsOrderedOf after t c
 ordered_of mark after h t c le later told are = record {
   name = are.name ∙ told.name;
   inserts = λ n lt.
       subst (SameBag (map row_of (of_epoch n c.inserts))) (inserted_retained mark n t.rows (above n lt) later)
       (bag_trans (map row_of (of_epoch n c.inserts)) (inserted_in n h.rows) (inserted_in n (retained mark t.rows)) (are.inserts n lt)
-      (bag_map (λ (s : Stamped). s.row) (filter (is_inserted_in n) h.rows) (filter (is_inserted_in n) (retained mark t.rows)) (bag_filter (is_inserted_in n) h.rows (retained mark t.rows) told.rows)));
+      (subst (λ (xs : List (List Value)). SameBag xs (inserted_in n (retained mark t.rows))) (none_inserted after n told.common h.rows lt told.early)
+      (bag_map (λ (s : Stamped). s.row) (filter (is_inserted_in n) (told.common ++ h.rows)) (filter (is_inserted_in n) (retained mark t.rows)) (bag_filter (is_inserted_in n) (told.common ++ h.rows) (retained mark t.rows) told.rows))));
   deletes = λ n lt.
       subst (SameBag (map delete_of (of_epoch n c.deletes))) (deleted_retained mark n t.rows (above n lt))
       (bag_trans (map delete_of (of_epoch n c.deletes)) (deleted_in n h.rows) (deleted_in n (retained mark t.rows)) (are.deletes n lt)
-      (bag_map asked_of (filter (is_deleted_in n) h.rows) (filter (is_deleted_in n) (retained mark t.rows)) (bag_filter (is_deleted_in n) h.rows (retained mark t.rows) told.rows)));
+      (subst (λ (xs : List Asked). SameBag xs (deleted_in n (retained mark t.rows))) (none_deleted after n told.common h.rows lt told.early)
+      (bag_map asked_of (filter (is_deleted_in n) (told.common ++ h.rows)) (filter (is_deleted_in n) (retained mark t.rows)) (bag_filter (is_deleted_in n) (told.common ++ h.rows) (retained mark t.rows) told.rows))));
 }
   where
     above : (n : ℕ) → after < n → mark < n
@@ -75,7 +101,7 @@ rows_are_later d t sound = All-weaker (HasEpochs d.last) IsLater (λ s has. by s
     by n None has = tt
     by n (Some e) (lt, le) = lt
 
-pub all_ordered : (mark after : ℕ) (d : Database) → mark ≤ after → (ts : List Table) (hs : List History) (cs : List Changed) → All (IsSoundTable d) ts → AllZip (IsToldBy mark) hs ts → AllZip (AreChangesOf after) hs cs → AllZip (IsOrderedOf after) ts cs
+pub all_ordered : (mark after : ℕ) (d : Database) → mark ≤ after → (ts : List Table) (hs : List History) (cs : List Changed) → All (IsSoundTable d) ts → AllZip (IsToldBy mark after) hs ts → AllZip (AreChangesOf after) hs cs → AllZip (IsOrderedOf after) ts cs
 all_ordered mark after d le [] [] [] sound told are = tt
 all_ordered mark after d le [] [] (c ∷ cs) sound told are = absurd are
 all_ordered mark after d le [] (h ∷ hs) cs sound told are = absurd told
@@ -128,7 +154,7 @@ pub record TellEpochs (after : ℕ) (b : Database) (cs : List Changed) : Type 0 
   pub change : (k : ℕ) → after < k → list_any (has_change_in k) cs ≡ has_change b k
   pub many : (k : ℕ) → after < k → list_any (has_more_in k) cs ≡ has_too_many b k
 
-pub epochs_told : (mark after : ℕ) (b : Database) (hs : List History) (cs : List Changed) → IsSoundDatabase b → mark ≤ after → AreToldBy mark hs b → AllZip (AreChangesOf after) hs cs → TellEpochs after b cs
+pub epochs_told : (mark after : ℕ) (b : Database) (hs : List History) (cs : List Changed) → IsSoundDatabase b → mark ≤ after → AreToldBy mark after hs b → AllZip (AreChangesOf after) hs cs → TellEpochs after b cs
 epochs_told mark after b hs cs sound le told are = record {
   change = λ k lt. any_zipped (IsOrderedOf after) (is_changed_in k) (has_change_in k) (λ t c one. change_in after k t c lt one) b.tables cs ordered;
   many = λ k lt. any_zipped (IsOrderedOf after) (λ t. nat_lt 16777216 (length (inserted_in k t.rows))) (has_more_in k) (λ t c one. more_in after k t c lt one) b.tables cs ordered;

@@ -5,7 +5,7 @@ use Rattle.catch_tables.specs.Told.{History, AreToldBy}
 use Rattle.catch_model.specs.Caught.{later_mark}
 
 -- the newest epoch of the one behind and of the one ahead, the later of their ancient history marks, and what each table ahead tells from
--- that mark on
+-- that mark on, but for rows of which nothing is later than the newest epoch of the one behind
 pub record Linked : Type 0 where
   pub e : ℕ
   pub f : ℕ
@@ -20,4 +20,4 @@ pub record Tells (link : Linked) (a b : Database) : Type 0 where
   pub e : link.e ≡ a.last
   pub f : link.f ≡ b.last
   pub mark : link.mark ≡ later_mark a b
-  pub tables : AreToldBy link.mark link.tables b
+  pub tables : AreToldBy link.mark link.e link.tables b

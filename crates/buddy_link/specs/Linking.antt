@@ -5,8 +5,6 @@ use Rattle.common_laws.specs.Bags.{SameBag}
 use Rattle.common_laws.specs.Maps.{Contents}
 use Rattle.col_disk.specs.Moved.{Leaves}
 use Rattle.col_disk.specs.declared.disk.Disk.{Ghosts}
-use Rattle.col_disk.specs.declared.disk.StoreFault.{StoreFault}
-use Rattle.col_disk.specs.declared.disk.StoreFault.TheVariants as store
 use Rattle.col_value.specs.declared.row.Stamped.{Stamped}
 use Rattle.row_history.specs.History.{cut_rows, retained}
 use Rattle.db_model.specs.Database.{Database}
@@ -22,35 +20,10 @@ use Rattle.catch_model.specs.Caught.{later_mark, HaveSameHistory, HaveSameTables
 use Rattle.catch_model.specs.Refused.{IsAccepted, IsRefused}
 use Rattle.catch_model.specs.declared.fault.LinkFault.{LinkFault}
 use Rattle.catch_model.specs.declared.fault.LinkFault.TheVariants.{SchemaDiffers, NotBehind, HistoryGone, Differs, Gap, TooMany, NumbersSpent, BehindDisk, AheadDisk, Damaged, Memory}
+use Rattle.catch_files.specs.Parting.{IsShort}
 use Rattle.catch_tables.specs.Told.{History, AreToldBy, IsLeastIn, IsToldBy}
 
 -- ---- faults
-
--- what a fault of the store behind is
-abbrev pub behind_fault : StoreFault → LinkFault
-behind_fault store.Disk = BehindDisk
-behind_fault (store.Damaged name) = Damaged name
-behind_fault store.Memory = Memory
-
--- what a fault of the store ahead is
-abbrev pub ahead_fault : StoreFault → LinkFault
-ahead_fault store.Disk = AheadDisk
-ahead_fault (store.Damaged name) = Damaged name
-ahead_fault store.Memory = Memory
-
--- a disk failed, or memory was short
-abbrev pub IsShort : LinkFault → Type 0
-IsShort (SchemaDiffers name) = ⊥
-IsShort (NotBehind behind ahead) = ⊥
-IsShort (HistoryGone at ahm) = ⊥
-IsShort (Differs table row) = ⊥
-IsShort (Gap n) = ⊥
-IsShort (TooMany n) = ⊥
-IsShort NumbersSpent = ⊥
-IsShort BehindDisk = Unit {0}
-IsShort AheadDisk = Unit {0}
-IsShort (Damaged name) = ⊥
-IsShort Memory = Unit {0}
 
 -- the store behind can't be brought from an epoch on up to the one ahead, or it was not to be found out
 abbrev pub Ends : Database → Database → ℕ → LinkFault → Type 0
@@ -61,10 +34,6 @@ Ends a b epoch fault = IsRefused a b epoch fault ⊎ IsShort fault
 -- the later mark of two stores
 abbrev pub mark_between : Running → Running → ℕ
 mark_between behind ahead = max behind.seen.catalogue.ahm ahead.seen.catalogue.ahm
-
--- these are the rows that the table at a place tells from a mark on
-abbrev pub TellsAt : ℕ → ℕ → List Stamped → Database → Type 0
-TellsAt mark place rows d = d.ahm ≤ mark → IsSomeAnd (slice_get d.tables place) (λ t. SameBag rows (retained mark t.rows))
 
 -- the table at a place tells in both the same from a mark on, up to an epoch
 abbrev pub SameAt : ℕ → ℕ → ℕ → Database → Database → Type 0
@@ -77,7 +46,7 @@ DifferAt mark epoch place table row a b =
 
 -- this is what the table at a place tells ahead, and the same as behind up to an epoch
 pub record IsToldAt (mark epoch place : ℕ) (h : History) (a b : Database) : Type 0 where
-  pub told : IsSomeAnd (slice_get b.tables place) (IsToldBy mark h)
+  pub told : IsSomeAnd (slice_get b.tables place) (IsToldBy mark epoch h)
   pub same : SameAt mark epoch place a b
 
 -- why it isn't
@@ -97,7 +66,7 @@ EndsAt mark epoch place a b Memory = Unit {0}
 -- what the tables tell ahead, where nothing is in the way
 pub record IsChecked (epoch : ℕ) (tables : List History) (a b : Database) : Type 0 where
   pub accepted : IsAccepted a b epoch
-  pub told : AreToldBy (later_mark a b) tables b
+  pub told : AreToldBy (later_mark a b) epoch tables b
 
 -- ---- replaying
 
@@ -108,7 +77,7 @@ pub record MayReplay (mark after last : ℕ) (tables : List History) (a : State)
   pub after_is : after ≡ a.database.last
   pub last_is : last ≡ b.last
   pub mark_is : mark ≡ later_mark a.database b
-  pub told : AreToldBy mark tables b
+  pub told : AreToldBy mark after tables b
   pub sound : IsSoundDatabase b
   pub idle : a.sessions ≡ idle_sessions
   pub good : last_good a.database ≡ a.database.last

@@ -43,20 +43,6 @@ IsShortBehind AheadDisk = ⊥
 IsShortBehind (Damaged name) = ⊥
 IsShortBehind Memory = Unit {0}
 
--- the disk ahead failed, or memory was short
-abbrev pub IsShortAhead : LinkFault → Type 0
-IsShortAhead (SchemaDiffers name) = ⊥
-IsShortAhead (NotBehind behind ahead) = ⊥
-IsShortAhead (HistoryGone at ahm) = ⊥
-IsShortAhead (Differs table row) = ⊥
-IsShortAhead (Gap n) = ⊥
-IsShortAhead (TooMany n) = ⊥
-IsShortAhead NumbersSpent = ⊥
-IsShortAhead BehindDisk = ⊥
-IsShortAhead AheadDisk = Unit {0}
-IsShortAhead (Damaged name) = ⊥
-IsShortAhead Memory = Unit {0}
-
 -- A database ahead, what it did after an epoch, and the database behind from which the replay starts.
 pub record Setting (mark after : ℕ) (start b : Database) (tables : List Changed) : Type 0 where
   pub sound : IsSoundDatabase b

@@ -21,8 +21,8 @@ use std::alloc::Global;
 
 /// Whether each epoch to come can be replayed as one commit.
 fn check_epochs(alloc: Global, tables: &[Told], after: u64, last: u64) -> Result<(), LinkFault>
-    ensures good { OnOk result ((mark : ℕ) (b : Database) → IsSoundDatabase b → mark ≤ after → last ≡ b.last → AreToldBy mark tables.now b → NoEpoch (is_gap b) after last × NoEpoch (has_too_many b) after last) }
-    ensures ends { IfErr result (λ fault. (mark : ℕ) (a b : Database) → IsSoundDatabase b → mark ≤ after → last ≡ b.last → AreToldBy mark tables.now b → IsAhead a b after → IsOlder a b after → Ends a b after fault) }
+    ensures good { OnOk result ((mark : ℕ) (b : Database) → IsSoundDatabase b → mark ≤ after → last ≡ b.last → AreToldBy mark after tables.now b → NoEpoch (is_gap b) after last × NoEpoch (has_too_many b) after last) }
+    ensures ends { IfErr result (λ fault. (mark : ℕ) (a b : Database) → IsSoundDatabase b → mark ≤ after → last ≡ b.last → AreToldBy mark after tables.now b → IsAhead a b after → IsOlder a b after → Ends a b after fault) }
     ensures behind { IsErrOf result LinkFault.BehindDisk → ⊥ }
     ensures ahead { IsErrOf result LinkFault.AheadDisk → ⊥ }
 {

@@ -9,13 +9,15 @@ ghost use Rattle.db_model.specs.State.{State};
 ghost use Rattle.store_core.specs.Running.{IsState};
 ghost use Rattle.catch_model.specs.Refused.{IsAhead, IsOlder};
 ghost use Rattle.catch_tables.specs.Told.{AreToldBy};
-ghost use Rattle.buddy_link.specs.Linking.{ahead_fault, behind_fault, mark_between, Ends, EndsAt, IsToldAt, TellsAt};
-ghost use Rattle.buddy_link.specs.Replaying.{IsShortAhead, IsShortBehind};
+ghost use Rattle.catch_files.specs.Parting.{IsShort};
+ghost use Rattle.catch_rows.specs.Sharing.{ShareAt};
+ghost use Rattle.buddy_link.specs.Linking.{mark_between, Ends, EndsAt, IsToldAt};
 
 use catch_model::LinkFault;
+use catch_rows::{Rests, rests_of};
 use catch_tables::{Told, difference_at};
-use col_disk::{Disk, StoreFault};
-use col_value::{Name, Stamped};
+use col_disk::Disk;
+use col_value::Name;
 use std::alloc::Global;
 use store_core::Store;
 
@@ -34,65 +36,34 @@ pub fn mark_of(pair: &Pair<'_>) -> u64
     pair.behind.mark().max(pair.ahead.mark())
 }
 
-pub fn behind_fault(fault: StoreFault) -> LinkFault
-    ensures { result ≡ behind_fault fault }
-{
-    match fault {
-        StoreFault::Disk => LinkFault::BehindDisk,
-        StoreFault::Damaged(name) => LinkFault::Damaged(name),
-        StoreFault::Memory => LinkFault::Memory,
-    }
-}
-
-fn ahead_fault(fault: StoreFault) -> LinkFault
-    ensures { result ≡ ahead_fault fault }
-{
-    match fault {
-        StoreFault::Disk => LinkFault::AheadDisk,
-        StoreFault::Damaged(name) => LinkFault::Damaged(name),
-        StoreFault::Memory => LinkFault::Memory,
-    }
-}
-
-/// What the store behind tells of the table at a place from the later mark on.
-fn read_behind<A: Disk>(
+/// What the table at a place tells in both, but for what both hold in the same files.
+fn rests_at<A: Disk, B: Disk>(
     alloc: Global,
     pair: &Pair<'_>,
     place: usize,
     at: &mut A,
-) -> Result<Vec<Stamped>, LinkFault>
-    ensures found { IfOk result (λ v. (a : State) → IsState ⟦<A as Disk>⟧ pair.now.behind.now at.old a → TellsAt (mark_between pair.now.behind.now pair.now.ahead.now) place v.items a.database) }
-    ensures short { IfErr result (λ fault. (a : State) → IsState ⟦<A as Disk>⟧ pair.now.behind.now at.old a → IsShortBehind fault) }
-    ensures own { IsErrOf result LinkFault.AheadDisk → ⊥ }
-    ensures kept { A.holds at.new ≡ A.holds at.old }
-    ensures moved { Moved ⟦<A as Disk>⟧ NoName NoName at.old at.new }
-    ensures cause { HasCause LinkFault.BehindDisk (A.faults at.old) (A.faults at.new) result }
-{
-    match pair.behind.history(alloc, place, mark_of(pair), at) {
-        Ok(rows) => Ok(rows),
-        Err(fault) => Err(behind_fault(fault)),
-    }
-}
-
-/// What the store ahead tells of the table at a place from the later mark on.
-fn read_ahead<B: Disk>(
-    alloc: Global,
-    pair: &Pair<'_>,
-    place: usize,
     from: &mut B,
-) -> Result<Vec<Stamped>, LinkFault>
-    ensures found { IfOk result (λ v. (b : State) → IsState ⟦<B as Disk>⟧ pair.now.ahead.now from.old b → TellsAt (mark_between pair.now.behind.now pair.now.ahead.now) place v.items b.database) }
-    ensures valid { IfOk result (λ v. All (λ s. IsRow s.row) v.items) }
-    ensures short { IfErr result (λ fault. (b : State) → IsState ⟦<B as Disk>⟧ pair.now.ahead.now from.old b → IsShortAhead fault) }
-    ensures own { IsErrOf result LinkFault.BehindDisk → ⊥ }
-    ensures kept { B.holds from.new ≡ B.holds from.old }
-    ensures moved { Moved ⟦<B as Disk>⟧ NoName NoName from.old from.new }
-    ensures cause { HasCause LinkFault.AheadDisk (B.faults from.old) (B.faults from.new) result }
+) -> Result<Rests, LinkFault>
+    ensures found { IfOk result (λ r. (a b : State) → IsState ⟦<A as Disk>⟧ pair.now.behind.now at.old a → IsState ⟦<B as Disk>⟧ pair.now.ahead.now from.old b → ShareAt (mark_between pair.now.behind.now pair.now.ahead.now) place r.behind.items r.ahead.items a.database b.database) }
+    ensures valid { IfOk result (λ r. All (λ s. IsRow s.row) r.ahead.items) }
+    ensures short { IfErr result (λ fault. (a b : State) → IsState ⟦<A as Disk>⟧ pair.now.behind.now at.old a → IsState ⟦<B as Disk>⟧ pair.now.ahead.now from.old b → IsShort fault) }
+    ensures behind_kept { A.holds at.new ≡ A.holds at.old }
+    ensures behind_moved { Moved ⟦<A as Disk>⟧ NoName NoName at.old at.new }
+    ensures behind_cause { HasCause LinkFault.BehindDisk (A.faults at.old) (A.faults at.new) result }
+    ensures ahead_kept { B.holds from.new ≡ B.holds from.old }
+    ensures ahead_moved { Moved ⟦<B as Disk>⟧ NoName NoName from.old from.new }
+    ensures ahead_cause { HasCause LinkFault.AheadDisk (B.faults from.old) (B.faults from.new) result }
 {
-    match pair.ahead.history(alloc, place, mark_of(pair), from) {
-        Ok(rows) => Ok(rows),
-        Err(fault) => Err(ahead_fault(fault)),
-    }
+    let mark = mark_of(pair);
+    rests_of(
+        alloc,
+        pair.behind.stored(),
+        at,
+        pair.ahead.stored(),
+        from,
+        place,
+        mark,
+    )
 }
 
 /// The name of the table at a place ahead.
@@ -114,8 +85,8 @@ fn tell_one<A: Disk, B: Disk>(
     at: &mut A,
     from: &mut B,
 ) -> Result<Told, LinkFault>
-    ensures told { IfOk result (λ h. (a b : State) → IsState ⟦<A as Disk>⟧ pair.now.behind.now at.old a → IsState ⟦<B as Disk>⟧ pair.now.ahead.now from.old b → mark_between pair.now.behind.now pair.now.ahead.now ≤ pair.now.epoch → IsToldAt (mark_between pair.now.behind.now pair.now.ahead.now) pair.now.epoch place h a.database b.database) }
-    ensures ends { IfErr result (λ fault. (a b : State) → IsState ⟦<A as Disk>⟧ pair.now.behind.now at.old a → IsState ⟦<B as Disk>⟧ pair.now.ahead.now from.old b → mark_between pair.now.behind.now pair.now.ahead.now ≤ pair.now.epoch → EndsAt (mark_between pair.now.behind.now pair.now.ahead.now) pair.now.epoch place a.database b.database fault) }
+    ensures told { IfOk result (λ h. (a b : State) → IsState ⟦<A as Disk>⟧ pair.now.behind.now at.old a → IsState ⟦<B as Disk>⟧ pair.now.ahead.now from.old b → a.database.last ≡ pair.now.epoch → mark_between pair.now.behind.now pair.now.ahead.now ≤ pair.now.epoch → IsToldAt (mark_between pair.now.behind.now pair.now.ahead.now) pair.now.epoch place h a.database b.database) }
+    ensures ends { IfErr result (λ fault. (a b : State) → IsState ⟦<A as Disk>⟧ pair.now.behind.now at.old a → IsState ⟦<B as Disk>⟧ pair.now.ahead.now from.old b → a.database.last ≡ pair.now.epoch → mark_between pair.now.behind.now pair.now.ahead.now ≤ pair.now.epoch → EndsAt (mark_between pair.now.behind.now pair.now.ahead.now) pair.now.epoch place a.database b.database fault) }
     ensures behind_kept { A.holds at.new ≡ A.holds at.old }
     ensures behind_moved { Moved ⟦<A as Disk>⟧ NoName NoName at.old at.new }
     ensures behind_cause { HasCause LinkFault.BehindDisk (A.faults at.old) (A.faults at.new) result }
@@ -123,9 +94,8 @@ fn tell_one<A: Disk, B: Disk>(
     ensures ahead_moved { Moved ⟦<B as Disk>⟧ NoName NoName from.old from.new }
     ensures ahead_cause { HasCause LinkFault.AheadDisk (B.faults from.old) (B.faults from.new) result }
 {
-    let behind = read_behind(alloc, pair, place, at)?;
-    let ahead = read_ahead(alloc, pair, place, from)?;
     let name = name_ahead(alloc, pair, place)?;
+    let Rests { behind, ahead } = rests_at(alloc, pair, place, at, from)?;
     match difference_at(alloc, behind, ahead.as_slice(), pair.epoch)? {
         Some(row) => Err(LinkFault::Differs { table: name, row }),
         None => Ok(Told::new(name, ahead)),
@@ -139,9 +109,9 @@ pub fn tell_all<A: Disk, B: Disk>(
     at: &mut A,
     from: &mut B,
 ) -> Result<Vec<Told>, LinkFault>
-    ensures told { IfOk result (λ v. (a b : State) → IsState ⟦<A as Disk>⟧ pair.now.behind.now at.old a → IsState ⟦<B as Disk>⟧ pair.now.ahead.now from.old b → IsAhead a.database b.database pair.now.epoch → mark_between pair.now.behind.now pair.now.ahead.now ≤ pair.now.epoch
-        → AreToldBy (mark_between pair.now.behind.now pair.now.ahead.now) v.items b.database × IsOlder a.database b.database pair.now.epoch) }
-    ensures ends { IfErr result (λ fault. (a b : State) → IsState ⟦<A as Disk>⟧ pair.now.behind.now at.old a → IsState ⟦<B as Disk>⟧ pair.now.ahead.now from.old b → IsAhead a.database b.database pair.now.epoch → mark_between pair.now.behind.now pair.now.ahead.now ≤ pair.now.epoch
+    ensures told { IfOk result (λ v. (a b : State) → IsState ⟦<A as Disk>⟧ pair.now.behind.now at.old a → IsState ⟦<B as Disk>⟧ pair.now.ahead.now from.old b → IsAhead a.database b.database pair.now.epoch → a.database.last ≡ pair.now.epoch → mark_between pair.now.behind.now pair.now.ahead.now ≤ pair.now.epoch
+        → AreToldBy (mark_between pair.now.behind.now pair.now.ahead.now) pair.now.epoch v.items b.database × IsOlder a.database b.database pair.now.epoch) }
+    ensures ends { IfErr result (λ fault. (a b : State) → IsState ⟦<A as Disk>⟧ pair.now.behind.now at.old a → IsState ⟦<B as Disk>⟧ pair.now.ahead.now from.old b → IsAhead a.database b.database pair.now.epoch → a.database.last ≡ pair.now.epoch → mark_between pair.now.behind.now pair.now.ahead.now ≤ pair.now.epoch
         → Ends a.database b.database pair.now.epoch fault) }
     ensures behind_kept { A.holds at.new ≡ A.holds at.old }
     ensures behind_moved { Moved ⟦<A as Disk>⟧ NoName NoName at.old at.new }

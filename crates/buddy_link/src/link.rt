@@ -21,7 +21,8 @@ use std::alloc::Global;
 use std::marker::Model;
 use store_core::Store;
 
-/// What the store ahead tells from the later of the two ancient history marks on, as it was at the begin.
+/// What the store ahead tells from the later of the two ancient history marks on, as it was at the begin, but for rows that both hold in the same
+/// files: of these nothing is later than the newest epoch of the one behind.
 #[derive(Drop)]
 pub struct Link {
     e: u64,

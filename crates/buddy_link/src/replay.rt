@@ -14,9 +14,9 @@ ghost use Rattle.store_core.specs.Sessions.{with_own};
 ghost use Rattle.buddy_link.specs.Linking.{MayReplay, MovesBehind, Replays, ReopensBehindOrCaught};
 ghost use Rattle.buddy_link.specs.Replaying.{all_pended, pended, Comes, Setting};
 
-use crate::histories::behind_fault;
 use catch_laws::{an_epoch_is_committed, an_epoch_is_pending};
 use catch_model::LinkFault;
+use catch_rows::behind_fault;
 use catch_tables::{Ordered, Told, asked_rows, copied_rows, order_all};
 use col_disk::Disk;
 use std::alloc::{AllocError, Global};

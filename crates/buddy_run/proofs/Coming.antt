@@ -11,7 +11,8 @@ use Rattle.catch_model.specs.Refused.{IsOlderIn, IsRefused}
 use Rattle.catch_model.specs.declared.fault.LinkFault.{LinkFault}
 use Rattle.catch_model.specs.declared.fault.LinkFault.TheVariants as fault
 use Rattle.catch_laws.proofs.Committed.{whole_history}
-use Rattle.buddy_link.specs.Linking.{Ends, IsShort, LeavesBehind}
+use Rattle.catch_files.specs.Parting.{IsShort}
+use Rattle.buddy_link.specs.Linking.{Ends, LeavesBehind}
 use Rattle.buddy_run.specs.Ends.{StopsBy}
 
 -- ---- why it stops

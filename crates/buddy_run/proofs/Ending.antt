@@ -8,7 +8,7 @@ use Rattle.db_model.specs.Database.{Database}
 use Rattle.catch_model.specs.declared.fault.LinkFault.{LinkFault}
 use Rattle.catch_model.specs.declared.fault.LinkFault.TheVariants as fault
 use Rattle.catch_text.specs.Lines.{caught_text}
-use Rattle.buddy_run.specs.Ends.{brought, done_text, HasCaughtUp, IsDiskFault, IsSinkStop, LinkEnds, StopEnds}
+use Rattle.buddy_run.specs.Ends.{brought, done_text, HasCaughtUp, IsDiskFault, IsSinkStop, LinkEnds, StandsRefused, StopEnds}
 use Rattle.buddy_run.specs.declared.linking.Brought.{Brought}
 use Rattle.buddy_run.specs.declared.status.LinkStatus.{LinkStatus}
 use Rattle.buddy_run.specs.declared.status.LinkStatus.TheVariants as status
@@ -41,14 +41,14 @@ sink_ends disk now a b before after r text s (is, caught) told (stop, took) = by
 
 -- ---- it didn't come to its end
 
-pub stop_ends : {D : Type 0} (disk : Ghosts D) (now : D) (a b : Database) (before after : Option (List ℕ)) (s : LinkStatus) → StopEnds s a b before after → LinkEnds s disk now a b before after
-stop_ends disk now a b before after status.Done ends = absurd ends
-stop_ends disk now a b before after status.Refused ends = ends
-stop_ends disk now a b before after status.Usage ends = absurd ends
-stop_ends disk now a b before after status.SinkFault ends = ends
-stop_ends disk now a b before after status.DiskFault ends = ends
-stop_ends disk now a b before after (status.Damaged name) ends = absurd ends
-stop_ends disk now a b before after status.Memory ends = ends
+pub stop_ends : {D : Type 0} (disk : Ghosts D) (now : D) (a b : Database) (f : LinkFault) (before after : Option (List ℕ)) (s : LinkStatus) → StopEnds s a b f before after → StandsRefused disk now a b f → LinkEnds s disk now a b before after
+stop_ends disk now a b f before after status.Done ends stands = absurd ends
+stop_ends disk now a b f before after status.Refused ends stands = (f, ends, stands)
+stop_ends disk now a b f before after status.Usage ends stands = absurd ends
+stop_ends disk now a b f before after status.SinkFault ends stands = ends
+stop_ends disk now a b f before after status.DiskFault ends stands = ends
+stop_ends disk now a b f before after (status.Damaged name) ends stands = absurd ends
+stop_ends disk now a b f before after status.Memory ends stands = ends
 
 -- a sink stops with no other status
 pub no_usage : (s : LinkStatus) → IsSinkStop s → s ≡ status.Usage → ⊥

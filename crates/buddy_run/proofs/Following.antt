@@ -1,8 +1,8 @@
 -- How the three calls of a link bring a store up to another.
-use Rattle.std.proofs.Common.{◌≡◌, ◌⊎◌, inl, inr, ℕ, sym, ◌∙◌, ap, subst}
+use Rattle.std.proofs.Common.{◌≡◌, ◌⊎◌, inl, inr, ℕ, sym, ◌∙◌, ap, arith, subst}
 use Rattle.std.specs.Prelude.{max, Result, Ok, Err}
 use Rattle.common_laws.specs.Maps.{Contents}
-use Rattle.col_disk.specs.Moved.{Leaves, Moved, NoName}
+use Rattle.col_disk.specs.Moved.{ImageOf, Leaves, Moved, NoName}
 use Rattle.col_disk.specs.declared.disk.Disk.{Ghosts}
 use Rattle.col_disk.specs.declared.disk.StoreFault.TheVariants as store
 use Rattle.col_disk.proofs.Moving.{leaves_join, leaves_wider}
@@ -17,9 +17,11 @@ use Rattle.store_core.specs.Running.{Running, IsState}
 use Rattle.catch_model.specs.Caught.{later_mark, IsCaughtUp}
 use Rattle.catch_model.specs.Refused.{IsAccepted}
 use Rattle.catch_model.specs.declared.fault.LinkFault.{LinkFault}
+use Rattle.catch_model.specs.declared.fault.LinkFault.TheVariants as fault
 use Rattle.buddy_link.specs.Linked.{Linked, Tells}
+use Rattle.catch_files.specs.Parting.{IsShort}
 use Rattle.buddy_link.specs.Linking.{Ends, GoesOn, IsReplayed, LeavesBehind, MayGoOn, MayReplay, ReopensBehindOrCaught}
-use Rattle.buddy_run.specs.Ends.{brought, BringsUp, HasCaughtUp, IsOpened, ReopensEither, StopsBy}
+use Rattle.buddy_run.specs.Ends.{brought, BringsUp, HasCaughtUp, HasStayed, IsOpened, ReopensEither, StandsRefused, StopsBy}
 use Rattle.buddy_run.specs.declared.linking.Brought.{Brought}
 use Rattle.buddy_run.proofs.Coming.{left_stops, nothing_left, short_stops}
 
@@ -110,12 +112,68 @@ brings_done disk now is a b mid first second last made one two goes =
         replayed_leaves disk now (later_mark mid.database b.database) is new a.database b.database made.mark here replayed,
       );
       stopped = tt;
+      stands = tt;
     }
 
-pub brings_stopped : {D : Type 0} (disk : Ghosts D) (now : D) (is : Running) (a b mid : State) (f : LinkFault) → IsFirst a b mid → {E : Type 0} (ahead : Ghosts E) (r : Running) (at : E) → IsState ahead r at b
-    → GoesOn disk b.database.last is now (left f) mid b.database → BringsUp disk now a.database b.database (stopped f)
-brings_stopped disk now is a b mid f made ahead r at there goes = record { done = tt; stopped = by goes.left }
+-- ---- what stands where it is refused
+
+-- what a crash leaves at each moment, it leaves at last
+pub image_leaves : {D : Type 0} (disk : Ghosts D) {P : Contents → Type 0} {old new : D} → Leaves disk P old new → (x : Contents) → ImageOf disk new x → P x
+image_leaves disk {P} {old} {new} leaves x is = leaves.since_then x (disk.laws.reaches new (disk.clock old) (disk.clock new) x leaves.later (omega arith) is)
+
+pub short_stands : {D : Type 0} (disk : Ghosts D) (now : D) (a b : Database) (f : LinkFault) → IsShort f → StandsRefused disk now a b f
+short_stands disk now a b (fault.SchemaDiffers name) is = absurd is
+short_stands disk now a b (fault.NotBehind behind ahead) is = absurd is
+short_stands disk now a b (fault.HistoryGone at ahm) is = absurd is
+short_stands disk now a b (fault.Differs table row) is = absurd is
+short_stands disk now a b (fault.Gap n) is = absurd is
+short_stands disk now a b (fault.TooMany n) is = absurd is
+short_stands disk now a b fault.NumbersSpent is = absurd is
+short_stands disk now a b fault.BehindDisk is = tt
+short_stands disk now a b fault.AheadDisk is = tt
+short_stands disk now a b (fault.Damaged name) is = tt
+short_stands disk now a b fault.Memory is = tt
+
+-- before anything is committed
+pub stayed_stands : {D : Type 0} (disk : Ghosts D) (now : D) (a b : Database) (f : LinkFault) → HasStayed disk now a → StandsRefused disk now a b f
+stayed_stands disk now a b (fault.SchemaDiffers name) stayed = stayed
+stayed_stands disk now a b (fault.NotBehind behind ahead) stayed = stayed
+stayed_stands disk now a b (fault.HistoryGone at ahm) stayed = stayed
+stayed_stands disk now a b (fault.Differs table row) stayed = stayed
+stayed_stands disk now a b (fault.Gap n) stayed = stayed
+stayed_stands disk now a b (fault.TooMany n) stayed = stayed
+stayed_stands disk now a b fault.NumbersSpent stayed = λ x is. inl (stayed x is)
+stayed_stands disk now a b fault.BehindDisk stayed = tt
+stayed_stands disk now a b fault.AheadDisk stayed = tt
+stayed_stands disk now a b (fault.Damaged name) stayed = tt
+stayed_stands disk now a b fault.Memory stayed = tt
+
+-- behind a replay that stopped
+pub left_stands : {D : Type 0} (disk : Ghosts D) {old now : D} (a b : Database) (Here : State → Type 0) (mark : ℕ) (s : State) (d : Database) (f : LinkFault) → LeavesBehind Here mark s d f → Leaves disk (ReopensEither a b) old now → StandsRefused disk now a b f
+left_stands disk {old} {now} a b Here mark s d (fault.SchemaDiffers name) is leaves = absurd is
+left_stands disk {old} {now} a b Here mark s d (fault.NotBehind behind ahead) is leaves = absurd is
+left_stands disk {old} {now} a b Here mark s d (fault.HistoryGone at ahm) is leaves = absurd is
+left_stands disk {old} {now} a b Here mark s d (fault.Differs table row) is leaves = absurd is
+left_stands disk {old} {now} a b Here mark s d (fault.Gap n) is leaves = absurd is
+left_stands disk {old} {now} a b Here mark s d (fault.TooMany n) is leaves = absurd is
+left_stands disk {old} {now} a b Here mark s d fault.NumbersSpent is leaves = image_leaves disk leaves
+left_stands disk {old} {now} a b Here mark s d fault.BehindDisk is leaves = tt
+left_stands disk {old} {now} a b Here mark s d fault.AheadDisk is leaves = tt
+left_stands disk {old} {now} a b Here mark s d (fault.Damaged name) is leaves = tt
+left_stands disk {old} {now} a b Here mark s d fault.Memory is leaves = tt
+
+pub first_stands : {D : Type 0} (disk : Ghosts D) {old now : D} (r : Running) (a : State) (b : Database) (f : LinkFault) → IsState disk r old a → IsOpened a → Moved disk NoName NoName old now → StandsRefused disk now a.database b f
+first_stands disk {old} {now} r a b f here opened moved = stayed_stands disk now a.database b f (image_leaves disk (read_leaves disk r a here opened.good moved))
+
+pub brings_stopped : {D : Type 0} (disk : Ghosts D) {old : D} (now : D) (is : Running) (a b mid : State) (f : LinkFault) → IsFirst a b mid → {E : Type 0} (ahead : Ghosts E) (r : Running) (at : E) → IsState ahead r at b
+    → Leaves disk (ReopensEither a.database b.database) old now → GoesOn disk b.database.last is now (left f) mid b.database → BringsUp disk now a.database b.database (stopped f)
+brings_stopped disk {old} now is a b mid f made ahead r at there leaves goes = record { done = tt; stopped = by goes.left; stands = stands goes.left }
   where
+    stands : (Ends mid.database b.database b.database.last f × IsState disk is now mid) ⊎ LeavesBehind (IsState disk is now) (later_mark mid.database b.database) mid b.database f → StandsRefused disk now a.database b.database f
+    stands (inl (inl refused, here)) = absurd (nothing_left mid.database b.database f there.sound.database (subst (λ (n : ℕ). IsCaughtUp n mid.database b.database) (sym made.mark) made.caught) refused)
+    stands (inl (inr short, here)) = short_stands disk now a.database b.database f short
+    stands (inr left) = left_stands disk a.database b.database (IsState disk is now) (later_mark mid.database b.database) mid b.database f left leaves
+
     ended : Ends mid.database b.database b.database.last f → StopsBy a.database b.database f
     ended (inl refused) = absurd (nothing_left mid.database b.database f there.sound.database (subst (λ (n : ℕ). IsCaughtUp n mid.database b.database) (sym made.mark) made.caught) refused)
     ended (inr short) = short_stops a.database b.database f short

@@ -54,6 +54,25 @@ IsStillOrCut disk old b x = IsStill disk old b x ⊎ Reopens x (cut b.last b)
 abbrev pub HasCaughtUp : {D : Type 0} → Ghosts D → D → Database → Database → Type 0
 HasCaughtUp disk now a b = (x : Contents) → ImageOf disk now x → ReopensCaughtUp a b x
 
+-- whatever a crash leaves of the folder behind reopens to what it was, cut at its newest epoch
+abbrev pub HasStayed : {D : Type 0} → Ghosts D → D → Database → Type 0
+HasStayed disk now a = (x : Contents) → ImageOf disk now x → Reopens x (cut a.last a)
+
+-- What stands of the folder behind where it is refused: it is as it was. Where the numbers of its files were spent in the moveout of what was
+-- committed, whatever a crash leaves of it reopens to what it was, or to a database that has caught up; another fault is no refusal.
+abbrev pub StandsRefused : {D : Type 0} → Ghosts D → D → Database → Database → LinkFault → Type 0
+StandsRefused disk now a b (SchemaDiffers name) = HasStayed disk now a
+StandsRefused disk now a b (NotBehind behind ahead) = HasStayed disk now a
+StandsRefused disk now a b (HistoryGone at ahm) = HasStayed disk now a
+StandsRefused disk now a b (Differs table row) = HasStayed disk now a
+StandsRefused disk now a b (Gap n) = HasStayed disk now a
+StandsRefused disk now a b (TooMany n) = HasStayed disk now a
+StandsRefused disk now a b NumbersSpent = (x : Contents) → ImageOf disk now x → ReopensEither a b x
+StandsRefused disk now a b BehindDisk = Unit {0}
+StandsRefused disk now a b AheadDisk = Unit {0}
+StandsRefused disk now a b (Damaged name) = Unit {0}
+StandsRefused disk now a b Memory = Unit {0}
+
 -- why it is refused: something is in the way, or the numbers of files of the folder behind are spent
 abbrev pub IsToldRefusal : Database → Database → LinkFault → Type 0
 IsToldRefusal a b fault = IsRefused a b a.last fault ⊎ (fault ≡ NumbersSpent)
@@ -79,6 +98,7 @@ brought first second last = record { first = first; second = second; last = last
 pub record BringsUp {D : Type 0} (disk : Ghosts D) (now : D) (a b : Database) (result : Result Brought LinkFault) : Type 0 where
   pub done : IfOk result (λ r. (r ≡ brought a.last b.last b.last) × HasCaughtUp disk now a b)
   pub stopped : IfErr result (StopsBy a b)
+  pub stands : IfErr result (StandsRefused disk now a b)
 
 -- a sink failed, or memory was short
 abbrev pub IsSinkStop : LinkStatus → Type 0
@@ -95,8 +115,8 @@ abbrev pub done_text : Database → Database → List ℕ
 done_text a b = caught_text a.last b.last b.last
 
 -- the sink took exactly the line that tells why it is refused
-abbrev pub TellsRefusal : Database → Database → Option (List ℕ) → Option (List ℕ) → Type 0
-TellsRefusal a b before after = (fault : LinkFault) × IsToldRefusal a b fault × Appends before after (refusal_text fault)
+abbrev pub TellsRefusal : Database → Database → LinkFault → Option (List ℕ) → Option (List ℕ) → Type 0
+TellsRefusal a b fault before after = IsToldRefusal a b fault × Appends before after (refusal_text fault)
 
 -- or a front of one of these lines
 abbrev pub TellsFront : Database → Database → Option (List ℕ) → Option (List ℕ) → Type 0
@@ -113,14 +133,14 @@ IsToldBy (LinkStatus.Damaged name) text before after = ⊥
 IsToldBy LinkStatus.Memory text before after = (after ≡ before) ⊎ AppendsFront before after text
 
 -- how a catch-up ends that didn't come to its end
-abbrev pub StopEnds : LinkStatus → Database → Database → Option (List ℕ) → Option (List ℕ) → Type 0
-StopEnds LinkStatus.Done a b before after = ⊥
-StopEnds LinkStatus.Refused a b before after = TellsRefusal a b before after
-StopEnds LinkStatus.Usage a b before after = ⊥
-StopEnds LinkStatus.SinkFault a b before after = TellsFront a b before after
-StopEnds LinkStatus.DiskFault a b before after = after ≡ before
-StopEnds (LinkStatus.Damaged name) a b before after = ⊥
-StopEnds LinkStatus.Memory a b before after = (after ≡ before) ⊎ TellsFront a b before after
+abbrev pub StopEnds : LinkStatus → Database → Database → LinkFault → Option (List ℕ) → Option (List ℕ) → Type 0
+StopEnds LinkStatus.Done a b fault before after = ⊥
+StopEnds LinkStatus.Refused a b fault before after = TellsRefusal a b fault before after
+StopEnds LinkStatus.Usage a b fault before after = ⊥
+StopEnds LinkStatus.SinkFault a b fault before after = TellsFront a b before after
+StopEnds LinkStatus.DiskFault a b fault before after = after ≡ before
+StopEnds (LinkStatus.Damaged name) a b fault before after = ⊥
+StopEnds LinkStatus.Memory a b fault before after = (after ≡ before) ⊎ TellsFront a b before after
 
 -- a disk failed
 abbrev pub IsDiskFault : LinkFault → Type 0
@@ -129,7 +149,7 @@ IsDiskFault fault = (fault ≡ BehindDisk) ⊎ (fault ≡ AheadDisk)
 -- How a catch-up of two folders ends, by its status: the folder behind reopened to `a` and the one ahead to `b`.
 abbrev pub LinkEnds : LinkStatus → {D : Type 0} → Ghosts D → D → Database → Database → Option (List ℕ) → Option (List ℕ) → Type 0
 LinkEnds LinkStatus.Done disk now a b before after = HasCaughtUp disk now a b × Appends before after (done_text a b)
-LinkEnds LinkStatus.Refused disk now a b before after = TellsRefusal a b before after
+LinkEnds LinkStatus.Refused disk now a b before after = (fault : LinkFault) × TellsRefusal a b fault before after × StandsRefused disk now a b fault
 LinkEnds LinkStatus.Usage disk now a b before after = ⊥
 LinkEnds LinkStatus.SinkFault disk now a b before after = TellsFront a b before after
 LinkEnds LinkStatus.DiskFault disk now a b before after = after ≡ before

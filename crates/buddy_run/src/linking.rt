@@ -11,7 +11,7 @@ ghost use Rattle.folder_model.specs.Reopening.{Reopens};
 ghost use Rattle.store_core.specs.Running.{IsState};
 ghost use Rattle.store_opening.specs.Opening.{IsStill};
 ghost use Rattle.buddy_run.specs.declared.status.LinkStatus.TheVariants.{Usage as usage, SinkFault as sink_fault, DiskFault as disk_fault};
-ghost use Rattle.buddy_link.specs.Linking.{IsShort};
+ghost use Rattle.catch_files.specs.Parting.{IsShort};
 ghost use Rattle.catch_text.specs.Lines as lines;
 ghost use Rattle.buddy_run.specs.Ends.{BringsUp, IsOnTheWay, IsOpened, IsSinkStop, IsStillOrCut, LinkEnds, ReopensEither, StopsBy, IsToldBy, StopEnds, IsDiskFault};
 
@@ -147,7 +147,7 @@ fn tell_refusal<S: Sink>(alloc: Global, out: &mut S, fault: &LinkFault) -> LinkS
 
 /// The status of a catch-up that didn't come to its end; why it is refused is written.
 fn stopped<S: Sink>(alloc: Global, out: &mut S, fault: &LinkFault) -> LinkStatus
-    ensures ends { (a b : Database) → StopsBy a b fault.now → StopEnds result a b (S.taken out.old) (S.taken out.new) }
+    ensures ends { (a b : Database) → StopsBy a b fault.now → StopEnds result a b fault.now (S.taken out.old) (S.taken out.new) }
     ensures sink { result ≡ sink_fault → Rose (S.faults out.old) (S.faults out.new) }
     ensures own { result ≡ usage → ⊥ }
     ensures disk { result ≡ disk_fault → IsDiskFault fault.now }

@@ -1,6 +1,6 @@
 -- A crash in a commit.
-use Rattle.std.proofs.Common.{◌≡◌, Bool, true, ℕ, ◌<◌, ◌≤◌, arith, List, [], ◌∷◌, refl, sym, ◌∙◌, ap, ap₂, subst, inl, inr}
-use Rattle.std.specs.Prelude.{◌⊎◌, Option, Some, Result, Ok, Err, OnOk, IsErrOf}
+use Rattle.std.proofs.Common.{◌≡◌, Bool, true, ℕ, ◌<◌, List, [], ◌∷◌, refl, sym, ◌∙◌, ap, ap₂, subst, inl, inr}
+use Rattle.std.specs.Prelude.{Option, Some, Result, Ok, Err, OnOk, IsErrOf}
 use Rattle.std.specs.Option.{option_map}
 use Rattle.col_disk.specs.declared.disk.DiskFault.{DiskFault}
 use Rattle.col_disk.specs.declared.disk.DiskFault.TheVariants.{Failed, Memory}

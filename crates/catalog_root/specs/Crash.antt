@@ -5,7 +5,7 @@ use Rattle.col_disk.specs.Moved.{Changed, NoName, Named, Either, LikeOne}
 use Rattle.catalog_types.specs.declared.catalogue.Catalogue.{Catalogue}
 use Rattle.catalog_root.specs.declared.found.Found.{Found}
 use Rattle.catalog_root.specs.declared.found.Found.TheVariants.{Fresh, Root}
-use Rattle.catalog_root.specs.Root.{body_file, gate_file, IsRoot, IsWritten, Opens}
+use Rattle.catalog_root.specs.Root.{body_file, gate_file, IsWritten, Opens}
 
 -- the body and the gate of a version
 abbrev pub RootNames : ℕ → ℕ → Type 0

@@ -7,9 +7,10 @@ ghost use Rattle.std.specs.List.Sorted.{IsNonDecreasing};
 ghost use Rattle.common_laws.specs.Causes.{HasCause};
 ghost use Rattle.common_laws.specs.Maps.{Contents};
 ghost use Rattle.col_disk.specs.Moved.{Moved, NoName};
-ghost use Rattle.catalog_root.specs.Listed.{HasNoUse, IsSwept, IsUnlisted};
+ghost use Rattle.catalog_root.specs.Listed.{HasNoUse, IsOfOther, IsSwept, IsUnlisted};
 
 use crate::listing::{is_among, numbers_in};
+use crate::names::{body_of, gate_of};
 use catalog_types::Catalogue;
 use col_disk::{Disk, DiskFault};
 use std::alloc::{AllocError, Global};
@@ -84,4 +85,66 @@ pub fn clean<D: Disk>(
     };
     let names = disk.names(alloc)?;
     sweep(disk, names.as_slice(), version, numbers.as_slice())
+}
+
+/// Removes the gate and the body of a version, where it isn't this one.
+fn remove_version<D: Disk>(disk: &mut D, was: u64, version: u64) -> Result<(), DiskFault>
+    ensures moved { Moved ⟦<D as Disk>⟧ NoName (IsOfOther version) disk.old disk.new }
+    ensures cause { HasCause DiskFault.Failed (D.faults disk.old) (D.faults disk.new) result }
+    ensures unfailed { OnOk result (D.faults disk.new ≡ D.faults disk.old) }
+{
+    if was == version {
+        return Ok(());
+    }
+    if was >= 1 << 62 {
+        return Ok(());
+    }
+    match disk.remove(gate_of(was)) {
+        Ok(()) => disk.remove(body_of(was)),
+        Err(fault) => Err(fault),
+    }
+}
+
+/// Removes the data files of these numbers that aren't among ascending ones.
+fn sweep_numbers<D: Disk>(
+    disk: &mut D,
+    gone: &[u64],
+    version: u64,
+    numbers: &[u64],
+) -> Result<(), DiskFault>
+    requires { IsNonDecreasing numbers.now }
+    ensures moved { Moved ⟦<D as Disk>⟧ NoName (IsSwept version numbers.now) disk.old disk.new }
+    ensures cause { HasCause DiskFault.Failed (D.faults disk.old) (D.faults disk.new) result }
+    ensures unfailed { OnOk result (D.faults disk.new ≡ D.faults disk.old) }
+{
+    for number in gone {
+        sweep_one(disk, number.saturating_mul(4), version, numbers)?;
+    }
+    Ok(())
+}
+
+/// Removes the body and the gate of the version that this one replaced, and of these data files those that the catalogue doesn't list. The
+/// folder isn't listed: a file that nothing names is left to the next opening.
+pub fn clean_after<D: Disk>(
+    alloc: Global,
+    disk: &mut D,
+    was: u64,
+    gone: &[u64],
+    version: u64,
+    c: &Catalogue,
+) -> Result<(), DiskFault>
+    ensures moved { Moved ⟦<D as Disk>⟧ NoName (IsUnlisted version c.now) disk.old disk.new }
+    ensures cause { HasCause DiskFault.Failed (D.faults disk.old) (D.faults disk.new) result }
+{
+    match remove_version(disk, was, version) {
+        Ok(()) => {}
+        Err(fault) => return Err(fault),
+    }
+    if gone.is_empty() {
+        return Ok(());
+    }
+    match numbers_in(alloc, c) {
+        Ok(numbers) => sweep_numbers(disk, gone, version, numbers.as_slice()),
+        Err(AllocError) => Err(DiskFault::Memory),
+    }
 }

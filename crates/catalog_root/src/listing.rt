@@ -80,6 +80,38 @@ pub fn numbers_in(alloc: Global, c: &Catalogue) -> Result<Vec<u64>, AllocError>
     Ok(numbers)
 }
 
+fn put_projections(out: &mut Vec<u64>, projections: &[Projection]) -> Result<(), AllocError> {
+    for p in projections {
+        put_projection(out, p)?;
+    }
+    Ok(())
+}
+
+/// The numbers of the files of some projections, or none where memory is short.
+pub fn file_numbers(alloc: Global, projections: &[Projection]) -> Vec<u64> {
+    let mut out = Vec::new(alloc);
+    match put_projections(&mut out, projections) {
+        Ok(()) => out,
+        Err(AllocError) => Vec::new(alloc),
+    }
+}
+
+fn put_marks(out: &mut Vec<u64>, containers: &[Container]) -> Result<(), AllocError> {
+    for k in containers {
+        put_mark(out, k.marks)?;
+    }
+    Ok(())
+}
+
+/// The numbers of the delete vectors of a projection, or none where memory is short.
+pub fn vector_numbers(alloc: Global, projection: &Projection) -> Vec<u64> {
+    let mut out = Vec::new(alloc);
+    match put_marks(&mut out, projection.containers.as_slice()) {
+        Ok(()) => out,
+        Err(AllocError) => Vec::new(alloc),
+    }
+}
+
 /// Whether a number is one of ascending ones.
 pub fn is_among(numbers: &[u64], n: u64) -> bool
     requires { IsNonDecreasing numbers.now }

@@ -11,7 +11,7 @@ use Rattle.sql_bound.specs.declared.query.Aggregate.{Aggregate}
 use Rattle.sql_bound.specs.declared.query.BoundQuery.{BoundQuery}
 use Rattle.sql_bound.specs.Outputs.{keys_of, same_keys}
 use Rattle.sql_bound.specs.Values.{is_null}
-use Rattle.exec_group.specs.Accumulators.{argument_in, fresh, taken, taken_by_all}
+use Rattle.exec_group.specs.Accumulators.{argument_in, fresh, taken_by_all}
 use Rattle.exec_group.specs.Columns.{pushed_at_all, row_of, taken_at, taken_by_each, IsRaised}
 use Rattle.exec_group.specs.Groups.{Held, HoldsGroups, pushed, pushed_at}
 use Rattle.exec_group.specs.declared.accumulator.Accumulator.{Accumulator}

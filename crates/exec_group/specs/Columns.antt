@@ -1,11 +1,14 @@
 -- Rows that stand in columns.
-use Rattle.std.specs.Prelude.{◌≡◌, ℕ, ◌+◌, List, [], ◌∷◌, fold, map, Option, slice_index_or}
+use Rattle.std.specs.Prelude.{◌≡◌, ℕ, ℤ, ◌+◌, ◌+ℤ◌, ◌≤◌, List, [], ◌∷◌, fold, map, Option, Some, slice_index_or}
 use Rattle.std.specs.List.{All}
 use Rattle.std.specs.Option.{option_map_or}
 use Rattle.col_value.specs.Order.{IsRow}
 use Rattle.col_value.specs.declared.value.Value.{Value}
 use Rattle.col_value.specs.declared.value.Value.TheVariants as value
+use Rattle.sql_bound.specs.declared.expr.Expr.{Expr}
 use Rattle.sql_bound.specs.declared.query.Aggregate.{Aggregate}
+use Rattle.sql_bound.specs.Bounds.{magnitude, result_bound}
+use Rattle.sql_bound.specs.Values.{of_row, value_of}
 use Rattle.exec_group.specs.Accumulators.{argument_in, taken}
 use Rattle.exec_group.specs.Groups.{Held, pushed}
 use Rattle.exec_group.specs.declared.accumulator.Accumulator.{Accumulator}
@@ -40,3 +43,12 @@ taken_by_each columns places (a ∷ aggs) (x ∷ xs) = taken_at columns a places
 -- what is held after the rows at places
 abbrev pub pushed_at_all : List (Option (List Value)) → List ℕ → List Aggregate → List ℕ → Held → Held
 pushed_at_all columns keys aggs places h = fold (λ g i. pushed keys aggs (row_of columns i) g) h places
+
+-- the sum of the numbers that an expression is worth in the rows at places, and their magnitudes added up: a total that takes these rows gains so much
+pub record IsTotalOf (columns : List (Option (List Value))) (e : Expr) (places : List ℕ) (sum : ℤ) (size : ℕ) : Type 0 where
+  pub fits : magnitude sum ≤ size
+  pub taken : (t : ℤ × ℕ) → t.1 + size ≤ result_bound → fold (λ y i. taken y (value_of (of_row (row_of columns i)) e)) (accumulator.Sum (Some t)) places ≡ accumulator.Sum (Some (t.0 +ℤ sum, t.1 + size))
+
+-- a sum gained a total, which a result holds then
+abbrev pub HasGained : ℤ → ℕ → Accumulator → Accumulator → Type 0
+HasGained sum size old new = (t : ℤ × ℕ) × (old ≡ accumulator.Sum (Some t)) × (new ≡ accumulator.Sum (Some (t.0 +ℤ sum, t.1 + size))) × (t.1 + size ≤ result_bound)

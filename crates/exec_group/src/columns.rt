@@ -1,21 +1,27 @@
 //! Aggregates that take the rows at places of columns, one aggregate after another.
 
-ghost use Rattle.std.specs.Prelude.{◌≡◌, ◌+◌, true, false, if◌then◌else◌, get_or, set, length, OnOk};
+ghost use Rattle.std.specs.Prelude.{◌≡◌, ◌+◌, ◌≤◌, true, false, if◌then◌else◌, Some, get_or, map, set, length, IfOk, OnOk};
 ghost use Rattle.std.specs.Option.{IfSome};
 ghost use Rattle.col_value.specs.Order.{IsRow};
 ghost use Rattle.exec_group.specs.Accumulators.{argument_in, is_bounded_aggregate, taken};
 ghost use Rattle.expr_value.specs.Worths.{wide_of};
-ghost use Rattle.exec_group.specs.Columns.{row_of, taken_at, AreRowsAt, IsRaised};
+ghost use Rattle.sql_bound.specs.Bounds.{magnitude};
+ghost use Rattle.sql_bound.specs.Values.{number_in, of_row, value_of};
+ghost use Rattle.exec_group.specs.Columns.{row_of, taken_at, AreRowsAt, HasGained, IsRaised, IsTotalOf};
 ghost use Rattle.exec_group.specs.declared.accumulator.Accumulator.TheVariants.{TooGreat};
 
 use crate::Accumulator;
 use crate::cells::{row_at, worth_at};
+use crate::lanes::lane_of;
 use crate::numbers::number_at;
 use crate::tally::argument_of;
 use block_codec::Block;
 use expr_value::Worth;
 use sql_bound::{Aggregate, Expr};
 use std::alloc::{AllocError, Global};
+
+/// So few rows are taken one by one as quickly as together.
+const FEW: usize = 4;
 
 /// What the argument of an aggregate is worth in the row at a place, where no row has to be made for it.
 fn argument_at<'a>(
@@ -111,6 +117,90 @@ fn raises_by(n: &mut u64, count: u64) -> bool
     }
 }
 
+/// The sum of the numbers of a lane, which an expression is worth in the rows at places, and their magnitudes added up.
+fn lane_total(
+    e: &Expr,
+    columns: &[Option<Block>],
+    places: &[usize],
+    lane: &[i64],
+) -> Option<(i128, u128)>
+    requires { map Some lane.now ≡ map (λ i. number_in (value_of (of_row (row_of columns.now i)) e.now)) places.now }
+    ensures { IfSome result (λ t. IsTotalOf columns.now e.now places.now t.0 t.1) }
+{
+    let mut sum = 0i128;
+    let mut size = 0u128;
+    for n in lane {
+        let Some(more) = sum.checked_add(i128::from(*n)) else {
+            return None;
+        };
+        let Some(greater) = size.checked_add(u128::from(n.unsigned_abs())) else {
+            return None;
+        };
+        sum = more;
+        size = greater;
+    }
+    Some((sum, size))
+}
+
+/// The same, where all that the expression is worth are numbers of 64 bits.
+fn total_of(
+    alloc: Global,
+    e: &Expr,
+    columns: &[Option<Block>],
+    places: &[usize],
+) -> Result<Option<(i128, u128)>, AllocError>
+    ensures { IfOk result (λ o. IfSome o (λ t. IsTotalOf columns.now e.now places.now t.0 t.1)) }
+{
+    match lane_of(alloc, e, columns, places)? {
+        Some(lane) => Ok(lane_total(e, columns, places, lane.as_slice())),
+        None => Ok(None),
+    }
+}
+
+/// Whether an aggregate is a sum that has begun.
+fn is_begun(accumulator: &Accumulator) -> bool {
+    match accumulator {
+        Accumulator::Sum(Some(_)) => true,
+        _ => false,
+    }
+}
+
+/// Adds a total to a sum that has begun, where a result holds it then; answers whether it did.
+fn adds_total(accumulator: &mut Accumulator, sum: i128, size: u128) -> bool
+    requires { magnitude sum ≤ size }
+    ensures added { result ≡ true → HasGained sum size accumulator.old accumulator.new }
+    ensures stays { result ≡ false → accumulator.new ≡ accumulator.old }
+{
+    match accumulator {
+        Accumulator::Sum(Some(total)) => total.adds_all(sum, size),
+        _ => false,
+    }
+}
+
+/// Adds the rows at places to a sum that has begun, at once; answers whether it did.
+#[tactic(auto, using(crate::proofs::Totals::total_taken))]
+fn sums_run(
+    accumulator: &mut Accumulator,
+    alloc: Global,
+    a: &Aggregate,
+    columns: &[Option<Block>],
+    places: &[usize],
+) -> Result<bool, AllocError>
+    ensures taken { IfOk result (λ did. did ≡ true → accumulator.new ≡ taken_at columns.now a.now places.now accumulator.old) }
+    ensures stays { IfOk result (λ did. did ≡ false → accumulator.new ≡ accumulator.old) }
+{
+    if places.len() < FEW || !is_begun(accumulator) {
+        return Ok(false);
+    }
+    let Some(e) = &a.arg else {
+        return Ok(false);
+    };
+    match total_of(alloc, e, columns, places)? {
+        Some((sum, size)) => Ok(adds_total(accumulator, sum, size)),
+        None => Ok(false),
+    }
+}
+
 /// An aggregate takes the rows at places.
 #[tactic(auto, using(crate::proofs::Together::raised_taken))]
 fn take_run(
@@ -125,6 +215,9 @@ fn take_run(
     ensures { OnOk result (accumulator.new ≡ taken_at columns.now a.now places.now accumulator.old) }
 {
     if raises_rows(accumulator, places.len()) {
+        return Ok(());
+    }
+    if sums_run(accumulator, alloc, a, columns, places)? {
         return Ok(());
     }
     take_each(accumulator, alloc, a, columns, places)

@@ -1,9 +1,10 @@
 //! Groups by hash, over rows that come one after another.
 //!
 //! `Groups` takes row by row, or the rows at places of columns: those beside each other that have one key together, one aggregate after
-//! another, and none of them is made (`specs/Columns.antt`). Of each group it holds the key and an accumulator for each aggregate, and of the rows nothing. What
-//! it gives back are the groups and the aggregates that `sql_bound` defines for all rows that it took, in the order in which their
-//! keys were first met: `HoldsGroups` in `specs/Groups.antt` says what it stands for, and `AreGroups` what comes out.
+//! another, and none of them is made (`specs/Columns.antt`); a sum takes the numbers of an expression as a lane, one operation for all rows
+//! after another. Of each group it holds the key and an accumulator for each aggregate, and of the rows nothing. What it gives back are
+//! the groups and the aggregates that `sql_bound` defines for all rows that it took, in the order in which their keys were first met:
+//! `HoldsGroups` in `specs/Groups.antt` says what it stands for, and `AreGroups` what comes out.
 #![tactic(auto)]
 
 mod accumulator;
@@ -11,6 +12,7 @@ mod cells;
 mod columns;
 mod fault;
 mod groups;
+mod lanes;
 mod numbers;
 mod runs;
 mod tally;

@@ -1,7 +1,8 @@
 //! The number that an expression is worth in a row that stands in columns.
 
-ghost use Rattle.std.specs.Prelude.{◌≡◌, neg_ℤ, if◌then◌else◌, Some, map};
+ghost use Rattle.std.specs.Prelude.{◌≡◌, ◌<◌, neg_ℤ, length, if◌then◌else◌, Some, map};
 ghost use Rattle.std.specs.Option.{IfSome};
+ghost use Rattle.block_codec.specs.Held.{number_value};
 ghost use Rattle.col_value.specs.Order.{widened};
 ghost use Rattle.col_value.specs.declared.value.Value.TheVariants as value;
 ghost use Rattle.col_value.specs.declared.wide.Wide.TheVariants as wide;
@@ -10,10 +11,8 @@ ghost use Rattle.sql_bound.specs.Values.{of_row, value_of};
 ghost use Rattle.expr_value.specs.Terms.{added, multiplied, term_value};
 ghost use Rattle.exec_group.specs.Columns.{row_of};
 
-use crate::cells::worth_at;
-use block_codec::Block;
-use col_value::Wide;
-use expr_value::Worth;
+use block_codec::{Block, Cell};
+use col_value::{Value, Wide};
 use sql_bound::{BoundTerm, Expr};
 
 /// The number as one of 64 bits, if it is one.
@@ -36,12 +35,44 @@ fn literal(value: &Wide) -> Option<i64>
     }
 }
 
+/// The number of a lane at a place, if there is one.
+pub fn lane_number_at(numbers: &[i64], place: usize) -> Option<i64>
+    ensures { IfSome result (λ n. widened (slice_index_or (map number_value numbers.now) place value.Null) ≡ wide.Int n) }
+{
+    match numbers.get(place) {
+        Some(n) if *n != i64::MIN => Some(*n),
+        _ => None,
+    }
+}
+
+/// The number of a value that a block holds, if it is one.
+fn held_number(block: &Block, place: usize) -> Option<i64>
+    requires { place < length block.now }
+    ensures { IfSome result (λ n. widened (slice_index_or block.now place value.Null) ≡ wide.Int n) }
+{
+    match block.cell(place) {
+        Cell::Lent(Value::Int(n)) => Some(*n),
+        _ => None,
+    }
+}
+
+/// The number of a value of a block, if it is one.
+fn number_in(block: &Block, place: usize) -> Option<i64>
+    ensures { IfSome result (λ n. widened (slice_index_or block.now place value.Null) ≡ wide.Int n) }
+{
+    match block.numbers() {
+        Some(numbers) => lane_number_at(numbers, place),
+        None if place < block.len() => held_number(block, place),
+        None => None,
+    }
+}
+
 /// The number of a column, if it has one.
 fn column_at(columns: &[Option<Block>], column: usize, place: usize) -> Option<i64>
     ensures { IfSome result (λ n. widened (slice_index_or (row_of columns.now place) column value.Null) ≡ wide.Int n) }
 {
-    match worth_at(columns, column, place) {
-        Some(Worth::Int(n)) => short(n),
+    match columns.get(column) {
+        Some(Some(block)) => number_in(block, place),
         _ => None,
     }
 }

@@ -68,4 +68,23 @@ impl Total {
             None => false,
         }
     }
+
+    /// Adds a sum whose parts have magnitudes that add to `size`, where these then add to no more than a result holds; answers whether it did.
+    pub fn adds_all(&mut self, sum: i128, size: u128) -> bool
+        requires { magnitude sum ≤ size }
+        ensures added { self.new ≡ (if result then (self.old.0 +ℤ sum, self.old.1 + size) else self.old) }
+        ensures fits { IsTrue result → self.old.1 + size ≤ result_bound }
+    {
+        let Some(all) = self.size.checked_add(size) else {
+            return false;
+        };
+        if all > GREATEST {
+            return false;
+        }
+        *self = Total {
+            sum: self.sum + sum,
+            size: all,
+        };
+        true
+    }
 }

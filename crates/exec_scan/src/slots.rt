@@ -65,6 +65,7 @@ fn set_width(row: &mut Vec<Value>, width: usize) -> Result<(), AllocError>
         return Ok(());
     }
     row.clear();
+    row.reserve(width)?;
     for _ in 0..width {
         row.push(Value::Null)?;
     }

@@ -9,7 +9,7 @@ use Rattle.std.specs.Cmp.{IsStrictWeakOrder, tied_itself}
 use Rattle.std.specs.declared.cmp.Ordering.{Ordering}
 use Rattle.std.specs.declared.cmp.Ordering.TheVariants.{Less, Equal, Greater}
 use Rattle.std.proofs.lemmas.Bool.Decides.{nat_tests}
-use Rattle.std.proofs.lemmas.List.{append_assoc, length-append, length-take, map-append}
+use Rattle.std.proofs.lemmas.List.{append_assoc, append-nil, length-append, length-take, map-append}
 use Rattle.std.proofs.lemmas.List.Elements.{All-append, All-cons, All-head, All-nil, All-tail}
 use Rattle.std.proofs.lemmas.List.Sums.{sum_by-append, sum_by-cons}
 use Rattle.std.proofs.lemmas.List.MinMax.{ranks_by}
@@ -259,3 +259,29 @@ held_seen q tuple row old new windowed made more same bar_same one few rows held
   where
     ap₂-bar : old.bar ≡ new.bar → old.rows ≡ new.rows → IfSome old.bar (IsBar q.order q.limit old.rows.items) → IfSome new.bar (IsBar q.order q.limit new.rows.items)
     ap₂-bar e f h = subst (λ (bar : Option (List Wide)). IfSome bar (IsBar q.order q.limit new.rows.items)) e (subst (λ kept. IfSome old.bar (IsBar q.order q.limit kept.items)) f h)
+
+-- tuples whose output rows stand behind the bar
+passed_enough : (q : BoundQuery) (bar : Option (List Wide)) (kept : Rows) (more rows : List (List Value)) → IfSome bar (IsBar q.order q.limit kept) → All (λ t. IsSomeAnd bar (λ b. is_lt (printed_cmp q.order b (items_in q (of_row t))) ≡ true)) more
+    → IsEnough q.order q.limit (map (items_in q) (map of_row rows)) kept → IsEnough q.order q.limit (map (items_in q) (map of_row (rows ++ more))) kept
+passed_enough q bar kept [] rows is behind enough = subst (λ (all : List (List Value)). IsEnough q.order q.limit (map (items_in q) (map of_row all)) kept) (sym (append-nil rows)) enough
+passed_enough q bar kept (t ∷ more) rows is behind enough =
+    subst (λ (all : List (List Value)). IsEnough q.order q.limit (map (items_in q) (map of_row all)) kept) (append_assoc rows (t ∷ []) more)
+    (passed_enough q bar kept more (rows ++ t ∷ []) is (All-tail (λ u. IsSomeAnd bar (λ b. is_lt (printed_cmp q.order b (items_in q (of_row u))) ≡ true)) t more behind)
+    (subst (λ (all : Rows). IsEnough q.order q.limit all kept) (put_out_more q rows t)
+    (by bar (All-head (λ u. IsSomeAnd bar (λ b. is_lt (printed_cmp q.order b (items_in q (of_row u))) ≡ true)) t more behind) is)))
+  where
+    by : (bar : Option (List Wide)) → IsSomeAnd bar (λ b. is_lt (printed_cmp q.order b (items_in q (of_row t))) ≡ true) → IfSome bar (IsBar q.order q.limit kept) → IsEnough q.order q.limit (map (items_in q) (map of_row rows) ++ items_in q (of_row t) ∷ []) kept
+    by None out bars = absurd out
+    by (Some b) out bars = row_barred q.order q.limit (map (items_in q) (map of_row rows)) kept b (items_in q (of_row t)) bars out enough
+
+pub held_passed : (q : BoundQuery) (more : List (List Value)) (old new : Collected) → IsPlain q → new.rows.items ≡ old.rows.items → new.bar ≡ old.bar → new.taken ≡ old.taken + length more → new.taken < column_bound
+    → All (λ t. IsSomeAnd old.bar (λ b. is_lt (printed_cmp q.order b (items_in q (of_row t))) ≡ true)) more → (rows : List (List Value)) → HoldsOutput q rows old → HoldsOutput q (rows ++ more) new
+held_passed q more old new plain same bar_same sum few behind rows held = record {
+  taken = omega (arith, sum, held.taken, length-append rows more);
+  few = few;
+  seen = λ is. absurd (is.windows (ap length plain.alone));
+  rows = λ is. subst (IsEnough q.order q.limit (map (items_in q) (map of_row (rows ++ more)))) (sym same) (passed_enough q old.bar old.rows.items more rows held.bar behind (held.rows is));
+  cut = subst (AreFew q.limit) (sym same) held.cut;
+  bar = subst (λ (bar : Option (List Wide)). IfSome bar (IsBar q.order q.limit new.rows.items)) (sym bar_same) (subst (λ (kept : Rows). IfSome old.bar (IsBar q.order q.limit kept)) (sym same) held.bar);
+  groups = λ is. plain_only q plain.rows is;
+}

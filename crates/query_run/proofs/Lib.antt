@@ -9,3 +9,6 @@ pub mod Bars
 pub mod Beside
 pub mod Columns
 pub mod Together
+pub mod Lonely
+pub mod Behind
+pub mod Kept

@@ -1,10 +1,14 @@
 -- What is collected of the tuples that are kept.
-use Rattle.std.specs.Prelude.{◌≡◌, ℕ, ◌≤◌, ◌<◌, ◌++◌, Bool, true, false, List, [], ◌∷◌, filter, length, map, Option, Some, None}
+use Rattle.std.specs.Prelude.{◌≡◌, ℕ, ℤ, ◌≤◌, ◌<◌, ◌++◌, Bool, true, false, List, [], ◌∷◌, filter, length, map, Option, Some, None, slice_index_or}
 use Rattle.std.specs.List.{All}
 use Rattle.std.specs.Option.{IfSome}
-use Rattle.col_value.specs.Order.{IsRow}
+use Rattle.block_codec.specs.Held.{number_value}
+use Rattle.col_value.specs.Order.{IsRow, widened}
 use Rattle.col_value.specs.declared.value.Value.{Value}
+use Rattle.col_value.specs.declared.value.Value.TheVariants as value
 use Rattle.col_value.specs.declared.wide.Wide.{Wide}
+use Rattle.col_value.specs.declared.wide.Wide.TheVariants as wide
+use Rattle.exec_group.specs.Columns.{row_of}
 use Rattle.exec_group.specs.Groups.{HoldsGroups}
 use Rattle.query_laws.specs.Scopes.{is_shown}
 use Rattle.query_order.specs.Enough.{count_up_to, IsEnough, AreFew}
@@ -67,3 +71,11 @@ scopes_of (k ∷ keys) (a ∷ aggs) = scope_of k a ∷ scopes_of keys aggs
 -- the items of the groups that HAVING keeps
 abbrev pub shown : BoundQuery → List Scope → List (List Wide)
 shown q scopes = map (items_in q) (filter (is_shown q) scopes)
+
+-- these are the numbers of a lane with the values of an output column in the rows of columns
+abbrev pub IsLaneOf : BoundQuery → List (Option (List Value)) → ℕ → List ℤ → Type 0
+IsLaneOf q columns column numbers = (place : ℕ) → slice_index_or (items_in q (of_row (row_of columns place))) column wide.Null ≡ widened (slice_index_or (map number_value numbers) place value.Null)
+
+-- whether the word of the value at a place is marked
+abbrev pub is_marked : List Bool → List ℕ → ℕ → Bool
+is_marked marks codes place = slice_index_or (map (λ p. slice_index_or marks p false) codes) place false

@@ -33,7 +33,7 @@ fn kind_of(value: &Worth<'_>) -> u8
 }
 
 /// The order of values.
-fn order_of(a: &Worth<'_>, b: &Worth<'_>) -> Ordering
+pub fn order_of(a: &Worth<'_>, b: &Worth<'_>) -> Ordering
     ensures { result ≡ wide_cmp (wide_of a.now) (wide_of b.now) }
 {
     match (a, b) {
@@ -46,7 +46,7 @@ fn order_of(a: &Worth<'_>, b: &Worth<'_>) -> Ordering
 }
 
 /// The value of an output row's column; NULL where it is not there.
-fn value_in(row: &WideRow, column: usize) -> Worth<'_>
+pub fn value_in(row: &WideRow, column: usize) -> Worth<'_>
     ensures { wide_of result ≡ slice_index_or row.now column Null }
 {
     match row.as_slice().get(column) {

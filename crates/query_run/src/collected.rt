@@ -1,6 +1,6 @@
 //! What is collected of the tuples of a query.
 
-ghost use Rattle.std.specs.Prelude.{◌≡◌, ◌+◌, ◌<◌, ◌++◌, ◌∷◌, true, false, List, [], map, OnOk, IfOk};
+ghost use Rattle.std.specs.Prelude.{◌≡◌, ◌+◌, ◌<◌, ◌≤◌, ◌++◌, ◌∷◌, true, false, List, [], length, map, take, OnOk, IfOk};
 ghost use Rattle.std.specs.Option.{IfSome};
 ghost use Rattle.col_value.specs.Order.{IsRow};
 ghost use Rattle.col_value.specs.declared.value.Value.{Value};
@@ -8,9 +8,11 @@ ghost use Rattle.exec_group.specs.Columns.{row_of, AreRowsAt};
 ghost use Rattle.sql_bound.specs.Bounds.{column_bound};
 ghost use Rattle.query_laws.specs.Bounded.{IsBoundedQuery};
 ghost use Rattle.query_order.specs.Enough.{AreFew};
-ghost use Rattle.query_run.specs.Outputs.{HoldsOutput, IsAdded, IsBar};
+ghost use Rattle.query_run.specs.Outputs.{HoldsOutput, IsAdded, IsBar, IsPlain};
 
 use crate::bar::{bar_of, is_barred, is_behind};
+use crate::lane::{is_barred_at, items_of_place};
+use crate::past::barred_run;
 use crate::seen::{has_windows, seen_row};
 use block_codec::Block;
 use col_value::{Row, Value, WideRow};
@@ -77,8 +79,78 @@ impl Collected {
         add_row(alloc, &mut self.rows, &mut self.bar, query, row)
     }
 
-    /// Takes the tuples at places of columns, which are kept. More than 2^63 - 2 tuples find no memory.
-    pub fn take_columns(
+    /// Takes the row at a place of columns, which is kept. More than 2^63 - 2 tuples find no memory.
+    fn take_place(
+        &mut self,
+        alloc: Global,
+        query: &BoundQuery,
+        columns: &[Option<Block>],
+        place: usize,
+    ) -> Result<(), AllocError>
+        requires bounded { IsBoundedQuery query.now }
+        requires plain { IsPlain query.now }
+        requires row { IsRow (row_of columns.now place) }
+        ensures { OnOk result ((rows : List (List Value)) → HoldsOutput query.now rows self.old → HoldsOutput query.now (rows ++ row_of columns.now place ∷ []) self.new) }
+    {
+        if self.taken >= MOST {
+            return Err(AllocError);
+        }
+        self.taken += 1;
+        if is_barred_at(query, &self.bar, columns, place) {
+            return Ok(());
+        }
+        let row = items_of_place(alloc, query.items.as_slice(), columns, place)?;
+        add_row(alloc, &mut self.rows, &mut self.bar, query, row)
+    }
+
+    /// Passes over the first of the rows at places of columns that stand behind the bar, or takes the first; answers how many it took so.
+    fn take_next(
+        &mut self,
+        alloc: Global,
+        query: &BoundQuery,
+        columns: &[Option<Block>],
+        places: &[usize],
+    ) -> Result<usize, AllocError>
+        requires bounded { IsBoundedQuery query.now }
+        requires plain { IsPlain query.now }
+        requires some { 0 < length places.now }
+        requires rows { AreRowsAt columns.now places.now }
+        ensures some { IfOk result (λ n. 0 < n) }
+        ensures within { IfOk result (λ n. n ≤ length places.now) }
+        ensures taken { IfOk result (λ n. (rows : List (List Value)) → HoldsOutput query.now rows self.old → HoldsOutput query.now (rows ++ map (row_of columns.now) (take n places.now)) self.new) }
+    {
+        let n = barred_run(query, &self.bar, columns, places);
+        if n > 0 {
+            self.taken = more_taken(self.taken, n)?;
+            return Ok(n);
+        }
+        self.take_place(alloc, query, columns, places[0])?;
+        Ok(1)
+    }
+
+    /// Takes the rows at places of columns.
+    fn take_each(
+        &mut self,
+        alloc: Global,
+        query: &BoundQuery,
+        columns: &[Option<Block>],
+        places: &[usize],
+    ) -> Result<(), AllocError>
+        requires bounded { IsBoundedQuery query.now }
+        requires plain { IsPlain query.now }
+        requires rows { AreRowsAt columns.now places.now }
+        ensures { OnOk result ((rows : List (List Value)) → HoldsOutput query.now rows self.old → HoldsOutput query.now (rows ++ map (row_of columns.now) places.now) self.new) }
+    {
+        let mut at = 0;
+        while at < places.len() {
+            let n = self.take_next(alloc, query, columns, &places[at..])?;
+            at += n;
+        }
+        Ok(())
+    }
+
+    /// The same in groups.
+    fn take_grouped(
         &mut self,
         alloc: Global,
         query: &BoundQuery,
@@ -92,6 +164,25 @@ impl Collected {
     {
         self.taken = more_taken(self.taken, places.len())?;
         self.groups.push_columns(alloc, query, columns, places)
+    }
+
+    /// Takes the tuples at places of columns, which are kept, where no windows see them. More than 2^63 - 2 tuples find no memory.
+    pub fn take_columns(
+        &mut self,
+        alloc: Global,
+        query: &BoundQuery,
+        columns: &[Option<Block>],
+        places: &[usize],
+    ) -> Result<(), AllocError>
+        requires bounded { IsBoundedQuery query.now }
+        requires unseen { query.now.grouped ≡ false → query.now.windows ≡ [] }
+        requires rows { AreRowsAt columns.now places.now }
+        ensures { OnOk result ((rows : List (List Value)) → HoldsOutput query.now rows self.old → HoldsOutput query.now (rows ++ map (row_of columns.now) places.now) self.new) }
+    {
+        if query.grouped {
+            return self.take_grouped(alloc, query, columns, places);
+        }
+        self.take_each(alloc, query, columns, places)
     }
 }
 
@@ -126,6 +217,10 @@ pub fn add_row(
 ) -> Result<(), AllocError>
     ensures { OnOk result (IsAdded query.now row rows.old.items rows.new.items bar.old bar.new) }
 {
+    if query.limit.is_none() {
+        rows.push(row)?;
+        return Ok(());
+    }
     let mut all = std::mem::replace(rows, Vec::new(alloc));
     all.push(row)?;
     if !are_many(all.as_slice(), query.limit) {

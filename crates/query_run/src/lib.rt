@@ -8,7 +8,8 @@
 //! made.
 //! The tuples of a query with windows are held in the columns that it uses, and the windows' values stand beside them at the end.
 //! A `Run` is the same where the rows of the first FROM item come one by one, and are not held: `HasTaken` in `specs/Runs.antt` says
-//! what came. Where the query has no other item and is over groups, they may come in columns, and no row is made of them.
+//! what came. They may come in columns: where the query has no other item, no row is made of them, and an output row only of those that don't
+//! stand behind the bar by the first key of ORDER BY; where it has, no row is made of one that joins none of the next item's.
 #![tactic(auto)]
 
 mod bar;
@@ -16,8 +17,10 @@ mod collected;
 mod equated;
 mod fault;
 mod filter;
+mod lane;
 mod laws;
 mod output;
+mod past;
 mod printing;
 mod ready;
 mod run;

@@ -100,7 +100,7 @@ fn keep(
 }
 
 /// The rows that are retained from a mark on, with the columns of the table. One that isn't a row of a table is left out: no table has one.
-fn retain(
+pub fn retain(
     alloc: Global,
     mark: u64,
     places: &[Option<usize>],

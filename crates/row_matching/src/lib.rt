@@ -15,6 +15,7 @@ mod matching;
 mod sifting;
 mod sources;
 
-pub use history::table_history;
+pub use history::{retain, table_history};
 pub use laws::{alike_changes_match_alike, matches_are_the_matched_rows};
 pub use matching::{Matched, match_rows, rows_left};
+pub use sources::{Source, source_of};

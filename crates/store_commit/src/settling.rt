@@ -18,7 +18,7 @@ ghost use Rattle.store_commit.specs.Seen.{Seen, Stands, seen};
 ghost use Rattle.store_commit.specs.Making.{Makes};
 ghost use Rattle.store_commit.specs.Replacing.{Replaces};
 
-use catalog_root::{clean, commit};
+use catalog_root::{clean, clean_after, commit};
 use catalog_types::Catalogue;
 use col_disk::{Disk, DiskFault};
 use std::alloc::Global;
@@ -40,9 +40,28 @@ pub fn tidy<D: Disk>(
     }
 }
 
-/// Makes the catalogue the one that the disk opens to, and removes what it doesn't list. Its version is a number that the store hasn't
-/// drawn before.
-pub fn settle<D: Disk>(
+/// Removes the version `replaced`, and of the data files `gone` those that the catalogue doesn't list. Want of memory leaves them to a later opening.
+fn tidy_after<D: Disk>(
+    alloc: Global,
+    disk: &mut D,
+    replaced: u64,
+    gone: &[u64],
+    version: u64,
+    catalogue: &Catalogue,
+) -> Result<(), DiskFault>
+    ensures failed { IsErrOf result Memory → ⊥ }
+    ensures moved { Moved ⟦<D as Disk>⟧ NoName (IsUnlisted version catalogue.now) disk.old disk.new }
+    ensures cause { HasCause DiskFault.Failed (D.faults disk.old) (D.faults disk.new) result }
+{
+    match clean_after(alloc, disk, replaced, gone, version, catalogue) {
+        Err(DiskFault::Failed) => Err(DiskFault::Failed),
+        _ => Ok(()),
+    }
+}
+
+/// Makes the catalogue the one that the disk opens to, lists the folder, and removes what the catalogue doesn't list. Its version is a number
+/// that the store hasn't drawn before.
+pub fn settle_listed<D: Disk>(
     alloc: Global,
     disk: &mut D,
     version: u64,
@@ -56,6 +75,27 @@ pub fn settle<D: Disk>(
 {
     match commit(alloc, disk, version, catalogue) {
         Ok(()) => tidy(alloc, disk, version, catalogue),
+        Err(fault) => Err(fault),
+    }
+}
+
+/// The same over a running store, which knows what its commit leaves without use: the version `replaced`, to which the disk opened, and of the
+/// data files of the numbers `gone` those that the catalogue doesn't list. The folder isn't listed.
+pub fn settle<D: Disk>(
+    alloc: Global,
+    disk: &mut D,
+    replaced: u64,
+    gone: &[u64],
+    version: u64,
+    catalogue: &Catalogue,
+) -> Result<(), DiskFault>
+    requires valid { IsValid catalogue.now }
+    requires drawn { version < catalogue.now.next }
+    ensures made { (was : Seen) (stores : List (List Projected)) (d e : Database) → (stands : Stands ⟦<D as Disk>⟧ was disk.old d) → was.catalogue.next ≤ version → AreDatabase stands.files catalogue.now stores e → IsSoundDatabase e → Makes ⟦<D as Disk>⟧ Memory was (seen catalogue.now stores) disk.old disk.new result d e }
+    ensures cause { HasCause DiskFault.Failed (D.faults disk.old) (D.faults disk.new) result }
+{
+    match commit(alloc, disk, version, catalogue) {
+        Ok(()) => tidy_after(alloc, disk, replaced, gone, version, catalogue),
         Err(fault) => Err(fault),
     }
 }

@@ -1,12 +1,11 @@
 -- A moveout of the first projection that is behind, by its place: what it leaves of a database.
-use Rattle.std.proofs.Common.{◌≡◌, ◌<◌, ◌≤◌, ◌+◌, ◌++◌, ℕ, zero, suc, Bool, true, false, cond, List, [], ◌∷◌, length, map, filter, get_or, refl, sym, ◌∙◌, ap, subst, arith}
-use Rattle.std.specs.Prelude.{nat_lt, Option, Some, None, IsSomeAnd}
+use Rattle.std.proofs.Common.{◌≡◌, ◌<◌, ◌≤◌, ◌+◌, ◌++◌, ℕ, zero, suc, Bool, true, cond, List, [], ◌∷◌, length, map, filter, get_or, refl, sym, ◌∙◌, ap, subst, arith}
+use Rattle.std.specs.Prelude.{nat_lt, Option, Some, None}
 use Rattle.std.specs.List.{All, slice_get}
 use Rattle.std.specs.declared.cmp.Ordering.{Ordering}
 use Rattle.std.specs.Ordering.{nat_cmp, on, then_cmp}
 use Rattle.std.specs.Cmp.Lexicographic.{slice_cmp, nat_list_cmp_total}
 use Rattle.std.specs.Cmp.{IsTotalOrder, nat_cmp_total, on_total, then_total}
-use Rattle.std.proofs.lemmas.Bool.Decides.{nat_tests}
 use Rattle.std.proofs.lemmas.List.{length-append}
 use Rattle.std.proofs.lemmas.List.Elements.{All-append, All-cons, All-filter, All-head, All-nil, All-tail, All-weaker, filter-append, filter_passes}
 use Rattle.db_model.specs.Database.{Database, Shape, Table, is_behind}
@@ -21,6 +20,7 @@ use Rattle.sound_laws.proofs.Moved.{moved_sound}
 use Rattle.mover_policy.specs.First.{first_in}
 use Rattle.mover_policy.proofs.ByName.{moved_by_name}
 use Rattle.mover_policy.proofs.Least.{some_least}
+use Rattle.table_store.proofs.Counted.{count_moved as counted_at, StandsAt}
 use Rattle.store_core.proofs.First.{and_left, found_in}
 
 -- ---- some projection is the first, where any is behind
@@ -36,10 +36,6 @@ none_behind [] none = refl
 none_behind (s ∷ ss) none = absurd (some_least cmp cmp_total s ss none)
 
 -- ---- where a projection stands
-
--- a shape stands at a place of the table at a place
-abbrev pub StandsAt : List Table → ℕ → ℕ → Shape → Type 0
-StandsAt ts i j s = IsSomeAnd (slice_get ts i) (λ t. slice_get t.shapes j ≡ Some s)
 
 abbrev Stands : List Table → Shape → Type 0
 Stands ts s = (i : ℕ) × (j : ℕ) × StandsAt ts i j s
@@ -136,41 +132,8 @@ good_moved n d e moved good = subst (IsGood n) (sym moved.is) (good_reached n d.
 
 -- ---- one less is behind
 
-not_below : (n : ℕ) → nat_lt n n ≡ false
-not_below n = grind (arith, nat_tests)
-
-counted : (last : ℕ) (ss : List Shape) (j : ℕ) (s : Shape) → slice_get ss j ≡ Some s → is_behind last s ≡ true → length (filter (is_behind last) (change_at j (reached_to last) ss)) + 1 ≡ length (filter (is_behind last) ss)
-counted last [] j s none is = absurd (cc)
-counted last (x ∷ ss) zero s at is =
-    let same : x ≡ s = cc in
-    let before : length (filter (is_behind last) (x ∷ ss)) ≡ length (x ∷ filter (is_behind last) ss) =
-    ap (λ (b : Bool). length (cond b (x ∷ filter (is_behind last) ss) (filter (is_behind last) ss))) (ap (is_behind last) same ∙ is) in
-    let after : length (filter (is_behind last) (reached_to last x ∷ ss)) ≡ length (filter (is_behind last) ss) =
-    ap (λ (b : Bool). length (cond b (reached_to last x ∷ filter (is_behind last) ss) (filter (is_behind last) ss))) (not_below last) in
-    omega (arith, before, after)
-counted last (x ∷ ss) (suc j) s at is = by (is_behind last x) (counted last ss j s at is)
-  where
-    by : (b : Bool) → length (filter (is_behind last) (change_at j (reached_to last) ss)) + 1 ≡ length (filter (is_behind last) ss)
-        → length (cond b (x ∷ filter (is_behind last) (change_at j (reached_to last) ss)) (filter (is_behind last) (change_at j (reached_to last) ss))) + 1 ≡ length (cond b (x ∷ filter (is_behind last) ss) (filter (is_behind last) ss))
-    by true rest = omega (arith, rest)
-    by false rest = rest
-
 pub joined : (last : ℕ) (xs ys : List Shape) → length (filter (is_behind last) (xs ++ ys)) ≡ length (filter (is_behind last) xs) + length (filter (is_behind last) ys)
 joined last xs ys = ap length (filter-append (is_behind last) xs ys) ∙ length-append (filter (is_behind last) xs) (filter (is_behind last) ys)
 
-counted_all : (last : ℕ) (ts : List Table) (i j : ℕ) (s : Shape) → StandsAt ts i j s → is_behind last s ≡ true
-    → length (filter (is_behind last) (all_shapes (change_at i (reached_in last j) ts))) + 1 ≡ length (filter (is_behind last) (all_shapes ts))
-counted_all last [] i j s at is = absurd at
-counted_all last (t ∷ ts) zero j s at is =
-    let one = counted last t.shapes j s at is in
-    let before = joined last t.shapes (all_shapes ts) in
-    let after = joined last (change_at j (reached_to last) t.shapes) (all_shapes ts) in
-    omega (arith, one, before, after)
-counted_all last (t ∷ ts) (suc i) j s at is =
-    let rest = counted_all last ts i j s at is in
-    let before = joined last t.shapes (all_shapes ts) in
-    let after = joined last t.shapes (all_shapes (change_at i (reached_in last j) ts)) in
-    omega (arith, rest, before, after)
-
 pub count_moved : (d e : Database) → MovedAt d e → length (behind e) + 1 ≡ length (behind d)
-count_moved d e moved = ap (λ (x : Database). length (behind x) + 1) moved.is ∙ counted_all d.last d.tables moved.table moved.place moved.shape moved.there moved.behind
+count_moved d e moved = ap (λ (x : Database). length (behind x) + 1) moved.is ∙ counted_at d moved.table moved.place moved.shape moved.there moved.behind

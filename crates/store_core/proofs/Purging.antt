@@ -25,7 +25,7 @@ use Rattle.store_core.specs.Jobs.{is_of, RaisesAllOf, RisesAt}
 use Rattle.store_core.specs.Running.{Running, IsState}
 use Rattle.store_core.proofs.Anew.{all_at, anew_few, anew_steps, changed_at, few_from, few_later, few_more, few_on, is_some_and, mapped_some, some_and, FewFrom, IsAnew}
 use Rattle.store_core.proofs.Chain.{still_itself}
-use Rattle.store_core.proofs.Placed.{StandsAt}
+use Rattle.table_store.proofs.Counted.{StandsAt}
 use Rattle.store_core.proofs.Raising.{raised_all, raised_leaving, raised_part, raised_turns, KeptRaised, LeftRaised}
 use Rattle.store_core.proofs.Worked.{answered, failed, few_sixteen, unit_fault, unit_ok, worked_begins, worked_fails, worked_more, Turns, WorkedTo}
 

@@ -36,7 +36,8 @@ use Rattle.store_core.proofs.Anew.{all_at, some_and, is_some_and, anew_few, anew
 use Rattle.store_core.proofs.Chain.{reopens_still, still_itself, Still}
 use Rattle.store_core.proofs.Doing.{drawn_does}
 use Rattle.store_core.proofs.Events.{renumbered, viewed}
-use Rattle.store_core.proofs.Placed.{cut_reached, good_reached, StandsAt}
+use Rattle.table_store.proofs.Counted.{StandsAt}
+use Rattle.store_core.proofs.Placed.{cut_reached, good_reached}
 use Rattle.store_core.proofs.Worked.{answered, drawn_with, failed, few_merges, rise_of, spent_same, stopped_at, unit_fault, unit_ok, worked_begins, worked_draws, worked_ends, worked_fails, worked_more, Leaving, Turns, WorkedTo}
 
 -- ---- a rise by its place

@@ -40,7 +40,8 @@ use Rattle.table_jobs.specs.Jobs.{OfProjection}
 use Rattle.store_core.proofs.Doing.{drawn_does}
 use Rattle.store_core.proofs.Events.{renumbered, viewed}
 use Rattle.store_core.proofs.Raising.{does_wider}
-use Rattle.store_core.proofs.Placed.{good_reached, StandsAt}
+use Rattle.table_store.proofs.Counted.{StandsAt}
+use Rattle.store_core.proofs.Placed.{good_reached}
 use Rattle.store_core.proofs.Purging.{found_of, named_there}
 use Rattle.store_core.proofs.Worked.{answered, drawn_with, failed, few_sixteen, spent_same, stopped_at, unit_fault, unit_ok, worked_begins, worked_draws, worked_ends, worked_fails, worked_more, Leaving, Turns, WorkedTo}
 

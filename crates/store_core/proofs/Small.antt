@@ -1,10 +1,9 @@
--- How many containers projections have while they are moved out one after the other.
-use Rattle.std.proofs.Common.{◌≡◌, ◌≤◌, ◌+◌, ◌*◌, ℕ, Bool, true, false, cond, List, [], ◌∷◌, length, map, filter, sym, ◌∙◌, subst, arith}
-use Rattle.std.specs.Prelude.{◌&&◌, nat_lt, Option, Some, None, option_and_then, IsSomeAnd}
+-- How many projections there are, and which of them is behind.
+use Rattle.std.proofs.Common.{◌≡◌, ◌≤◌, ◌*◌, ℕ, Bool, true, false, cond, List, [], ◌∷◌, length, map, filter, sym, subst, arith}
+use Rattle.std.specs.Prelude.{Option, Some, None, option_and_then, IsSomeAnd}
 use Rattle.std.specs.List.{All, slice_get}
 use Rattle.std.proofs.lemmas.List.{length-append, length-map}
 use Rattle.std.proofs.lemmas.List.Elements.{All-head, All-tail, All-weaker, filter_passes}
-use Rattle.std.proofs.lemmas.Bool.Decides.{nat_tests}
 use Rattle.catalog_types.specs.declared.catalogue.Catalogue.{Catalogue}
 use Rattle.catalog_types.specs.declared.catalogue.Projection.{Projection}
 use Rattle.catalog_types.specs.declared.catalogue.Table as kept
@@ -14,65 +13,9 @@ use Rattle.db_model.specs.Database.{is_behind}
 use Rattle.folder_model.specs.Projections.{shape_of}
 use Rattle.mover_policy.specs.declared.first.Place.{Place}
 use Rattle.mover_policy.specs.First.{all_projections, behind_in, first_in, projection_at}
-use Rattle.sound_laws.specs.Moves.{change_at}
-use Rattle.table_store.specs.Drawing.{DrawsEntry, DrawsJob, FewContainers}
-use Rattle.table_store.specs.Moving.{with_entry}
-use Rattle.table_store.proofs.Moved.{at_place}
+use Rattle.table_store.specs.Drawing.{DrawsEntry, DrawsJob}
 use Rattle.store_core.specs.Moving.{MovedBehind}
 use Rattle.store_core.proofs.First.{found_in}
-use Rattle.store_core.proofs.Placed.{all_change}
-
--- a projection has at most one container more than so many, and where it is behind no more than so many
-pub record IsSmall (parts last : ℕ) (p : Projection) : Type 0 where
-  pub all : length p.containers ≤ parts + 1
-  pub still : is_behind last (shape_of p) ≡ true → length p.containers ≤ parts
-
-abbrev pub AreSmall : ℕ → Catalogue → Type 0
-AreSmall parts c = All (λ t. All (IsSmall parts c.last) t.projections) c.tables
-
-pub small_first : (parts : ℕ) (c : Catalogue) → FewContainers parts c → AreSmall parts c
-small_first parts c few =
-    All-weaker (λ t. All (λ p. length p.containers ≤ parts) t.projections) (λ t. All (IsSmall parts c.last) t.projections)
-    (λ t. All-weaker (λ p. length p.containers ≤ parts) (IsSmall parts c.last) (λ p le. record { all = omega (arith, le); still = λ is. le }) t.projections) c.tables few
-
-pub small_few : (parts : ℕ) (c : Catalogue) → AreSmall parts c → FewContainers (parts + 1) c
-small_few parts c small =
-    All-weaker (λ t. All (IsSmall parts c.last) t.projections) (λ t. All (λ p. length p.containers ≤ parts + 1) t.projections)
-    (λ t. All-weaker (IsSmall parts c.last) (λ p. length p.containers ≤ parts + 1) (λ p is. is.all) t.projections) c.tables small
-
--- what has reached the newest epoch isn't behind
-reached_all : (b : Bool) (last lge : ℕ) → lge ≡ last → (b && nat_lt lge last) ≡ true → ⊥
-reached_all true last lge is behind = absurd (grind (arith, nat_tests))
-reached_all false last lge is behind = absurd (cc)
-
--- one moveout more, and the numbers that it draws
-pub record SmallStep (parts : ℕ) (old new : Catalogue) : Type 0 where
-  pub small : AreSmall parts new
-  pub from : old.next ≤ new.next
-  pub upto : new.next ≤ old.next + (parts + 132)
-
-pub small_more : (parts : ℕ) (old new : Catalogue) → MovedBehind old new → AreSmall parts old → SmallStep parts old new
-small_more parts old new moved small =
-    let i = moved.table in
-    let j = moved.place in
-    let (t, lt, t_is, inner) = at_place old.tables i (λ u. IsSomeAnd (slice_get u.projections j) (λ p. (is_behind old.last (shape_of p) ≡ true) × DrawsEntry i j old new p)) moved.draws in
-    let (p, below, p_is, (behind, drawn)) = at_place t.projections j (λ q. (is_behind old.last (shape_of q) ≡ true) × DrawsEntry i j old new q) inner in
-    let of_table : All (IsSmall parts old.last) t.projections = subst (λ (u : kept.Table). All (IsSmall parts old.last) u.projections) (sym t_is) (small i t lt) in
-    let least : length p.containers ≤ parts = (subst (IsSmall parts old.last) (sym p_is) (of_table j p below)).still behind in
-    let count = drawn.count in
-    let entry : IsSmall parts old.last drawn.entry =
-    record { all = omega (arith, count, least); still = λ is. absurd (reached_all drawn.entry.fresh old.last drawn.entry.lge (drawn.reached ∙ drawn.last) is) } in
-    let tables : All (λ u. All (IsSmall parts old.last) u.projections) (change_at i (with_entry j drawn.entry) old.tables) =
-    all_change (λ u. All (IsSmall parts old.last) u.projections) i (with_entry j drawn.entry) old.tables (λ u all. all_change (IsSmall parts old.last) j (λ q. drawn.entry) u.projections (λ q is. entry) all) small in
-    let from = drawn.from in
-    let upto = drawn.upto in
-    record {
-      small =
-          subst (λ (last : ℕ). All (λ u. All (IsSmall parts last) u.projections) new.tables) (sym drawn.last)
-          (subst (All (λ u. All (IsSmall parts old.last) u.projections)) (sym drawn.tables) tables);
-      from = omega (arith, from);
-      upto = omega (arith, upto, least);
-    }
 
 -- ---- how many there are
 

@@ -31,7 +31,7 @@ use col_disk::{Disk, StoreFault};
 use cut_job::cut_catalogue;
 use cut_model::{a_cut_reopens, a_loaded_cut_is_the_database, a_loaded_folder_is_the_database};
 use std::alloc::Global;
-use store_commit::{settle, tidy};
+use store_commit::{settle_listed, tidy};
 use table_store::{Parts, TableStore};
 
 /// The tables of a folder. `Damaged` names a file that keeps it from opening: the body of the greatest open gate, a data file where no gate
@@ -197,7 +197,7 @@ fn recover<D: Disk>(
         Err(StoreFault::Disk) => return Err(StoreFault::Disk),
         Err(_) => return Err(StoreFault::Memory),
     };
-    match settle(alloc, disk, root.next - 1, &root) {
+    match settle_listed(alloc, disk, root.next - 1, &root) {
         Ok(()) => Ok(TableStore::of(root, tables)),
         Err(fault) => Err(StoreFault::from(fault)),
     }

@@ -17,3 +17,6 @@ pub mod Unshaped
 pub mod Unblamed
 pub mod Wider
 pub mod Nexts
+pub mod Counted
+pub mod Drained
+pub mod Drains

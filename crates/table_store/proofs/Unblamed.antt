@@ -29,7 +29,7 @@ use Rattle.stored_rows.specs.Stored.{Beside, Projected, StoresRows, Stores}
 use Rattle.proj_store.specs.Loaded.{Loaded}
 use Rattle.proj_store.specs.Reading.{BlamesLoad, BlamesRows}
 use Rattle.container_writer.specs.Writing.{DataFrom}
-use Rattle.moveout_job.specs.OnDisk.{MovesOut}
+use Rattle.moveout_job.specs.OnDisk.{IsListedBelow, MovesOut}
 use Rattle.db_model.specs.Database.{Database, Table}
 use Rattle.folder_model.specs.Projections.{HasHistory, HasRows}
 use Rattle.folder_model.specs.Tables.{StandForTables}
@@ -116,7 +116,7 @@ parts_readable m mark rows [] all = All-nil (IsReadable m)
 parts_readable m mark rows (p ∷ ps) all =
     All-cons (IsReadable m) p ps (rows_readable m mark rows p (All-head (HasRows m mark rows) p ps all)) (parts_readable m mark rows ps (All-tail (HasRows m mark rows) p ps all))
 
-tables_readable : (m : Contents) (mark : ℕ) (ts : List kept.Table) (pss : List (List Projected)) (us : List Table) → StandForTables m mark ts pss us → All (All (IsReadable m)) pss
+pub tables_readable : (m : Contents) (mark : ℕ) (ts : List kept.Table) (pss : List (List Projected)) (us : List Table) → StandForTables m mark ts pss us → All (All (IsReadable m)) pss
 tables_readable m mark [] [] [] stand = All-nil (All (IsReadable m))
 tables_readable m mark [] [] (u ∷ us) stand = absurd stand
 tables_readable m mark [] (ps ∷ pss) us stand = absurd stand
@@ -163,4 +163,13 @@ moved_unblamed m n root tables i j ps p entry copy old mid new f held fresh ps_a
     let (rows, stores) = on_true p.stored.entry.fresh {P = (rows : List Stamped) × Stores m p.stored rows} readable up_to_date in
     let told : mid ≡ Some n = sym same ∙ now in
     let (left, holds, bag) = moves m n was told (entry_below root (map projections_of tables) i j (projections_of ps) p.stored held.valid held.entries long parts_are wide stored_is) rows stores in
+    load_unblamed n mid copy left f told (subst (λ (e : Projection). Holds n e left) (sym copied) holds) blames
+
+-- the same of a projection by itself
+pub written_unblamed : (m n : Contents) (next : ℕ) (p : Projected) (entry copy : Projection) (old mid new : Option Contents) (f : StoreFault) → p.entry.fresh ≡ true → IsListedBelow next p.entry → MovesOut next p entry old mid → copy ≡ entry
+    → BlamesLoad copy.containers mid f → new ≡ mid → old ≡ Some m → new ≡ Some n → IsReadable m p → IsUnblamed f
+written_unblamed m n next p entry copy old mid new f fresh below moves copied blames same was now readable =
+    let (rows, stores) = on_true p.entry.fresh {P = (rows : List Stamped) × Stores m p rows} readable fresh in
+    let told : mid ≡ Some n = sym same ∙ now in
+    let (left, holds, bag) = moves m n was told below rows stores in
     load_unblamed n mid copy left f told (subst (λ (e : Projection). Holds n e left) (sym copied) holds) blames

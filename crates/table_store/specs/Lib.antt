@@ -8,3 +8,4 @@ pub mod Drawing
 pub mod Shaping
 pub mod Faults
 pub mod Widening
+pub mod Draining

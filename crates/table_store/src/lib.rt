@@ -4,11 +4,13 @@
 //! what is in memory of them. Over a disk it stands for a database (`Stands` of `store_commit`); each call says which database it makes of
 //! that (`Makes`): then, where memory was short, and whatever a crash left at any moment of it. A commit makes all room before anything
 //! changes; of a table's projections the last one that has exactly its columns takes the pending rows themselves, the others get copies.
+//! A moveout of all writes the files of each projection that is behind, and then one catalogue (`specs/Draining.antt`).
 //! A column that joins a table writes no row: the catalogue tells its default, and rows in memory get it (`specs/Widening.antt`).
 #![tactic(auto)]
 
 mod committing;
 mod creating;
+mod draining;
 mod dropping;
 mod marking;
 mod moving;

@@ -76,23 +76,23 @@ fn put_entry_at(
 /// The catalogue with another entry at a place of a table, whose version is the number before its next one.
 pub fn with_entry_at(
     alloc: Global,
-    root: &Catalogue,
+    root: Catalogue,
     last: u64,
     version: u64,
     table: usize,
     place: usize,
     entry: Projection,
-) -> Result<Catalogue, AllocError>
-    requires there { IsSomeAnd (slice_get root.now.tables table) (λ t. place < length t.projections) }
+) -> Catalogue
+    requires there { IsSomeAnd (slice_get root.tables table) (λ t. place < length t.projections) }
     requires version { version < 2 ^ 62 }
-    ensures { IfOk result (λ c. c ≡ with_entry_at last version table place entry root.now) }
+    ensures { result ≡ with_entry_at last version table place entry root }
 {
-    let Catalogue { tables, .. } = root.copy(alloc)?;
+    let Catalogue { ahm, tables, .. } = root;
     let tables = put_entry_at(alloc, tables.into_vec(), table, place, entry);
-    Ok(Catalogue {
+    Catalogue {
         last,
-        ahm: root.ahm,
+        ahm,
         next: version + 1,
         tables: List::new(tables),
-    })
+    }
 }

@@ -96,7 +96,34 @@ fn renews(root: &Catalogue, table: usize, place: usize, entry: &Projection) -> b
     }
 }
 
-/// The catalogue with another entry at a place of a table, whose version is the number before its next one.
+/// The catalogue with another entry at a place of a table, whose version is the number before its next one. It takes the place of the one
+/// before it.
+pub fn into_entry_at(
+    alloc: Global,
+    root: Catalogue,
+    last: u64,
+    version: u64,
+    table: usize,
+    place: usize,
+    entry: Projection,
+) -> Result<Catalogue, AllocError>
+    requires valid { IsValid root }
+    requires there { IsSomeAnd (slice_get root.tables table) (λ t. place < length t.projections) }
+    requires version { version < 2 ^ 62 }
+    ensures catalogue { IfOk result (λ c. c ≡ with_entry_at last version table place entry root) }
+    ensures valid { IfOk result (λ c. IsValid c) }
+{
+    if !goes_on(&root, last, version + 1) {
+        return Err(AllocError);
+    }
+    if !renews(&root, table, place, &entry) {
+        return Err(AllocError);
+    }
+    let next = moving::with_entry_at(alloc, root, last, version, table, place, entry);
+    valid_at(alloc, next, table)
+}
+
+/// The same, of a catalogue that stays.
 pub fn with_entry_at(
     alloc: Global,
     root: &Catalogue,
@@ -112,14 +139,8 @@ pub fn with_entry_at(
     ensures catalogue { IfOk result (λ c. c ≡ with_entry_at last version table place entry root.now) }
     ensures valid { IfOk result (λ c. IsValid c) }
 {
-    if !goes_on(root, last, version + 1) {
-        return Err(AllocError);
-    }
-    if !renews(root, table, place, &entry) {
-        return Err(AllocError);
-    }
-    match moving::with_entry_at(alloc, root, last, version, table, place, entry) {
-        Ok(catalogue) => valid_at(alloc, catalogue, table),
+    match root.copy(alloc) {
+        Ok(copy) => into_entry_at(alloc, copy, last, version, table, place, entry),
         Err(AllocError) => Err(AllocError),
     }
 }

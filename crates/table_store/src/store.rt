@@ -27,6 +27,7 @@ use crate::creating::{first_entry, first_table, place_for, projection_name};
 use crate::moving::entry_copy;
 use crate::next::{with_entry_at, with_mark, with_table, without_table};
 use crate::parts::Parts;
+use catalog_root::{file_numbers, vector_numbers};
 use catalog_types::Catalogue;
 use col_disk::{Disk, DiskFault, StoreFault};
 use col_value::{Column, List, Name};
@@ -39,6 +40,7 @@ use stored_rows::what_is_read_is_stored;
 use txn_core::Session;
 
 mod columns;
+mod draining;
 mod installing;
 mod projections;
 
@@ -170,6 +172,30 @@ fn prepare_move<D: Disk>(
     }
 }
 
+/// The version that the disk opens to: a catalogue's next number comes behind its own.
+fn version_of(root: &Catalogue) -> u64 {
+    root.next.saturating_sub(1)
+}
+
+/// The numbers of the files of a table at a place.
+fn files_of(alloc: Global, root: &Catalogue, table: usize) -> Vec<u64> {
+    match root.tables.as_slice().get(table) {
+        Some(table) => file_numbers(alloc, table.projections.as_slice()),
+        None => Vec::new(alloc),
+    }
+}
+
+/// The numbers of the delete vectors of a projection at a place.
+fn vectors_of(alloc: Global, root: &Catalogue, table: usize, place: usize) -> Vec<u64> {
+    match root.tables.as_slice().get(table) {
+        Some(table) => match table.projections.as_slice().get(place) {
+            Some(entry) => vector_numbers(alloc, entry),
+            None => Vec::new(alloc),
+        },
+        None => Vec::new(alloc),
+    }
+}
+
 impl TableStore {
     /// No tables, and nothing on the disk.
     pub fn empty(alloc: Global) -> TableStore
@@ -249,7 +275,14 @@ impl TableStore {
             place,
             parts,
         } = ready;
-        match settle(alloc, disk, self.root.next, &catalogue) {
+        match settle(
+            alloc,
+            disk,
+            version_of(&self.root),
+            &[],
+            self.root.next,
+            &catalogue,
+        ) {
             Ok(()) => {}
             Err(fault) => return Err(fault),
         }
@@ -275,7 +308,15 @@ impl TableStore {
             Ok(catalogue) => catalogue,
             Err(AllocError) => return Err(DiskFault::Memory),
         };
-        match settle(alloc, disk, self.root.next, &catalogue) {
+        let gone = files_of(alloc, &self.root, table);
+        match settle(
+            alloc,
+            disk,
+            version_of(&self.root),
+            gone.as_slice(),
+            self.root.next,
+            &catalogue,
+        ) {
             Ok(()) => {}
             Err(fault) => return Err(fault),
         }
@@ -301,7 +342,14 @@ impl TableStore {
             Ok(catalogue) => catalogue,
             Err(AllocError) => return Err(DiskFault::Memory),
         };
-        match settle(alloc, disk, self.root.next, &catalogue) {
+        match settle(
+            alloc,
+            disk,
+            version_of(&self.root),
+            &[],
+            self.root.next,
+            &catalogue,
+        ) {
             Ok(()) => {}
             Err(fault) => return Err(fault),
         }
@@ -376,7 +424,15 @@ impl TableStore {
             version,
             store,
         } = ready;
-        match settle(alloc, disk, version, &catalogue) {
+        let gone = vectors_of(alloc, &self.root, table, place);
+        match settle(
+            alloc,
+            disk,
+            version_of(&self.root),
+            gone.as_slice(),
+            version,
+            &catalogue,
+        ) {
             Ok(()) => {}
             Err(fault) => return Err(StoreFault::from(fault)),
         }

@@ -17,9 +17,6 @@ use txn_core::Txns;
 // From this number on no event draws.
 const SPENT: u64 = 1 << 60;
 
-// A catalogue has no more projections: 16 in each of 1,024 tables.
-const MOST_PROJECTIONS: usize = 16_384;
-
 /// The changes of the eight sessions are dropped.
 fn drop_eight(alloc: Global, txns: &mut Txns)
     ensures { txns.new ≡ eight_dropped txns.old }
@@ -58,24 +55,20 @@ impl Store {
         let _root = self.tables.root();
     }
 
-    /// All projections that are behind are moved out, one after the other, up to a moveout that would draw where the numbers of files are
-    /// spent. Answers whether it stopped there. Where memory is short, some of them may have been moved out before; over a state no file is
-    /// blamed.
+    /// All projections that are behind are moved out before one commit; where the numbers of files are spent none is. Answers whether it stopped
+    /// there. Where memory is short, nothing changed but the mover's job, which is dropped; over a state no file is blamed.
     pub fn move_all<D: Disk>(&mut self, alloc: Global, disk: &mut D) -> Result<bool, StoreFault>
         ensures moves { (state : State) → IsState ⟦<D as Disk>⟧ self.old disk.old state → MovesAllOf ⟦<D as Disk>⟧ self.new disk.old disk.new result state }
         ensures cause { HasCause StoreFault.Disk (D.faults disk.old) (D.faults disk.new) result }
     {
         self.projections_fit();
         self.mover.drop_job();
-        for _ in 0..MOST_PROJECTIONS {
-            if self.are_spent() {
-                return Ok(self.is_behind());
-            }
-            match self.move_first(alloc, disk) {
-                Ok(true) => {}
-                Ok(false) => return Ok(false),
-                Err(fault) => return Err(fault),
-            }
+        if self.are_spent() {
+            return Ok(self.is_behind());
+        }
+        match self.tables.move_all(alloc, disk) {
+            Ok(()) => {}
+            Err(fault) => return Err(fault),
         }
         Ok(false)
     }

@@ -10,7 +10,7 @@ ghost use Rattle.store_commit.specs.Making.{Makes};
 ghost use Rattle.table_store.specs.Drawing.{DrawsOne};
 ghost use Rattle.table_store.specs.Widening.{widened_at};
 
-use super::TableStore;
+use super::{TableStore, version_of};
 use crate::next::with_column_at;
 use col_disk::{Disk, DiskFault};
 use col_value::{Column, Value};
@@ -48,7 +48,14 @@ impl TableStore {
             Ok(ready) => ready,
             Err(AllocError) => return Err(DiskFault::Memory),
         };
-        match settle(alloc, disk, self.root.next, &catalogue) {
+        match settle(
+            alloc,
+            disk,
+            version_of(&self.root),
+            &[],
+            self.root.next,
+            &catalogue,
+        ) {
             Ok(()) => {}
             Err(fault) => return Err(fault),
         }

@@ -18,7 +18,7 @@ ghost use Rattle.stored_rows.specs.Stored.{IsLoaded};
 ghost use Rattle.table_store.specs.Installing.{HoldsTable, IsRenewalAt};
 ghost use Rattle.table_store.specs.Moving.{with_entry_at};
 
-use super::{MOST_NUMBERS, TableStore};
+use super::{MOST_NUMBERS, TableStore, files_of, version_of};
 use crate::moving::entry_copy;
 use crate::next::with_entry_at;
 use catalog_types::Projection;
@@ -86,7 +86,15 @@ impl TableStore {
             Ok(catalogue) => catalogue,
             Err(AllocError) => return Err(StoreFault::Memory),
         };
-        match settle(alloc, disk, next, &catalogue) {
+        let gone = files_of(alloc, &self.root, table);
+        match settle(
+            alloc,
+            disk,
+            version_of(&self.root),
+            gone.as_slice(),
+            next,
+            &catalogue,
+        ) {
             Ok(()) => {}
             Err(fault) => return Err(StoreFault::from(fault)),
         }

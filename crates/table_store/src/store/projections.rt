@@ -13,7 +13,7 @@ ghost use Rattle.table_store.specs.Creating.{bare, place_of};
 ghost use Rattle.table_store.specs.Drawing.{DrawsOne};
 ghost use Rattle.table_store.specs.Shaping.{RetainsNone, new_entry, new_shape, shaped_at, unshaped_at, with_projection_at};
 
-use super::TableStore;
+use super::{TableStore, files_of, version_of};
 use crate::moving::entry_copy;
 use crate::next::{with_projection_at, without_projection_at};
 use crate::shaping::{NewProjection, new_entry, place_among};
@@ -89,7 +89,14 @@ impl TableStore {
             Ok(()) => {}
             Err(AllocError) => return Err(DiskFault::Memory),
         }
-        match settle(alloc, disk, self.root.next, &catalogue) {
+        match settle(
+            alloc,
+            disk,
+            version_of(&self.root),
+            &[],
+            self.root.next,
+            &catalogue,
+        ) {
             Ok(()) => {}
             Err(fault) => {
                 self.tables[table].remove(place);
@@ -119,7 +126,15 @@ impl TableStore {
             Ok(catalogue) => catalogue,
             Err(AllocError) => return Err(DiskFault::Memory),
         };
-        match settle(alloc, disk, self.root.next, &catalogue) {
+        let gone = files_of(alloc, &self.root, table);
+        match settle(
+            alloc,
+            disk,
+            version_of(&self.root),
+            gone.as_slice(),
+            self.root.next,
+            &catalogue,
+        ) {
             Ok(()) => {}
             Err(fault) => return Err(fault),
         }

@@ -25,7 +25,7 @@ returns-in_err-tables-clause-ends g c =
     rw (fault.1, fault.2)
     (λ a b here there last.
     let is = c.in_ok-check_frame.ensures.ahead a b here there in
-    c.in_err-tables.ensures.ends a b here there is (mark_within g.A.Disk g.B.Disk c.args.at.now c.args.from.now r t a b c.args.pair.now.epoch here there last is))
+    c.in_err-tables.ensures.ends a b here there is last (mark_within g.A.Disk g.B.Disk c.args.at.now c.args.from.now r t a b c.args.pair.now.epoch here there last is))
 
 pub returns-in_err-check_epochs-clause-ends : goal.returns-in_err-check_epochs-clause-ends
 returns-in_err-check_epochs-clause-ends g c =
@@ -36,9 +36,9 @@ returns-in_err-check_epochs-clause-ends g c =
     (λ a b here there last.
     let is = c.in_ok-check_frame.ensures.ahead a b here there in
     let le = mark_within g.A.Disk g.B.Disk c.args.at.now c.args.from.now r t a b c.args.pair.now.epoch here there last is in
-    let (told, older) = c.in_ok-tables.ensures.told a b here there is le in
+    let (told, older) = c.in_ok-tables.ensures.told a b here there is last le in
     c.in_err-check_epochs.ensures.ends (mark_between r t) a.database b.database there.sound.database le (c.last.ensures ∙ sym there.database.are.last)
-    (subst (λ (hs : List History). AreToldBy (mark_between r t) hs b.database) (sym c.as_slice.ensures.value) told) is older)
+    (subst (λ (hs : List History). AreToldBy (mark_between r t) c.args.pair.now.epoch hs b.database) (sym c.as_slice.ensures.value) told) is older)
 
 pub returns-clause-checked : goal.returns-clause-checked
 returns-clause-checked g c = λ a b here there last.
@@ -46,7 +46,7 @@ returns-clause-checked g c = λ a b here there last.
     let t = c.args.pair.now.ahead.now in
     let is = c.in_ok-check_frame.ensures.ahead a b here there in
     let le = mark_within g.A.Disk g.B.Disk c.args.at.now c.args.from.now r t a b c.args.pair.now.epoch here there last is in
-    let (told, older) = c.in_ok-tables.ensures.told a b here there is le in
+    let (told, older) = c.in_ok-tables.ensures.told a b here there is last le in
     let closed : c.last.result ≡ b.database.last = c.last.ensures ∙ sym there.database.are.last in
-    let (gaps, many) = c.in_ok-check_epochs.ensures.good (mark_between r t) b.database there.sound.database le closed (subst (λ (hs : List History). AreToldBy (mark_between r t) hs b.database) (sym c.as_slice.ensures.value) told) in
+    let (gaps, many) = c.in_ok-check_epochs.ensures.good (mark_between r t) b.database there.sound.database le closed (subst (λ (hs : List History). AreToldBy (mark_between r t) c.args.pair.now.epoch hs b.database) (sym c.as_slice.ensures.value) told) in
     checked g.A.Disk g.B.Disk c.args.at.now c.args.from.now r t a b c.args.pair.now.epoch c.last.result c.in_ok-tables.tables.items here there is told older closed gaps many

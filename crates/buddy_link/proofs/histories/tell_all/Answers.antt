@@ -12,7 +12,7 @@ pub loop-place-init : goal.loop-place-init
 loop-place-init g c = record {
   count = sym (ap length c.new-out.ensures.items);
   within = omega arith;
-  told = λ a b here there le.
+  told = λ a b here there last le.
       subst (λ (hs : List History). AreToldTo (mark_between c.args.pair.now.behind.now c.args.pair.now.ahead.now) c.args.pair.now.epoch hs a.database b.database) (sym c.new-out.ensures.items)
       (none_told (mark_between c.args.pair.now.behind.now c.args.pair.now.ahead.now) c.args.pair.now.epoch a.database b.database);
   behind_kept = refl;
@@ -28,10 +28,10 @@ returns-in_err-tell_one-clause-ends g c =
     let now = c.loop-place.invariant in
     let fault = err_from_is_err_and c.from_residual.result c.from_residual.ensures.1 in
     rw (fault.1, fault.2)
-    (λ a b here there is le.
+    (λ a b here there is last le.
     ends_at (mark_between r t) c.args.pair.now.epoch c.loop-place.place c.loop-place.out.items a.database b.database c.in_err-tell_one.field-0.0 (compared g.A.Disk g.B.Disk c.args.at.now c.args.from.now r t a b c.args.pair.now.epoch here there is) is now.count
-    (now.told a b here there le)
-    (c.in_err-tell_one.ensures.ends a b (state_stays g.A.Disk c.args.at.now c.loop-place.at r a now.behind_moved here) (state_stays g.B.Disk c.args.from.now c.loop-place.from t b now.ahead_moved there) le))
+    (now.told a b here there last le)
+    (c.in_err-tell_one.ensures.ends a b (state_stays g.A.Disk c.args.at.now c.loop-place.at r a now.behind_moved here) (state_stays g.B.Disk c.args.from.now c.loop-place.from t b now.ahead_moved there) last le))
 
 pub returns-in_err-tell_one-clause-behind_moved : goal.returns-in_err-tell_one-clause-behind_moved
 returns-in_err-tell_one-clause-behind_moved g c = moved_join g.A.Disk c.loop-place.invariant.behind_moved c.tell_one.ensures.behind_moved
@@ -60,10 +60,10 @@ loop-place-preserved g c =
     record {
       count = grown ∙ sym (ap length more);
       within = omega (arith, less, ends);
-      told = λ a b here there le.
+      told = λ a b here there last le.
           subst (λ (hs : List History). AreToldTo (mark_between r t) c.args.pair.now.epoch hs a.database b.database) (sym more)
-          (told_more (mark_between r t) c.args.pair.now.epoch c.loop-place.place c.loop-place.out.items one a.database b.database now.count (now.told a b here there le)
-          (c.in_ok-tell_one.ensures.told a b (state_stays g.A.Disk c.args.at.now c.loop-place.at r a now.behind_moved here) (state_stays g.B.Disk c.args.from.now c.loop-place.from t b now.ahead_moved there) le));
+          (told_more (mark_between r t) c.args.pair.now.epoch c.loop-place.place c.loop-place.out.items one a.database b.database now.count (now.told a b here there last le)
+          (c.in_ok-tell_one.ensures.told a b (state_stays g.A.Disk c.args.at.now c.loop-place.at r a now.behind_moved here) (state_stays g.B.Disk c.args.from.now c.loop-place.from t b now.ahead_moved there) last le));
       behind_kept = c.tell_one.ensures.behind_kept ∙ now.behind_kept;
       behind_moved = moved_join g.A.Disk now.behind_moved c.tell_one.ensures.behind_moved;
       ahead_kept = c.tell_one.ensures.ahead_kept ∙ now.ahead_kept;
@@ -71,7 +71,7 @@ loop-place-preserved g c =
     }
 
 pub returns-clause-told : goal.returns-clause-told
-returns-clause-told g c = λ a b here there is le.
+returns-clause-told g c = λ a b here there is last le.
     let r = c.args.pair.now.behind.now in
     let t = c.args.pair.now.ahead.now in
     let now = c.loop-place.invariant in
@@ -83,6 +83,6 @@ returns-clause-told g c = λ a b here there is le.
     let all = length_told g.B.Disk c.args.from.now t b there in
     let whole : length hs ≡ length b.database.tables = omega (arith, count, within, most, ends, all) in
     let pair = compared g.A.Disk g.B.Disk c.args.at.now c.args.from.now r t a b c.args.pair.now.epoch here there is in (
-      are_told (mark_between r t) c.args.pair.now.epoch hs a.database b.database whole (now.told a b here there le),
-      all_older (mark_between r t) c.args.pair.now.epoch hs a.database b.database pair.is pair.alike whole (now.told a b here there le),
+      are_told (mark_between r t) c.args.pair.now.epoch hs a.database b.database whole (now.told a b here there last le),
+      all_older (mark_between r t) c.args.pair.now.epoch hs a.database b.database pair.is pair.alike whole (now.told a b here there last le),
     )

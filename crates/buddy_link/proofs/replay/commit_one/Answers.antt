@@ -3,7 +3,7 @@ use Rattle.catch_model.specs.Added.{has_change}
 use Rattle.catch_model.specs.declared.fault.LinkFault.{LinkFault}
 use Rattle.store_core.specs.Running.{Running}
 use Rattle.store_core.specs.Sessions.{with_own}
-use Rattle.buddy_link.specs.Linking.{behind_fault}
+use Rattle.catch_rows.specs.Sharing.{behind_fault}
 use Rattle.buddy_link.specs.Replaying.{all_pended, Comes}
 use Rattle.buddy_link.proofs.Coming.{comes_committed, comes_failed, comes_unpended, memory, replay_failed, replayed_ok}
 use Rattle.buddy_link.proofs.Pended.{whole_pended, IsPended}

@@ -2,11 +2,12 @@ use Rattle.std.proofs.Common.{arith}
 use Rattle.db_model.specs.State.{opened_with}
 use Rattle.catch_model.specs.declared.fault.LinkFault.TheVariants.{BehindDisk, AheadDisk}
 use Rattle.buddy_run.proofs.Coming.{caused_later, not_caused, short_stops}
+use Rattle.buddy_run.proofs.Following.{short_stands}
 use Rattle.buddy_run.proofs.Opening.{opened_is, opening_leaves, read_only, still_leaves, way_leaves}
 use Rattle.buddy_run.proofs.linking.bring_up.Goals as goal
 
 pub returns-in-Err-clause-brings : goal.returns-in-Err-clause-brings
-returns-in-Err-clause-brings g c = λ m n a b told reopens there_told there_reopens. record { done = tt; stopped = short_stops a b c.in-Err.fault (c.in-Err.ensures.short m a told reopens) }
+returns-in-Err-clause-brings g c = λ m n a b told reopens there_told there_reopens. record { done = tt; stopped = short_stops a b c.in-Err.fault (c.in-Err.ensures.short m a told reopens); stands = short_stands g.A.Disk c.open_behind.new.behind a b c.in-Err.fault (c.in-Err.ensures.short m a told reopens) }
 
 pub returns-in-Err-clause-any_moment : goal.returns-in-Err-clause-any_moment
 returns-in-Err-clause-any_moment g c = λ m n a b told reopens there_told there_reopens. opening_leaves g.A.Disk a b (c.in-Err.ensures.any_moment m a told reopens)
@@ -15,7 +16,7 @@ pub returns-in-Err-clause-ahead_cause : goal.returns-in-Err-clause-ahead_cause
 returns-in-Err-clause-ahead_cause g c = not_caused c.in-Err.fault AheadDisk (g.B.Disk.faults c.args.ahead.now) (g.B.Disk.faults c.args.ahead.now) (omega arith) c.in-Err.ensures.own
 
 pub returns-in-Err-open_ahead-clause-brings : goal.returns-in-Err-open_ahead-clause-brings
-returns-in-Err-open_ahead-clause-brings g c = λ m n a b told reopens there_told there_reopens. record { done = tt; stopped = short_stops a b c.in-Err-open_ahead.fault (c.in-Err-open_ahead.ensures.short n b there_told there_reopens) }
+returns-in-Err-open_ahead-clause-brings g c = λ m n a b told reopens there_told there_reopens. record { done = tt; stopped = short_stops a b c.in-Err-open_ahead.fault (c.in-Err-open_ahead.ensures.short n b there_told there_reopens); stands = short_stands g.A.Disk c.open_behind.new.behind a b c.in-Err-open_ahead.fault (c.in-Err-open_ahead.ensures.short n b there_told there_reopens) }
 
 pub returns-in-Err-open_ahead-clause-any_moment : goal.returns-in-Err-open_ahead-clause-any_moment
 returns-in-Err-open_ahead-clause-any_moment g c = λ m n a b told reopens there_told there_reopens. opening_leaves g.A.Disk a b (c.in-Ok.ensures.any_moment m a told reopens)

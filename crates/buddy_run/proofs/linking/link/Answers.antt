@@ -17,8 +17,8 @@ returns-clause-usage g c = λ is. absurd (c.stopped.ensures.own is)
 
 pub returns-clause-ends : goal.returns-clause-ends
 returns-clause-ends g c = λ m n a b three told reopens there_told there_reopens.
-    stop_ends g.A.Disk c.bring_up.new.behind a b (g.S.Sink.taken c.args.out.now) (g.S.Sink.taken c.stopped.new.out) c.stopped.result
-    (c.stopped.ensures.ends a b (c.in-Err.ensures.brings m n a b told reopens there_told there_reopens).stopped)
+    let brings = c.in-Err.ensures.brings m n a b told reopens there_told there_reopens in
+    stop_ends g.A.Disk c.bring_up.new.behind a b c.in-Err.fault (g.S.Sink.taken c.args.out.now) (g.S.Sink.taken c.stopped.new.out) c.stopped.result (c.stopped.ensures.ends a b brings.stopped) brings.stands
 
 pub returns-clause-fault : goal.returns-clause-fault
 returns-clause-fault g c = λ is.

@@ -1,6 +1,3 @@
-use Rattle.std.proofs.Common.{◌≡◌, ◌∙◌}
-use Rattle.std.proofs.lemmas.Result.{on_ok_weaker}
-use Rattle.common_laws.specs.Maps.{Contents}
 use Rattle.col_disk.proofs.Moving.{moved_read, looks_join}
 use Rattle.catalog_root.proofs.Quieting.{on_all}
 use Rattle.catalog_root.proofs.opening.open.Goals as goal

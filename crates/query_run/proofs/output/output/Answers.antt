@@ -5,9 +5,8 @@ use Rattle.col_value.specs.Order.{IsRow}
 use Rattle.col_value.specs.declared.value.Value.{Value}
 use Rattle.col_value.specs.declared.wide.Wide.{Wide}
 use Rattle.query_laws.proofs.TupleRows.{kept_are_rows}
-use Rattle.sql_bound.specs.Outputs.{kept, output, window_scopes}
+use Rattle.sql_bound.specs.Outputs.{kept, window_scopes}
 use Rattle.query_order.specs.Enough.{IsEnough}
-use Rattle.query_order.proofs.Enough.{enough_itself}
 use Rattle.exec_group.specs.Groups.{HoldsGroups}
 use Rattle.query_run.specs.Outputs.{items_in, IsWindowed}
 use Rattle.query_run.proofs.Scopes.{groups_fit, groups_great, groups_put_out, held_few, scopes_fit, seen_are_rows, windows_put_out}
