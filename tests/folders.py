@@ -37,7 +37,7 @@ class Folder:
         return sorted(self.commits[last]) if last is not None else []
 
     def begin(self):
-        self.say(['CREATE TABLE t (a INTEGER, b VARCHAR(8));', 'CREATE PROJECTION by_b (b) AS SELECT b FROM t ORDER BY b;'])
+        self.say(['CREATE TABLE t (a INTEGER, b VARCHAR(8));', 'CREATE PROJECTION by_b (b) AS SELECT b FROM t ORDER BY b;', 'CREATE TABLE gone (x INTEGER);'])
         status, text = run(self.program, self.place, self.script)
         assert status == 0, 'it begins with status %d: %s' % (status, text)
 
@@ -58,16 +58,29 @@ class Folder:
                 there = [(str(int(a) + 1), b) if b == key else (a, b) for a, b in there]
             lines.append('COMMIT;')
             planned[epoch] = there
-            what = dice.randrange(4)
-            if what == 0:
+            what = dice.randrange(9)
+            if what in (0, 1):
                 lines.append("SELECT DO_TM_TASK('moveout');")
-            elif what == 1:
+            elif what == 2:
                 lines.append('\\step;')
-            elif what == 2 and made < 20:
+            elif what in (3, 4) and made < 20:
                 lines.append('CREATE TABLE t%d (x INTEGER);' % made)
                 made += 1
+            elif what > 4:
+                lines += dice.choice(self.others(dice, made))
             lines.append('SELECT GET_LAST_GOOD_EPOCH();')
         return lines, planned
+
+    def others(self, dice, made):
+        """Statements of each other kind that writes; they change no row of t."""
+        late = ['CREATE PROJECTION late (a, b ENCODING RLE) AS SELECT a, b FROM t ORDER BY b;', "SELECT REFRESH('t');"]
+        return [
+            ["SELECT DO_TM_TASK('moveout');", "SELECT DO_TM_TASK('mergeout');"],
+            ["SELECT DO_TM_TASK('moveout');", 'SELECT MAKE_AHM_NOW();', "SELECT PURGE_TABLE('t');"],
+            late, ['DROP PROJECTION late;'], [late[0], 'SELECT START_REFRESH();', '\\step;', '\\step;', '\\step;'],
+            ['INSERT INTO gone VALUES (1);', 'ROLLBACK;', 'DROP TABLE gone;'],
+            ['ALTER TABLE t%d ADD COLUMN y%d INTEGER DEFAULT 7;' % (dice.randrange(made), dice.randrange(100))] if made else late,
+        ]
 
     def audited(self):
         """The epoch of the verdict on the folder, which is AUDIT YES."""

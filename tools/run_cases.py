@@ -515,6 +515,37 @@ r.say('SELECT a FROM t', '1', '2', '(2 rows)')
 r.end()
 failing(([], 5), (['CREATE TABLE', 'INSERT 2', 'COMMIT EPOCH 1'], 5), (['CREATE TABLE', 'INSERT 2', 'COMMIT EPOCH 1', 'MOVEOUT'], 5))
 
+new()
+
+note('# stops and failing calls in a change of columns, a delete, a mergeout in steps and a purge')
+r = Run('--halt')
+r.say('CREATE TABLE t (a INTEGER)', 'CREATE TABLE')
+fronts = [[]]
+for i in range(1, 5):
+    r.say('INSERT INTO t VALUES (%d)' % i, 'INSERT 1')
+    r.say('COMMIT', 'COMMIT EPOCH %d' % i)
+    fronts.append(list(r.answers))
+    r.say("SELECT DO_TM_TASK('moveout')", 'MOVEOUT')
+# each of these calls the disk, and an answer of the one before it is the last that is printed where a call fails
+for statement, *answers in (
+    ('ALTER TABLE t ADD COLUMN b INTEGER DEFAULT 7', 'ALTER TABLE'),
+    ('DELETE FROM t WHERE a = 2', 'DELETE 1'),
+    ('COMMIT', 'COMMIT EPOCH 5'),
+    ("SELECT DO_TM_TASK('moveout')", 'MOVEOUT'),
+    ('\\step',),
+    ('\\step',),
+    ('\\step',),
+    ('\\step',),
+    ('SELECT MAKE_AHM_NOW()', 'AHM 5'),
+    ("SELECT PURGE_TABLE('t')", 'PURGE'),
+):
+    if r.answers not in fronts:
+        fronts.append(list(r.answers))
+    r.say(statement, *answers)
+r.end()
+failing(*[(front, 5) for front in fronts])
+stops('SELECT a, b FROM t', ['ERROR 2 UnknownTable t'], ['ERROR 4 UnknownColumn b'], ['1|7', '2|7', '3|7', '4|7', '(4 rows)'], ['1|7', '3|7', '4|7', '(3 rows)'])
+
 with open(os.path.join(HERE, 'stdin'), 'w') as out:
     out.write(''.join(line + '\n' for line in lines))
 with open(os.path.join(HERE, 'stdout'), 'w') as out:
