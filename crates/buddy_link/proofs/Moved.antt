@@ -16,6 +16,7 @@ use Rattle.sound_laws.specs.Moves.{change_at, reached_in}
 use Rattle.state_laws.proofs.Tables.{map_named}
 use Rattle.store_core.proofs.Placed.{all_change, cut_moved, first_moved, moved_last, sound_moved, MovedAt}
 use Rattle.store_core.specs.Cuts.{IsKept}
+use Rattle.store_core.specs.Moving.{IsKeptOrMoved}
 use Rattle.catch_model.specs.Caught.{columns_of, history, IsCaughtUp}
 use Rattle.catch_laws.proofs.Committed.{whole_history}
 
@@ -97,7 +98,11 @@ all_still e s new stopped still moves = jobs_still (length (behind s.database)) 
 
 pub kept_still : (e : ℕ) (s new : State) → IsStill e s s → IsKept s new → IsStill e s new
 kept_still e s new still (inl same) = subst (IsStill e s) (sym same) still
-kept_still e s new still (inr (jobs, stopped, moves)) = jobs_still jobs e s (given_up s) new stopped (given_still e s still) moves
+kept_still e s new still (inr same) = subst (IsStill e s) (sym same) (given_still e s still)
+
+pub kept_or_moved_still : (e : ℕ) (s new : State) → IsStill e s s → IsKeptOrMoved s new → IsStill e s new
+kept_or_moved_still e s new still (inl kept) = kept_still e s new still kept
+kept_or_moved_still e s new still (inr moves) = all_still e s new false still moves
 
 -- ---- it has caught up still
 

@@ -21,6 +21,7 @@ use Rattle.folder_model.specs.Reopening.{Reopens}
 use Rattle.store_core.proofs.Ended.{all_reach}
 use Rattle.store_core.proofs.Placed.{count_moved, first_moved}
 use Rattle.store_core.specs.Cuts.{IsKept}
+use Rattle.store_core.specs.Moving.{IsKeptOrMoved}
 use Rattle.store_core.specs.Events.{ReopensTo}
 use Rattle.store_core.specs.Running.{Running, IsState}
 use Rattle.store_core.specs.Sessions.{with_current}
@@ -35,7 +36,7 @@ use Rattle.catch_tables.specs.Told.{History}
 use Rattle.buddy_link.specs.Linking.{HasEpochsOf, LeavesBehind, MayReplay, MovesBehind, MovesOrStops, Replays, ReopensBehindOrCaught}
 use Rattle.buddy_link.specs.Replaying.{Comes, IsShortBehind, Setting}
 use Rattle.buddy_link.proofs.Coming.{at_reopens, replayed_ok, still_leaves}
-use Rattle.buddy_link.proofs.Moved.{all_still, caught_still, columns_still, good_either, history_still, kept_still, still_begins, still_moved, IsStill}
+use Rattle.buddy_link.proofs.Moved.{all_still, caught_still, columns_still, good_either, history_still, kept_or_moved_still, kept_still, still_begins, still_moved, IsStill}
 use Rattle.buddy_link.proofs.Telling.{all_ordered}
 
 -- ---- the begin
@@ -233,11 +234,11 @@ stops_moving {D} disk mark last a b s is old new f begun good last_is ahead soun
 
 -- ---- images
 
-moved_image : (mark last : ℕ) (a : State) (b : Database) (s mid : State) (x : Contents) → IsSound a → last_good a.database ≡ a.database.last → last ≡ b.last → IsSoundDatabase b → IsSound s → IsAt mark a.database b last s → IsKept s mid → ReopensTo mid x → ReopensBehindOrCaught mark a b x
+moved_image : (mark last : ℕ) (a : State) (b : Database) (s mid : State) (x : Contents) → IsSound a → last_good a.database ≡ a.database.last → last ≡ b.last → IsSoundDatabase b → IsSound s → IsAt mark a.database b last s → IsKeptOrMoved s mid → ReopensTo mid x → ReopensBehindOrCaught mark a b x
 moved_image mark last a b s mid x begun good last_is ahead sound at kept reopens = by (good_either a.database.last s mid still)
   where
     still : IsStill a.database.last s mid
-    still = kept_still a.database.last s mid (still_at mark last a b s begun good sound at) kept
+    still = kept_or_moved_still a.database.last s mid (still_at mark last a b s begun good sound at) kept
 
     by : (last_good mid.database ≡ a.database.last) ⊎ (last_good mid.database ≡ s.database.last) → ReopensBehindOrCaught mark a b x
     by (inl is) = inl (subst (Reopens x) (still.cuts a.database.last ∙ at.cuts a.database.last (omega arith)) (subst (λ (k : ℕ). Reopens x (cut k mid.database)) is reopens))

@@ -14,6 +14,7 @@ use Rattle.db_model.specs.Sound.{IsSoundDatabase}
 use Rattle.db_model.specs.State.{State, idle_sessions}
 use Rattle.folder_model.specs.Reopening.{Reopens}
 use Rattle.store_core.specs.Cuts.{IsKept}
+use Rattle.store_core.specs.Moving.{ReopensMoved}
 use Rattle.store_core.specs.Events.{ReopensTo}
 use Rattle.store_core.specs.Running.{Running, IsState}
 use Rattle.catch_model.specs.Caught.{later_mark, HaveSameHistory, HaveSameTables, IsCaughtUp}
@@ -156,4 +157,4 @@ pub record MovesBehind {D T : Type 0} (disk : Ghosts D) (is : Running) (old new 
   pub spent : IsErrOf result NumbersSpent → (after : State) × MovesAll s true after × IsState disk is new after
   pub short : IsErrOf result Memory → (after : State) × IsKept s after × IsState disk is new after
   pub fault : IfErr result (MovesOrStops true)
-  pub any_moment : Leaves disk (λ x. (mid : State) × IsKept s mid × ReopensTo mid x) old new
+  pub any_moment : Leaves disk (ReopensMoved s) old new

@@ -170,15 +170,23 @@ any_moved state sound room = by (length (behind state.database)) refl
         record { still = subst (Still state) (sym same) itself; by_moves = either same }
       where
         either : all_caught_up state.database ≡ state.database → (x : Contents) → ReopensToEither state.database (all_caught_up state.database) x → ReopensMoved state x
-        either same x (inl before) = (state, inl refl, before)
-        either same x (inr after) = (state, inl refl, subst (λ (d : Database). Reopens x (cut (last_good d) d)) same after)
+        either same x (inl before) = (state, inl (inl refl), before)
+        either same x (inr after) = (state, inl (inl refl), subst (λ (d : Database). Reopens x (cut (last_good d) d)) same after)
     by (suc n) count =
         let all = all_one_by_one n state (given_up state) state.next state.parts count itself room (omega arith) (omega arith) (omega arith) in
         record { still = all.still; by_moves = λ x is. either all.moves x is }
       where
         either : MovesOut (suc n) (given_up state) false (ended (given_up state) state.next state.parts (all_caught_up state.database)) → (x : Contents) → ReopensToEither state.database (all_caught_up state.database) x → ReopensMoved state x
-        either moves x (inl before) = (state, inl refl, before)
-        either moves x (inr after) = (ended (given_up state) state.next state.parts (all_caught_up state.database), inr (suc n, false, moves), after)
+        either moves x (inl before) = (state, inl (inl refl), before)
+        either moves x (inr after) =
+            let end : State = ended (given_up state) state.next state.parts (all_caught_up state.database) in (
+              end,
+              inr (record {
+                jobs = subst (λ (k : ℕ). MovesOut k (given_up state) false end) (sym count) moves;
+                drawn = record { from = omega arith; to = omega arith; parts = omega arith };
+              }),
+              after,
+            )
 
 -- all were moved out
 pub moved_done : {D : Type 0} (disk : Ghosts D) {old new : D} (was is : Seen) (sessions : List (List Changes)) (current : ℕ) (mover : Mover) (state : State) → IsState disk (running was sessions current mover) old (given_up state) → are_spent state ≡ false
@@ -262,8 +270,8 @@ moved_spent {D} disk {now} was sessions current mover state some here spent some
     quiet = reads_only disk was was fault.Memory state.database state.database here.database (moved_none disk now)
 
     either : (x : Contents) → ReopensToEither state.database state.database x → ReopensMoved state x
-    either x (inl before) = (state, inl refl, before)
-    either x (inr before) = (state, inl refl, before)
+    either x (inl before) = (state, inl (inl refl), before)
+    either x (inr before) = (state, inl (inl refl), before)
 
     first : first_behind state.database ≡ first_in (behind_in was.catalogue.last (all_projections was.catalogue.tables))
     first = ap first_in (behind_are here.database.files was.catalogue was.stores state.database here.database.are)
@@ -289,7 +297,7 @@ moved_fails {D} disk {old} {new} was sessions current mover state f here room ma
       done = tt;
       undone = λ wants. (
         given_up state,
-        inr (0, false, (refl, refl)),
+        inr refl,
         record {
           database = makes.undone (short f wants);
           sessions = here.sessions;

@@ -1,9 +1,9 @@
 -- What a crash leaves of the tables, cut at one epoch.
-use Rattle.std.specs.Prelude.{ℕ, ◌≡◌, ◌⊎◌, ◌≤◌, Bool}
+use Rattle.std.specs.Prelude.{ℕ, ◌≡◌, ◌⊎◌, ◌≤◌}
 use Rattle.common_laws.specs.Maps.{Contents}
 use Rattle.db_model.specs.State.{State}
 use Rattle.db_model.specs.Epochs.{last_good, cut}
-use Rattle.db_model.specs.Mover.{given_up, MovesOut}
+use Rattle.db_model.specs.Mover.{given_up}
 use Rattle.folder_model.specs.Reopening.{Reopens}
 
 -- a folder reopens to the database of a state, cut at a closed epoch that is no earlier than this one
@@ -19,6 +19,6 @@ abbrev pub CutBeforeOrAfter : State → (State → Type 0) → Contents → Type
 CutBeforeOrAfter state After x =
     ReopensFrom (last_good state.database) state x ⊎ ((new : State) × After new × ReopensFrom (last_good state.database) new x)
 
--- Where memory was short: nothing changed, but for moveouts that were done before.
+-- where memory was short: nothing changed, but that the mover's job may be dropped
 abbrev pub IsKept : State → State → Type 0
-IsKept old new = (new ≡ old) ⊎ ((jobs : ℕ) × (stopped : Bool) × MovesOut jobs (given_up old) stopped new)
+IsKept old new = (new ≡ old) ⊎ (new ≡ given_up old)

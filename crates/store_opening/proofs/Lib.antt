@@ -5,3 +5,4 @@ mod Recovered
 mod Started
 pub mod Unblamed
 pub mod Untouched
+mod Absent

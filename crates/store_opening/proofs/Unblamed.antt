@@ -1,35 +1,31 @@
 -- A folder that reopens to a database has no file to blame.
-use Rattle.std.proofs.Common.{ℕ, zero, suc, ◌≡◌, ◌<◌, ◌++◌, ◌⊎◌, inl, inr, List, [], ◌∷◌, Bool, true, false, length, get_or, refl, sym, ◌∙◌, ap, subst, arith}
+use Rattle.std.proofs.Common.{ℕ, zero, suc, ◌≡◌, ◌<◌, ◌++◌, inl, inr, List, [], ◌∷◌, Bool, true, false, length, get_or, refl, subst, arith}
 use Rattle.std.specs.Prelude.{Option, Some, None, IsSome}
 use Rattle.std.specs.Bool.{OnTrue, OnFalse}
-use Rattle.std.specs.List.{All, AllZip, Any}
+use Rattle.std.specs.List.{AllZip}
 use Rattle.std.specs.FinMap.{get}
 use Rattle.std.proofs.lemmas.List.Elements.{All-contains}
 use Rattle.common_laws.specs.Maps.{Contents}
-use Rattle.col_disk.specs.declared.disk.StoreFault.{StoreFault}
 use Rattle.col_disk.specs.declared.disk.StoreFault.TheVariants.{Damaged}
 use Rattle.col_value.specs.declared.row.Stamped.{Stamped}
 use Rattle.catalog_types.specs.declared.catalogue.Catalogue.{Catalogue}
 use Rattle.catalog_types.specs.declared.catalogue.Container.{Container}
 use Rattle.catalog_types.specs.declared.catalogue.Projection.{Projection}
 use Rattle.catalog_types.specs.declared.catalogue.Table as kept
-use Rattle.catalog_types.specs.Parts.{IsTable, IsProjection, IsEmptyIfStale}
+use Rattle.catalog_types.specs.Parts.{IsTable, IsProjection}
 use Rattle.catalog_types.specs.Reached.{least_lge}
 use Rattle.catalog_root.specs.declared.found.Found.{Found}
 use Rattle.catalog_root.specs.declared.found.Found.TheVariants.{Fresh, Root}
-use Rattle.catalog_root.specs.Root.{body_file, data_file, IsOpenGate, AllClosed, IsGreatestGate, IsRoot, HoldsBody, HasNoBody, IsDamage, Opens}
+use Rattle.catalog_root.specs.Root.{body_file, data_file, IsRoot, HoldsBody, IsDamage, Opens}
 use Rattle.catalog_root.proofs.Roots.{one_gate, one_root}
-use Rattle.container_cut.specs.Blamed.{IsDamageOf, IsDamageIn}
-use Rattle.cut_job.specs.Blamed as cut
-use Rattle.db_model.specs.Database.{Database, Table}
+use Rattle.container_cut.specs.Blamed.{IsDamageOf}
+use Rattle.db_model.specs.Database.{Database}
 use Rattle.del_vector.specs.declared.mark.Mark.{Mark}
 use Rattle.del_vector.specs.Marks.{epoch_at}
 use Rattle.folder_model.specs.Projections.{HoldsHistory}
 use Rattle.folder_model.specs.Reopening.{IsTableAt, IsCutOf, ReopensBy, Reopens}
-use Rattle.proj_store.specs.Reading.{BlamesLoad}
 use Rattle.ros_container.specs.Encodings.{Written, written_of}
 use Rattle.stored_rows.specs.Held.{HoldsVectorAt, HoldsVector, HoldsMarked, HoldsRows}
-use Rattle.store_opening.specs.Loading.{BlamesEntries, BlamesTables}
 use Rattle.store_opening.specs.Opening.{BlamesListed, BlamesOpening}
 use Rattle.vector_files.specs.Blamed.{IsNoVectorAt}
 

@@ -25,6 +25,7 @@ ghost use Rattle.store_opening.specs.Loading.{AreEntriesOf, BlamesTables};
 ghost use Rattle.store_opening.specs.Opening.{BlamesListed, BlamesOpening, IsOpenedFrom, IsOpenedOf, IsQuietFor, IsStill};
 
 use crate::loading::load_tables;
+use crate::missing::look_for_files;
 use catalog_root::Found;
 use catalog_types::{Catalogue, Table};
 use col_disk::{Disk, StoreFault};
@@ -123,7 +124,7 @@ fn keep<D: Disk>(
     }
 }
 
-/// The projections of a catalogue.
+/// The projections of a catalogue, each file of which is there.
 fn load_root<D: Disk>(
     alloc: Global,
     disk: &mut D,
@@ -132,10 +133,14 @@ fn load_root<D: Disk>(
     requires { All HasLoadable root.now.tables }
     ensures entries { IfOk result (λ v. AreEntriesOf root.now v.items) }
     ensures loaded { IfOk result (λ v. (m : Contents) → D.holds disk.old ≡ Some m → LoadedStores m root.now (map projections_of v.items)) }
-    ensures blamed { IfErr result (BlamesTables root.now.tables (D.holds disk.old)) }
+    ensures blamed { IfErr result (BlamesListed root.now (D.holds disk.old)) }
     ensures looks { Looks ⟦<D as Disk>⟧ disk.old disk.new }
     ensures cause { HasCause StoreFault.Disk (D.faults disk.old) (D.faults disk.new) result }
 {
+    match look_for_files(alloc, disk, root) {
+        Ok(()) => {}
+        Err(fault) => return Err(fault),
+    }
     load_tables(alloc, disk, root.tables.as_slice())
 }
 

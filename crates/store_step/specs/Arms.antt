@@ -12,7 +12,7 @@ use Rattle.db_model.specs.Step.{Effect, RefusesForm}
 use Rattle.store_core.specs.Running.{Running, IsState}
 use Rattle.store_core.specs.Cuts.{CutBeforeOrAfter}
 use Rattle.store_core.specs.Jobs.{is_of, AreDone, RefreshesOne}
-use Rattle.db_model.specs.Mover.{given_up, MovesOut, RaisesOne}
+use Rattle.db_model.specs.Mover.{given_up, RaisesOne}
 use Rattle.sql_tree.specs.declared.statement.Function.{Function}
 use Rattle.store_step.specs.declared.answer.Answer.{Answer}
 use Rattle.store_step.specs.declared.answer.StepFault.{StepFault}
@@ -29,9 +29,9 @@ pub record IsAnswer (state : State) (files : Files) (s : Statement) (printed : L
 abbrev pub AnsweredTo : Files → Statement → State → State → Type 0
 AnsweredTo files s state new = (printed : List ℕ) × (why : Option Refusal) × IsAnswer state files s printed why new
 
--- Some jobs of a statement that has several were done, each of them as a whole.
+-- Some jobs of a statement that has several were done, each of them as a whole. A moveout of all has one, and dropped the mover's job alone.
 abbrev pub PartlyDone : Statement → State → State → Type 0
-PartlyDone (Statement.Call Function.Moveout) old new = (jobs : ℕ) × (stopped : Bool) × MovesOut jobs (given_up old) stopped new
+PartlyDone (Statement.Call Function.Moveout) old new = new ≡ given_up old
 PartlyDone (Statement.Call Function.Mergeout) old new = AreDone (RaisesOne (λ s. true)) old new
 PartlyDone (Statement.Call (Function.Purge table)) old new = AreDone (RaisesOne (is_of table old)) old new
 PartlyDone (Statement.Call (Function.Refresh table)) old new = AreDone (RefreshesOne table) old new

@@ -67,8 +67,8 @@ pub record MoverStepped {D : Type 0} (disk : Ghosts D) (is : Running) (old new :
 abbrev pub EndedAs : State → State → Type 0
 EndedAs state new = (stopped : Bool) × MovesAll (all_dropped state) stopped new
 
--- The end of a script over a state. Where memory was short the store is the state with its sessions' changes dropped, but for moveouts that were
--- done.
+-- The end of a script over a state. Where memory was short the store is the state with its sessions' changes dropped, and the mover's job, if
+-- any.
 pub record Ends {D : Type 0} (disk : Ghosts D) (is : Running) (old new : D) (result : Result (Unit {0}) StoreFault) (state : State) : Type 0 where
   pub done : OnOk result ((after : State) × EndedAs state after × IsState disk is new after)
   pub undone : IsErrOf result store.Memory → (after : State) × IsKept (all_dropped state) after × IsState disk is new after

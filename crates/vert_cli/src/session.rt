@@ -74,7 +74,7 @@ impl Session {
     ///
     /// The whole printed text is made first and written afterwards. After `Ok` the sink took exactly the text, and the refusal in the
     /// outcome is the statement's. After `Sink` the statement has taken effect, and a front of its text was taken; the sink's count of
-    /// faults rose. After `Memory` nothing was taken and nothing changed, but for moveouts that were done; or the sink was short of memory,
+    /// faults rose. After `Memory` nothing was taken and nothing changed, but that the mover's job may be dropped and for jobs of the statement that were done; or the sink was short of memory,
     /// and the statement has taken effect. After `Read` the statement is a COPY, nothing was taken and nothing changed. Whatever a crash leaves
     /// at any moment reopens to the tables before or after the statement. `Disk`, and no other answer, halts the session: from then on
     /// `Halted` is answered and nothing is called.
@@ -140,7 +140,7 @@ impl Session {
     }
 
     /// The end of a script: what waits for COMMIT in any session is dropped, and all tables go to disk, up to a moveout that would draw
-    /// where the numbers of files are spent. After `Memory` no table changed, but for moveouts that were done. Whatever a crash leaves at any
+    /// where the numbers of files are spent. After `Memory` no table changed, and nothing was moved out. Whatever a crash leaves at any
     /// moment reopens to the same tables.
     pub fn close<D: Disk>(self, alloc: Global, disk: &mut D) -> Result<(), StoreFault>
         ensures ends { (state : State) → IsState ⟦<D as Disk>⟧ self.running disk.old state → (is : Running) × Ends ⟦<D as Disk>⟧ is disk.old disk.new result state }

@@ -6,12 +6,12 @@
 
 use col_disk::DirDisk;
 use col_io::{Files, FilesFault, Got, StdFiles, StdSink};
+use program_words::words_of;
 use shell_run::{
     RunFault, Setting, Status, fault_text, in_memory, run_input, run_script, status_of,
 };
 use shell_text::{Form, Wanted, wanted_by};
-use std::alloc::{AllocGlobal, Global};
-use std::env;
+use std::alloc::{AllocError, AllocGlobal, Global};
 use std::io::{IsTerminal, Print, Read};
 use std::process::ExitCode;
 use std::rt::Runtime;
@@ -87,15 +87,6 @@ fn status_text(status: Status) -> &'static str {
     }
 }
 
-/// The words behind the program's name, if all are UTF-8.
-fn words_of<R: Runtime + AllocGlobal>(rt: &R) -> Option<Vec<String>> {
-    let mut words = Vec::new(rt.alloc());
-    for word in env::args(rt).ok()?.skip(1) {
-        words.push(word).ok()?;
-    }
-    Some(words)
-}
-
 /// The status of a shell with these words.
 fn status(rt: &HostRuntime, words: &[String]) -> Status {
     let Some(wanted) = wanted_by(words) else {
@@ -118,9 +109,12 @@ fn status(rt: &HostRuntime, words: &[String]) -> Status {
 }
 
 fn main(rt: HostRuntime) -> ExitCode {
-    let status = match words_of(&rt) {
-        Some(words) => status(&rt, words.as_slice()),
-        None => Status::Usage,
+    let status = match words_of(&rt, rt.alloc()) {
+        Ok(words) => match words.as_slice() {
+            [_, rest @ ..] => status(&rt, rest),
+            [] => Status::Usage,
+        },
+        Err(AllocError) => Status::Memory,
     };
     let _ = eprint!(rt; "{}", status_text(status));
     ExitCode::from(status.code())

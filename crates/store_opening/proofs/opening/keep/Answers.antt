@@ -1,4 +1,4 @@
-use Rattle.std.proofs.Common.{sym, subst, map, inr}
+use Rattle.std.proofs.Common.{sym, subst, map}
 use Rattle.col_disk.proofs.Moving.{moved_join, moved_read}
 use Rattle.cut_job.proofs.Entries.{valid_loadable}
 use Rattle.store_commit.specs.Seen.{Seen, Stands}
@@ -31,7 +31,7 @@ pub returns-in-Err-clause-any_moment : goal.returns-in-Err-clause-any_moment
 returns-in-Err-clause-any_moment g c = λ m d quiet. looked_reopens g.D.Disk c.args.version c.args.catalogue d m c.load_root.ensures.looks quiet
 
 pub returns-in-Err-clause-blamed : goal.returns-in-Err-clause-blamed
-returns-in-Err-clause-blamed g c = inr c.in-Err.ensures.blamed
+returns-in-Err-clause-blamed g c = c.in-Err.ensures.blamed
 
 pub returns-in-Err-tidy-clause-blamed : goal.returns-in-Err-tidy-clause-blamed
 returns-in-Err-tidy-clause-blamed g c = fault_blamed c.args.catalogue (g.D.Disk.holds c.args.disk.now) c.in-Err-tidy.fault c.from.result c.from.ensures
