@@ -8,7 +8,7 @@ use buddy_run::{LinkStatus, link};
 use col_disk::DirDisk;
 use col_io::StdSink;
 use program_words::words_of;
-use std::alloc::{AllocError, AllocGlobal};
+use std::alloc::AllocError;
 use std::process::ExitCode;
 
 /// The word at a place, or the empty one.
@@ -20,14 +20,18 @@ fn word_at(words: &[String], at: usize) -> &str {
 }
 
 /// Runs the catch-up with the words that the machine gives it. An error says that there was no memory to begin.
-fn status(rt: &(impl std::rt::Runtime + AllocGlobal)) -> Result<LinkStatus, AllocError> {
+fn status(rt: &HostRuntime) -> Result<LinkStatus, AllocError> {
     let alloc = rt.alloc();
     let words = words_of(rt, alloc)?;
     let words = words.as_slice();
     let mut out = StdSink::new(rt)?;
     let mut behind = DirDisk::at(rt, alloc, word_at(words, 1))?;
     let mut ahead = DirDisk::at(rt, alloc, word_at(words, 2))?;
-    Ok(link(alloc, words, &mut out, &mut behind, &mut ahead))
+    let status = link(alloc, words, &mut out, &mut behind, &mut ahead);
+    if behind.is_taken() || ahead.is_taken() {
+        let _ = eprintln!(rt; "buddy: another program has a folder open, or both folders are one");
+    }
+    Ok(status)
 }
 
 fn main(rt: HostRuntime) -> ExitCode {

@@ -6,6 +6,7 @@ ghost use Rattle.common_laws.specs.Causes.{Rose};
 use crate::folder::Folder;
 use crate::{Disk, DiskFault};
 use std::alloc::{AllocError, Global};
+use std::fs::File;
 use std::rt::Files;
 
 /// A disk over a folder of the machine, which tells nothing of its contents.
@@ -24,8 +25,10 @@ use std::rt::Files;
 ///   new: `Disk` lets a name written since then be absent or hold anything. A write that failed may have done any part
 ///   of this, and counts as written.
 /// - **A removal** takes the entry away. A crash before the next good `sync` finds the name absent or with what it held.
-/// - **No other name changes**: a name is one entry and one file of its own. A folder into which another program writes,
-///   or with entries that are links to one file, is not a disk.
+/// - **No other name changes**: a name is one entry and one file of its own. The first call locks the folder (`flock`) until the disk is
+///   dropped, and fails where another disk holds that lock; where the file system has no locks, or another program writes
+///   without asking for one, or entries are links to one file, the folder is not a disk. What stands under a name and is no file, as a pipe, is
+///   not there for reading, and a write of it fails.
 /// - **Memory is answered only before anything is changed**: paths are made before a file is opened, and what the machine
 ///   answers of the change itself is `Failed`.
 /// - **A good sync** has synced the folder, if an entry may have come or gone since the last one; each file was synced as
@@ -33,20 +36,20 @@ use std::rt::Files;
 ///   leave. It never succeeds after a write, a removal or a sync that failed, since a machine tells a failed sync once
 ///   and may then forget the bytes.
 /// - **Reading and listing change nothing**, but that the first call makes the folder. Files that were read stay open, with their length and
-///   what was read ahead of what was asked for, until a file is written or removed or a call fails: no other program writes into the
-///   folder, so that is what the file holds.
+///   what was read ahead of what was asked for, and what was listed is kept, until a file is written or removed or a read fails: no other
+///   program writes into the folder, so that is what it holds.
 ///
 /// It takes from the operating system that a file's sync answers Ok only after the file's bytes and length last, that a
 /// folder's sync answers Ok only after its entries last, that a crash leaves of a file or an entry that wasn't touched
 /// what it was, and that the drive doesn't lose what it told to have kept.
 #[derive(Drop)]
-pub struct DirDisk<R: Files + Clone + Drop> {
+pub struct DirDisk<R: Files<File = File> + Clone + Drop> {
     folder: Folder<R>,
     faults: u64,
     changed: bool,
 }
 
-impl<R: Files + Clone + Drop> DirDisk<R> {
+impl<R: Files<File = File> + Clone + Drop> DirDisk<R> {
     /// The disk over the folder at this path. It touches nothing yet.
     pub fn at(rt: &R, alloc: Global, path: &str) -> Result<DirDisk<R>, AllocError> {
         Ok(DirDisk {
@@ -54,6 +57,11 @@ impl<R: Files + Clone + Drop> DirDisk<R> {
             faults: 0,
             changed: false,
         })
+    }
+
+    /// Whether a call failed because another disk, of this program or another, stands over the folder.
+    pub fn is_taken(&self) -> bool {
+        self.folder.is_taken()
     }
 
     // counts a fault, and hands it on
@@ -96,7 +104,7 @@ impl<R: Files + Clone + Drop> DirDisk<R> {
     }
 }
 
-impl<R: Files + Clone + Drop> Disk for DirDisk<R> {
+impl<R: Files<File = File> + Clone + Drop> Disk for DirDisk<R> {
     ghost holds = { λ d. None };
 
     ghost faults = { λ d. d.faults };

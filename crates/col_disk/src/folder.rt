@@ -5,7 +5,7 @@ ghost use Rattle.col_disk.specs.Folder.{IsNumberOf};
 use crate::DiskFault;
 use crate::opened::OpenedFiles;
 use std::alloc::{AllocError, Global};
-use std::fs::{DirEntry, OpenFile};
+use std::fs::{DirEntry, File, OpenFile, TryLockError};
 use std::io::{ErrorKind, Write};
 use std::path::Path;
 use std::rt::Files;
@@ -13,14 +13,19 @@ use std::{fs, io};
 
 /// A folder with one file a name.
 #[derive(Drop)]
-pub(crate) struct Folder<R: Files + Clone + Drop> {
+pub(crate) struct Folder<R: Files<File = File> + Clone + Drop> {
     rt: (R, Global),
     path: String,
-    is_made: bool,
+    // the folder, made and locked
+    held: Option<File>,
+    // another disk held the lock
+    is_taken: bool,
     // how many folders of the path, from the last one up, were absent before they were made
     absent: usize,
-    // the files that were read last; none behind a write, a removal, a listing or a failed read
-    opened: OpenedFiles<R::File>,
+    // the files that were read last; none behind a write, a removal or a failed read
+    opened: OpenedFiles<File>,
+    // what was listed last; nothing behind a write, a removal or a failed read
+    listed: Option<Vec<u64>>,
     // what an earlier process left has been synced
     is_settled: bool,
     // an entry may have come or gone since the last sync
@@ -29,14 +34,16 @@ pub(crate) struct Folder<R: Files + Clone + Drop> {
     is_broken: bool,
 }
 
-impl<R: Files + Clone + Drop> Folder<R> {
+impl<R: Files<File = File> + Clone + Drop> Folder<R> {
     pub(crate) fn new(rt: &R, alloc: Global, path: &str) -> Result<Folder<R>, AllocError> {
         Ok(Folder {
             rt: (rt.clone()?, alloc),
             path: String::from_str(alloc, path)?,
-            is_made: false,
+            held: None,
+            is_taken: false,
             absent: 0,
             opened: OpenedFiles::new(alloc),
+            listed: None,
             is_settled: false,
             is_changed: false,
             is_broken: false,
@@ -68,7 +75,7 @@ impl<R: Files + Clone + Drop> Folder<R> {
         match self.opened.read(alloc, name, at, len) {
             Ok(bytes) => Ok(bytes),
             Err(error) => {
-                self.opened.close();
+                self.forget();
                 Err(fault_of(&error))
             }
         }
@@ -92,7 +99,7 @@ impl<R: Files + Clone + Drop> Folder<R> {
         Ok(true)
     }
 
-    fn open_alone(&mut self, path: &str) -> Result<R::File, DiskFault> {
+    fn open_alone(&mut self, path: &str) -> Result<File, DiskFault> {
         self.opened.close();
         match fs::open(&self.rt, path) {
             Ok(file) => Ok(file),
@@ -100,11 +107,20 @@ impl<R: Files + Clone + Drop> Folder<R> {
         }
     }
 
+    // What is known of the files goes.
+    fn forget(&mut self) {
+        self.opened.close();
+        self.listed = None;
+    }
+
     /// Replaces the file, and syncs it.
     pub(crate) fn write(&mut self, name: u64, bytes: &[u8]) -> Result<(), DiskFault> {
         self.settle()?;
-        self.opened.close();
+        self.forget();
         let path = self.path_of(name)?;
+        if self.is_of_another_kind(path.as_str())? {
+            return Err(DiskFault::Failed);
+        }
         self.is_changed = true;
         match self.replace(path.as_str(), bytes) {
             Ok(()) => Ok(()),
@@ -114,7 +130,7 @@ impl<R: Files + Clone + Drop> Folder<R> {
 
     pub(crate) fn remove(&mut self, name: u64) -> Result<(), DiskFault> {
         self.settle()?;
-        self.opened.close();
+        self.forget();
         let path = self.path_of(name)?;
         self.remove_at(path.as_str())
     }
@@ -133,14 +149,23 @@ impl<R: Files + Clone + Drop> Folder<R> {
     /// The names, in ascending order.
     pub(crate) fn names(&mut self, alloc: Global) -> Result<Vec<u64>, DiskFault> {
         self.make()?;
-        self.opened.close();
+        if let Some(names) = &self.listed {
+            return Ok(Vec::from_slice(alloc, names.as_slice())?);
+        }
+        let names = self.list()?;
+        let told = Vec::from_slice(alloc, names.as_slice())?;
+        self.listed = Some(names);
+        Ok(told)
+    }
+
+    fn list(&self) -> Result<Vec<u64>, DiskFault> {
         let listing = match fs::read_dir(&self.rt, self.path.as_str()) {
             Ok(listing) => listing,
             Err(error) => return Err(fault_of(&error)),
         };
-        let mut names = Vec::new(alloc);
+        let mut names = Vec::new(self.rt.1);
         for entry in listing {
-            if let Some(name) = self.name_of(alloc, entry)? {
+            if let Some(name) = self.name_of(entry)? {
                 names.push(name)?;
             }
         }
@@ -164,21 +189,42 @@ impl<R: Files + Clone + Drop> Folder<R> {
         Ok(())
     }
 
+    /// Whether a call failed because another disk held the folder's lock.
+    pub(crate) fn is_taken(&self) -> bool {
+        self.is_taken
+    }
+
     /// From here on no sync succeeds.
     pub(crate) fn break_off(&mut self) {
         self.is_broken = true;
     }
 
-    // makes the folder, unless that has succeeded before
+    // makes the folder and locks it, unless that has succeeded before
     fn make(&mut self) -> Result<(), DiskFault> {
-        if self.is_made {
+        if self.held.is_some() {
             return Ok(());
         }
         match self.make_synced() {
-            Ok(()) => self.is_made = true,
+            Ok(()) => {}
             Err(error) => return Err(fault_of(&error)),
         }
+        self.held = Some(self.lock()?);
         Ok(())
+    }
+
+    // Where another disk holds the lock, it stands over these files. A file system without locks has none that another could hold.
+    fn lock(&mut self) -> Result<File, DiskFault> {
+        let folder = match fs::open(&self.rt, self.path.as_str()) {
+            Ok(folder) => folder,
+            Err(error) => return Err(fault_of(&error)),
+        };
+        match folder.try_lock() {
+            Err(TryLockError::WouldBlock) => {
+                self.is_taken = true;
+                Err(DiskFault::Failed)
+            }
+            Ok(()) | Err(TryLockError::Error(_)) => Ok(folder),
+        }
     }
 
     // Each folder in which one was made is synced, so that a power cut doesn't take the whole folder.
@@ -246,10 +292,18 @@ impl<R: Files + Clone + Drop> Folder<R> {
         }
     }
 
+    // Whether something stands there that is no file. The opening of a pipe would wait for its other end.
+    fn is_of_another_kind(&self, path: &str) -> Result<bool, DiskFault> {
+        match fs::metadata(&self.rt, path) {
+            Ok(metadata) => Ok(!metadata.is_file()),
+            Err(error) if error.kind() == ErrorKind::NotFound => Ok(false),
+            Err(error) => Err(fault_of(&error)),
+        }
+    }
+
     // the name that an entry of the folder is the file of, if it is one's
     fn name_of(
         &self,
-        alloc: Global,
         entry: io::Result<DirEntry<(R, Global), Global>>,
     ) -> Result<Option<u64>, DiskFault> {
         let entry = match entry {
@@ -257,7 +311,7 @@ impl<R: Files + Clone + Drop> Folder<R> {
             Err(error) if error.kind() == ErrorKind::InvalidFilename => return Ok(None),
             Err(error) => return Err(fault_of(&error)),
         };
-        let Some(name) = number_of(alloc, entry.file_name())? else {
+        let Some(name) = number_of(self.rt.1, entry.file_name())? else {
             return Ok(None);
         };
         let path = self.path_of(name)?;

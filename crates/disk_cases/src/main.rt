@@ -9,6 +9,7 @@
 
 use col_disk::{Blob, DirDisk, Disk, DiskFault, Keep, MemDisk};
 use std::alloc::{AllocError, Global};
+use std::fs::File;
 use std::rt::Files;
 use std::{fs, io};
 
@@ -163,7 +164,7 @@ fn case_in_memory(alloc: Global, calls: &str) -> Result<String, AllocError> {
     Ok(out)
 }
 
-fn case_in_folder<R: Files + Clone + Drop>(
+fn case_in_folder<R: Files<File = File> + Clone + Drop>(
     rt: &R,
     alloc: Global,
     path: &str,

@@ -11,19 +11,23 @@ use col_disk::DirDisk;
 use col_io::{StdFiles, StdSink};
 use program_words::words_of;
 use run_words::dir_of;
-use std::alloc::{AllocError, AllocGlobal};
+use std::alloc::AllocError;
 use std::process::ExitCode;
 use vert_cli::{Status, run};
 
 /// Runs the program with the words that the machine gives it. An error says that there was no memory to begin.
-fn status(rt: &(impl std::rt::Runtime + AllocGlobal)) -> Result<Status, AllocError> {
+fn status(rt: &HostRuntime) -> Result<Status, AllocError> {
     let alloc = rt.alloc();
     let words = words_of(rt, alloc)?;
     let mut files = StdFiles::new(rt)?;
     let mut out = StdSink::new(rt)?;
     let dir = dir_of(words.as_slice()).unwrap_or("");
     let mut disk = DirDisk::at(rt, alloc, dir)?;
-    Ok(run(alloc, words.as_slice(), &mut files, &mut out, &mut disk))
+    let status = run(alloc, words.as_slice(), &mut files, &mut out, &mut disk);
+    if disk.is_taken() {
+        let _ = eprintln!(rt; "vert: another program has the folder open");
+    }
+    Ok(status)
 }
 
 fn main(rt: HostRuntime) -> ExitCode {

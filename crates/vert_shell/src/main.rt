@@ -11,10 +11,9 @@ use shell_run::{
     RunFault, Setting, Status, fault_text, in_memory, run_input, run_script, status_of,
 };
 use shell_text::{Form, Wanted, wanted_by};
-use std::alloc::{AllocError, AllocGlobal, Global};
+use std::alloc::{AllocError, Global};
 use std::io::{IsTerminal, Print, Read};
 use std::process::ExitCode;
-use std::rt::Runtime;
 
 /// The most bytes of a script.
 const MOST_BYTES: usize = 67_108_864;
@@ -43,8 +42,8 @@ fn script_of<F: Files>(alloc: Global, files: &mut F, name: &str) -> Result<Vec<u
 }
 
 /// A shell over the folder that the words name.
-fn run<R: Runtime + AllocGlobal, I: Read, E: Print + Clone + Drop>(
-    rt: &R,
+fn run<I: Read, E: Print + Clone + Drop>(
+    rt: &HostRuntime,
     wanted: &Wanted<'_>,
     setting: Setting,
     input: &mut I,
@@ -55,7 +54,7 @@ fn run<R: Runtime + AllocGlobal, I: Read, E: Print + Clone + Drop>(
     let mut out = in_memory(StdSink::new(rt))?;
     let mut err = in_memory(StdSink::new(errors))?;
     let mut disk = in_memory(DirDisk::at(rt, alloc, wanted.dir))?;
-    match wanted.script {
+    let ended = match wanted.script {
         Some(name) => match script_of(alloc, &mut files, name) {
             Ok(script) => run_script(
                 alloc,
@@ -74,7 +73,11 @@ fn run<R: Runtime + AllocGlobal, I: Read, E: Print + Clone + Drop>(
         None => run_input(
             alloc, setting, input, &mut files, &mut disk, &mut out, &mut err, rt,
         ),
+    };
+    if disk.is_taken() {
+        let _ = eprintln!(rt; "vert_shell: another program has the folder open");
     }
+    ended
 }
 
 /// What is said of a status that no statement answers for.
