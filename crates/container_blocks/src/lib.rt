@@ -3,7 +3,7 @@
 //! A block holds 1,024 rows, the last one those that are left, and all columns of a container have the same blocks: block b
 //! holds the rows `rows_in b` of `specs/Blocks.antt`. `index` reads the index of a column, which says for each of its blocks
 //! the least and the greatest value. `block` reads the values of one block of a column and `epochs` the insert epochs of its
-//! rows: where the container holds rows, these are the values of the rows of that block (`AreBlock`, `AreEpochs`). Of a column
+//! rows, at which `look_at_epochs` only looks: where the container holds rows, these are the values of the rows of that block (`AreBlock`, `AreEpochs`). Of a column
 //! that the container doesn't store both are made in memory, of its default. A file is blamed only where the container holds no rows.
 #![tactic(auto)]
 
@@ -14,4 +14,4 @@ mod stamps;
 
 pub use laws::{blocks_are_all_rows, values_lie_between};
 pub use reading::{block, index};
-pub use stamps::epochs;
+pub use stamps::{epochs, look_at_epochs};

@@ -20,12 +20,12 @@ use crate::opened::Opened;
 use crate::shown::shown_rows;
 use catalog_types::{Container, Projection};
 use col_disk::{Disk, StoreFault};
-use container_blocks::epochs;
+use container_blocks::{epochs, look_at_epochs};
 use pos_index::PosIndex;
 use row_bounds::Bound;
 use std::alloc::{AllocError, Global};
 
-/// The epochs that inserted the rows of a block; none where all are up to the epoch that is asked for and they aren't told. They are read all the
+/// The epochs that inserted the rows of a block; none where all are up to the epoch that is asked for and they aren't told. They are looked at all the
 /// same, so that a damaged file of theirs is blamed by each query that reads the block.
 fn inserted<D: Disk>(
     alloc: Global,
@@ -47,14 +47,16 @@ fn inserted<D: Disk>(
     ensures moved { Moved ⟦<D as Disk>⟧ NoName NoName disk.old disk.new }
     ensures cause { HasCause StoreFault.Disk (D.faults disk.old) (D.faults disk.new) result }
 {
-    let inserted = match epochs(alloc, disk, entry, at, shape, k) {
-        Ok(inserted) => inserted,
-        Err(fault) => return Err(fault),
-    };
     if !stamps && entry.greatest_epoch <= epoch {
-        return Ok(Vec::new(alloc));
+        return match look_at_epochs(alloc, disk, entry, at, shape, k) {
+            Ok(()) => Ok(Vec::new(alloc)),
+            Err(fault) => Err(fault),
+        };
     }
-    Ok(inserted)
+    match epochs(alloc, disk, entry, at, shape, k) {
+        Ok(inserted) => Ok(inserted),
+        Err(fault) => Err(fault),
+    }
 }
 
 /// The rows of a block that are visible at an epoch, made for the table's columns, and their insert epochs, where these are told. Rows that

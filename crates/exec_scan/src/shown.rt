@@ -47,6 +47,9 @@ pub fn shown_rows(
     requires { first + count < 2 ^ 64 }
     ensures { IfOk result (λ v. v.items ≡ map (is_shown epoch inserted.now deletes.now first) (range_with_len 0 count)) }
 {
+    if inserted.is_empty() && deletes.is_empty() {
+        return vec![in alloc; true; count];
+    }
     let mut shown = Vec::with_capacity(alloc, count)?;
     for i in 0..count {
         shown.push(is_shown(epoch, inserted, deletes, first, i))?;
