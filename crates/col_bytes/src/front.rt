@@ -10,6 +10,7 @@ use std::alloc::AllocError;
 
 /// The number of one, two or three bytes at the front, and the bytes behind it: most numbers are so short, and need no recursion.
 #[tactic(auto, unfolding(crate::specs::Fronts::groups_at))]
+#[inline(always)]
 fn short_vint(bytes: &[u8]) -> Option<(u64, &[u8])>
     ensures { IfSome result (λ x. vint_at bytes.now ≡ Some (x.0, x.1.now)) }
 {
@@ -29,6 +30,7 @@ fn short_vint(bytes: &[u8]) -> Option<(u64, &[u8])>
 /// Reads the number at the front, and gives the bytes behind it. `Malformed` comes only where no front of the
 /// bytes spells a number.
 #[tactic(auto, unfolding(crate::specs::Fronts::groups_at))]
+#[inline]
 pub fn read_vint(bytes: &[u8]) -> Result<(u64, &[u8]), Stop>
     ensures { Gives (λ x. (x.0, x.1.now)) result (vint_at bytes.now) }
 {

@@ -33,6 +33,7 @@ fn read_day_base(bytes: &[u8]) -> Result<(u32, &[u8]), Stop>
 }
 
 /// The lane with this delta: a day from the base on, or 0 for NULL.
+#[inline(always)]
 fn lane_of(base: u32, delta: u64) -> Result<u32, Stop>
     requires { 1 ≤ base }
     ensures { Gives day_value result (value_since base delta) }
@@ -53,6 +54,7 @@ fn lane_of(base: u32, delta: u64) -> Result<u32, Stop>
 
 /// The lane at the front.
 #[tactic(auto, unfolding(crate::specs::DateFronts::since_at))]
+#[inline(always)]
 fn read_since(base: u32, bytes: &[u8]) -> Result<(u32, &[u8]), Stop>
     requires { 1 ≤ base }
     ensures { Gives (λ x. (day_value x.0, x.1.now)) result (since_at base bytes.now) }

@@ -32,6 +32,7 @@ fn read_base(bytes: &[u8]) -> Result<(i64, &[u8]), Stop>
 }
 
 /// The lane with this delta: a number above the base, or -2^63 for NULL.
+#[inline(always)]
 fn lane_of(base: i64, delta: u64) -> Result<i64, Stop>
     requires { negsuc (2 ^ 63 - 2) ≤ℤ base }
     ensures { Gives number_value result (value_above base delta) }
@@ -47,6 +48,7 @@ fn lane_of(base: i64, delta: u64) -> Result<i64, Stop>
 
 /// The delta at the front, of three bytes or more as a varint is read.
 #[tactic(auto, unfolding(col_bytes::specs::Fronts::groups_at))]
+#[inline(always)]
 fn read_longer(bytes: &[u8]) -> Result<(u64, &[u8]), Stop>
     ensures { Gives (λ x. (x.0, x.1.now)) result (vint_at bytes.now) }
 {
@@ -61,6 +63,7 @@ fn read_longer(bytes: &[u8]) -> Result<(u64, &[u8]), Stop>
 
 /// The delta at the front. Most take one byte, two or three.
 #[tactic(auto, unfolding(col_bytes::specs::Fronts::groups_at))]
+#[inline(always)]
 pub fn read_delta(bytes: &[u8]) -> Result<(u64, &[u8]), Stop>
     ensures { Gives (λ x. (x.0, x.1.now)) result (vint_at bytes.now) }
 {
@@ -79,6 +82,7 @@ pub fn read_delta(bytes: &[u8]) -> Result<(u64, &[u8]), Stop>
 
 /// The lane at the front.
 #[tactic(auto, unfolding(crate::specs::Fronts::above_at))]
+#[inline(always)]
 fn read_above(base: i64, bytes: &[u8]) -> Result<(i64, &[u8]), Stop>
     requires { negsuc (2 ^ 63 - 2) ≤ℤ base }
     ensures { Gives (λ x. (number_value x.0, x.1.now)) result (above_at base bytes.now) }

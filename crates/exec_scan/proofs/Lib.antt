@@ -10,5 +10,6 @@ pub mod Long
 pub mod Narrowing
 pub mod Passed
 pub mod Stepping
+pub mod Unhidden
 pub mod Within
 pub mod Replaced

@@ -1,7 +1,7 @@
 //! The rows of a block that are alive, as a batch.
 
 ghost use Rattle.std.specs.Prelude.{◌≡◌, ◌++◌, ◌∷◌, [], if◌then◌else◌, false, true, length, slice_index_or, IfOk, OnOk};
-ghost use Rattle.std.specs.List.{range_with_len};
+ghost use Rattle.std.specs.List.{list_all, range_with_len};
 ghost use Rattle.exec_scan.specs.Batches.{AreLong, chosen};
 ghost use Rattle.exec_scan.specs.Reading.{rows_of};
 
@@ -30,10 +30,33 @@ fn put_place(places: &mut Vec<usize>, alive: bool, place: usize) -> Result<(), A
     Ok(())
 }
 
+/// Whether all rows are alive.
+fn are_all_alive(alive: &[bool]) -> bool
+    ensures { result ≡ list_all (λ a. a) alive.now }
+{
+    alive.iter().all(|a| *a)
+}
+
+/// So many places, from the first one on.
+fn first_places(alloc: Global, count: usize) -> Result<Vec<usize>, AllocError>
+    ensures { IfOk result (λ v. v.items ≡ range_with_len 0 count) }
+{
+    let mut places = vec![in alloc; 0usize; count]?;
+    for i in 0..count {
+        places[i] = i;
+    }
+    Ok(places)
+}
+
 /// The places of the rows that are alive.
+#[tactic(auto, using(crate::proofs::Unhidden::all_chosen))]
 fn places_alive(alloc: Global, alive: &[bool]) -> Result<Vec<usize>, AllocError>
     ensures { IfOk result (λ v. v.items ≡ chosen alive.now (range_with_len 0 (length alive.now))) }
 {
+    if are_all_alive(alive) {
+        let places = first_places(alloc, alive.len())?;
+        return Ok(places);
+    }
     let mut places = Vec::with_capacity(alloc, count_alive(alive))?;
     for i in 0..alive.len() {
         put_place(&mut places, alive[i], i)?;

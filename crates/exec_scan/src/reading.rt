@@ -48,15 +48,17 @@ fn inserted<D: Disk>(
     ensures cause { HasCause StoreFault.Disk (D.faults disk.old) (D.faults disk.new) result }
 {
     if !stamps && entry.greatest_epoch <= epoch {
-        return match look_at_epochs(alloc, disk, entry, at, shape, k) {
-            Ok(()) => Ok(Vec::new(alloc)),
-            Err(fault) => Err(fault),
-        };
+        match look_at_epochs(alloc, disk, entry, at, shape, k) {
+            Ok(()) => {},
+            Err(fault) => return Err(fault),
+        }
+        return Ok(Vec::new(alloc));
     }
-    match epochs(alloc, disk, entry, at, shape, k) {
-        Ok(inserted) => Ok(inserted),
-        Err(fault) => Err(fault),
-    }
+    let inserted = match epochs(alloc, disk, entry, at, shape, k) {
+        Ok(inserted) => inserted,
+        Err(fault) => return Err(fault),
+    };
+    Ok(inserted)
 }
 
 /// The rows of a block that are visible at an epoch, made for the table's columns, and their insert epochs, where these are told. Rows that

@@ -48,7 +48,8 @@ pub fn shown_rows(
     ensures { IfOk result (λ v. v.items ≡ map (is_shown epoch inserted.now deletes.now first) (range_with_len 0 count)) }
 {
     if inserted.is_empty() && deletes.is_empty() {
-        return vec![in alloc; true; count];
+        let shown = vec![in alloc; true; count]?;
+        return Ok(shown);
     }
     let mut shown = Vec::with_capacity(alloc, count)?;
     for i in 0..count {

@@ -11,7 +11,7 @@ returns-then-entry-epoch-clause-found g c = λ has m told rows held.
     (All-weaker (λ a. IsWithin c.args.entry.now a.ins) (λ a. a.ins ≤ c.args.epoch) (λ a within. omega (arith, within.1, c.if-entry-epoch.true)) rows held.within)
 
 pub returns-clause-found : goal.returns-clause-found
-returns-clause-found g c = λ has m told rows held. as_read c.args.epoch c.in-Ok.inserted.items (rows_in c.args.k rows) (c.in-Ok.ensures.found has m told rows held)
+returns-clause-found g c = λ has m told rows held. as_read c.args.epoch c.in-Ok-epochs.inserted.items (rows_in c.args.k rows) (c.in-Ok-epochs.ensures.found has m told rows held)
 
 pub returns-clause-told : goal.returns-clause-told
-returns-clause-told g c = λ has m told rows held on. c.in-Ok.ensures.found has m told rows held
+returns-clause-told g c = λ has m told rows held on. c.in-Ok-epochs.ensures.found has m told rows held
