@@ -159,14 +159,14 @@ pub fn look_at_epochs<D: Disk>(
     ensures moved { Moved ⟦<D as Disk>⟧ NoName NoName disk.old disk.new }
     ensures cause { HasCause StoreFault.Disk (D.faults disk.old) (D.faults disk.new) result }
 {
-    let place = entry.stored as usize;
-    let values = match part(alloc, disk, entry, at, place, Encoding::Auto, k) {
+    let column = entry.stored as usize;
+    let values = match part(alloc, disk, entry, at, column, Encoding::Auto, k) {
         Ok(values) => values,
         Err(fault) => return Err(fault),
     };
     if are_epochs(entry, &values) {
         Ok(())
     } else {
-        Err(StoreFault::Damaged(body_of(entry.base, place)))
+        Err(StoreFault::Damaged(body_of(entry.base, column)))
     }
 }

@@ -1,5 +1,5 @@
 -- Where no epochs are given and no row is deleted, each row is shown; and where all are alive, all are chosen.
-use Rattle.std.proofs.Common.{◌≡◌, ◌<◌, ℕ, Bool, List, [], ◌∷◌, length, map, true, false, refl, sym, ap, arith, rules, ◌∙◌, replicate}
+use Rattle.std.proofs.Common.{◌≡◌, ℕ, Bool, List, [], ◌∷◌, length, map, true, false, refl, sym, ap, arith, rules, ◌∙◌, replicate}
 use Rattle.std.specs.Prelude.{Option}
 use Rattle.std.proofs.lemmas.List.{get_or-replicate, length-replicate}
 use Rattle.std.specs.List.{list_all, range_with_len}
