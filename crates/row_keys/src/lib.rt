@@ -6,7 +6,9 @@
 #![tactic(auto)]
 
 mod compare;
+mod numbers;
 mod table;
 
 pub use compare::{has_null, is_key_of};
+pub use numbers::NumberTable;
 pub use table::KeyTable;
