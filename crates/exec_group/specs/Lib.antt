@@ -1,3 +1,4 @@
 pub mod Accumulators
 pub mod Columns
 pub mod Groups
+pub mod NumberKeys

@@ -12,6 +12,7 @@ mod cells;
 mod columns;
 mod fault;
 mod groups;
+mod held_keys;
 mod lanes;
 mod numbers;
 mod runs;

@@ -1,0 +1,198 @@
+//! The keys of groups, in the order in which they were met.
+
+ghost use Rattle.std.specs.Prelude.{◌≡◌, ℕ, ◌<◌, ◌++◌, ◌∷◌, [], None, length, map, position, IfOk, IfNone, OnOk};
+ghost use Rattle.std.specs.Option.{IfSome};
+ghost use Rattle.block_codec.specs.Held.{number_value};
+ghost use Rattle.sql_bound.specs.Outputs.{keys_of, same_keys};
+ghost use Rattle.row_keys.specs.Numbers.{number_at};
+ghost use Rattle.exec_group.specs.Columns.{row_of};
+ghost use Rattle.exec_group.specs.NumberKeys.{number_key, IsNoKey, IsNoNumber};
+
+use crate::cells::key_at;
+use crate::lanes::column_numbers;
+use block_codec::{Block, number_value};
+use col_value::{List, Row, Value};
+use row_keys::{KeyTable, NumberTable};
+use std::alloc::{AllocError, Global};
+use std::marker::Model;
+
+/// How the keys are held: as numbers, where each is one number or NULL, or one by one.
+#[derive(Drop)]
+pub enum Form {
+    Numbers(NumberTable),
+    Rows(KeyTable),
+}
+
+/// Keys, which contracts see as their list.
+#[derive(Drop)]
+pub struct Keys {
+    form: Form,
+}
+
+impl Model for Keys {
+    ghost use Rattle.std.specs.Prelude.{List};
+    ghost use Rattle.col_value.specs.declared.value.Value.{Value as Cell};
+    ghost use Rattle.exec_group.specs.NumberKeys.{keys_held};
+
+    ghost Value = { List (List Cell) };
+
+    ghost view = { λ k. keys_held k.form };
+}
+
+impl Keys {
+    /// No keys of so many columns; they take no memory.
+    pub fn new(alloc: Global, columns: usize) -> Keys
+        ensures { result ≡ [] }
+    {
+        if columns == 1 {
+            Keys {
+                form: Form::Numbers(NumberTable::new(alloc)),
+            }
+        } else {
+            Keys {
+                form: Form::Rows(KeyTable::new(alloc)),
+            }
+        }
+    }
+
+    /// The place of a key.
+    pub fn find(&self, key: &Row) -> Option<usize>
+        ensures { result ≡ position (λ k. same_keys k key.now) self.now }
+    {
+        match &self.form {
+            Form::Numbers(numbers) => find_number(numbers, key.as_slice()),
+            Form::Rows(rows) => rows.find_key(key),
+        }
+    }
+
+    /// The place of the key of the row at a place of columns.
+    pub fn find_at(
+        &self,
+        alloc: Global,
+        keys: &[usize],
+        columns: &[Option<Block>],
+        place: usize,
+    ) -> Result<Option<usize>, AllocError>
+        ensures { IfOk result (λ o. o ≡ position (λ k. same_keys k (keys_of keys.now (row_of columns.now place))) self.now) }
+    {
+        if let Form::Numbers(numbers) = &self.form {
+            if let Some(n) = number_key_at(keys, columns, place) {
+                return Ok(numbers.find(n));
+            }
+        }
+        let key = key_at(alloc, keys, columns, place)?;
+        Ok(self.find(&key))
+    }
+
+    /// Puts a key behind the others, of which none is the same.
+    pub fn add(&mut self, alloc: Global, key: Row) -> Result<(), AllocError>
+        requires { position (λ k. same_keys k key) self.old ≡ None }
+        ensures { OnOk result (self.new ≡ self.old ++ key ∷ []) }
+    {
+        match &mut self.form {
+            Form::Numbers(numbers) => match number_of(key.as_slice()) {
+                Some(n) => numbers.add(alloc, n),
+                None => {
+                    let mut rows = rows_of(alloc, numbers.numbers())?;
+                    rows.add_key(key)?;
+                    self.form = Form::Rows(rows);
+                    Ok(())
+                },
+            },
+            Form::Rows(rows) => rows.add_key(key),
+        }
+    }
+
+    /// The keys, given back.
+    pub fn into_rows(self, alloc: Global) -> Result<Vec<Row>, AllocError>
+        ensures { IfOk result (λ v. v.items ≡ self) }
+    {
+        let Keys { form } = self;
+        match form {
+            Form::Numbers(numbers) => number_rows(alloc, numbers.numbers()),
+            Form::Rows(rows) => Ok(rows.into_keys()),
+        }
+    }
+}
+
+/// The number that stands for a value: -2^63 for NULL.
+fn number_in(value: &Value) -> Option<i64>
+    ensures some { IfSome result (λ n. number_value n ≡ value.now) }
+    ensures none { IfNone result (IsNoNumber value.now) }
+{
+    match value {
+        Value::Null => Some(i64::MIN),
+        Value::Int(n) if *n != i64::MIN => Some(*n),
+        _ => None,
+    }
+}
+
+/// The number that stands for a key, if it is one.
+fn number_of(key: &[Value]) -> Option<i64>
+    ensures some { IfSome result (λ n. number_key n ≡ key.now) }
+    ensures none { IfNone result (IsNoKey key.now) }
+{
+    match key {
+        [value] => number_in(value),
+        _ => None,
+    }
+}
+
+/// The place of a key among keys that are numbers.
+fn find_number(numbers: &NumberTable, key: &[Value]) -> Option<usize>
+    ensures { result ≡ position (λ k. same_keys k key.now) (map number_key numbers.now) }
+{
+    match number_of(key) {
+        Some(n) => numbers.find(n),
+        None => None,
+    }
+}
+
+/// The lane of numbers of a key of one column, if it is held so.
+fn key_lane<'a>(keys: &[usize], columns: &'a [Option<Block>]) -> Option<&'a [i64]>
+    ensures { IfSome result (λ ns. (place : ℕ) → place < length ns.now → number_key (number_at ns.now place) ≡ keys_of keys.now (row_of columns.now place)) }
+{
+    match keys {
+        [column] => column_numbers(columns, *column),
+        _ => None,
+    }
+}
+
+/// The number that stands for the key of the row at a place, where a lane shows it.
+fn number_key_at(keys: &[usize], columns: &[Option<Block>], place: usize) -> Option<i64>
+    ensures { IfSome result (λ n. number_key n ≡ keys_of keys.now (row_of columns.now place)) }
+{
+    match key_lane(keys, columns) {
+        Some(lane) if place < lane.len() => Some(lane[place]),
+        _ => None,
+    }
+}
+
+/// The row of a number.
+fn number_row(alloc: Global, n: i64) -> Result<Row, AllocError>
+    ensures { IfOk result (λ r. r ≡ number_key n) }
+{
+    Ok(List::new(Vec::from_array(alloc, [number_value(n)])?))
+}
+
+/// The rows of numbers.
+fn number_rows(alloc: Global, numbers: &[i64]) -> Result<Vec<Row>, AllocError>
+    ensures { IfOk result (λ v. v.items ≡ map number_key numbers.now) }
+{
+    let mut out = Vec::with_capacity(alloc, numbers.len())?;
+    for n in numbers {
+        out.push(number_row(alloc, *n)?)?;
+    }
+    Ok(out)
+}
+
+/// The same, each found by its digest.
+fn rows_of(alloc: Global, numbers: &[i64]) -> Result<KeyTable, AllocError>
+    ensures { IfOk result (λ t. t ≡ map number_key numbers.now) }
+{
+    let mut out = KeyTable::new(alloc);
+    for n in numbers {
+        out.add_key(number_row(alloc, *n)?)?;
+    }
+    Ok(out)
+}
