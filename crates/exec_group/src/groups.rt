@@ -13,11 +13,12 @@ ghost use Rattle.exec_group.specs.declared.fault.GroupFault.{GroupFault};
 
 use crate::GroupFault;
 use crate::cells::key_at;
+use crate::held_keys::Keys;
 use crate::runs::run_length;
 use crate::tally::Tally;
 use block_codec::Block;
 use col_value::{List, Row, Value, WideRow};
-use row_keys::KeyTable;
+use row_keys::key_of;
 use sql_bound::{Aggregate, BoundQuery};
 use std::alloc::{AllocError, Global};
 use std::marker::Model;
@@ -25,7 +26,7 @@ use std::marker::Model;
 /// The groups of the rows taken so far.
 #[derive(Drop)]
 pub struct Groups {
-    keys: KeyTable,
+    keys: Keys,
     tallies: Vec<Tally>,
 }
 
@@ -53,7 +54,7 @@ impl Groups {
             return Groups::one(alloc, query.aggs.as_slice());
         }
         Ok(Groups {
-            keys: KeyTable::new(alloc),
+            keys: Keys::new(alloc, query.keys.as_slice().len()),
             tallies: Vec::new(alloc),
         })
     }
@@ -62,8 +63,8 @@ impl Groups {
     fn one(alloc: Global, aggs: &[Aggregate]) -> Result<Groups, AllocError>
         ensures { IfOk result (λ g. g ≡ one_group aggs.now) }
     {
-        let mut keys = KeyTable::new(alloc);
-        keys.add(alloc, &[], &[])?;
+        let mut keys = Keys::new(alloc, 0);
+        keys.add(alloc, List::new(Vec::new(alloc)))?;
         let mut tallies = Vec::new(alloc);
         tallies.push(Tally::new(alloc, aggs)?)?;
         Ok(Groups { keys, tallies })
@@ -95,11 +96,11 @@ impl Groups {
         requires row { IsRow row.now }
         ensures { OnOk result (self.new ≡ pushed keys.now aggs.now row.now self.old) }
     {
-        match self.keys.find(keys, row) {
+        match self.keys.find_row(keys, row) {
             Some(place) => take_at(&mut self.tallies, alloc, place, aggs, row),
             None => {
                 self.tallies.push(first_tally(alloc, aggs, row)?)?;
-                self.keys.add(alloc, keys, row)
+                self.keys.add(alloc, key_of(alloc, keys, row)?)
             }
         }
     }
@@ -165,8 +166,7 @@ impl Groups {
         ensures put { IfOk result (λ n. self.new ≡ pushed_at_all columns.now keys.now aggs.now (take n places.now) self.old) }
     {
         let first = places[0];
-        let key = key_at(alloc, keys, columns, first)?;
-        match self.keys.find_key(&key) {
+        match self.keys.find_at(alloc, keys, columns, first)? {
             Some(place) => {
                 let n = 1 + run_length(keys, columns, first, &places[1..]);
                 take_run_at(&mut self.tallies, alloc, place, aggs, columns, &places[..n])?;
@@ -175,7 +175,8 @@ impl Groups {
             None => {
                 self.tallies
                     .push(first_run(alloc, aggs, columns, &[first])?)?;
-                self.keys.add_key(key)?;
+                self.keys
+                    .add(alloc, key_at(alloc, keys, columns, first)?)?;
                 Ok(1)
             },
         }
@@ -188,13 +189,14 @@ impl Groups {
         ensures great { IsErrOf result GroupFault.SumOutOfRange → (q : BoundQuery) (rows : List (List Value)) → HoldsGroups q rows self → HasGreatSum q rows }
     {
         let Groups { keys, tallies } = self;
-        match worths(alloc, tallies.as_slice()) {
-            Ok(aggs) => Ok(Grouped {
-                keys: List::new(keys.into_keys()),
-                aggs: List::new(aggs),
-            }),
-            Err(fault) => Err(fault),
-        }
+        let aggs = match worths(alloc, tallies.as_slice()) {
+            Ok(aggs) => aggs,
+            Err(fault) => return Err(fault),
+        };
+        Ok(Grouped {
+            keys: List::new(keys.into_rows(alloc)?),
+            aggs: List::new(aggs),
+        })
     }
 }
 

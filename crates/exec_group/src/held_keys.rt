@@ -1,8 +1,9 @@
 //! The keys of groups, in the order in which they were met.
 
-ghost use Rattle.std.specs.Prelude.{◌≡◌, ℕ, ◌<◌, ◌++◌, ◌∷◌, [], None, length, map, position, IfOk, IfNone, OnOk};
+ghost use Rattle.std.specs.Prelude.{◌≡◌, ℕ, ◌<◌, slice_index_or, ◌++◌, ◌∷◌, [], None, length, map, position, IfOk, IfNone, OnOk};
 ghost use Rattle.std.specs.Option.{IfSome};
 ghost use Rattle.block_codec.specs.Held.{number_value};
+ghost use Rattle.col_value.specs.declared.value.Value.TheVariants.{Null};
 ghost use Rattle.sql_bound.specs.Outputs.{keys_of, same_keys};
 ghost use Rattle.row_keys.specs.Numbers.{number_at};
 ghost use Rattle.exec_group.specs.Columns.{row_of};
@@ -62,6 +63,16 @@ impl Keys {
         match &self.form {
             Form::Numbers(numbers) => find_number(numbers, key.as_slice()),
             Form::Rows(rows) => rows.find_key(key),
+        }
+    }
+
+    /// The place of a row's key.
+    pub fn find_row(&self, keys: &[usize], row: &[Value]) -> Option<usize>
+        ensures { result ≡ position (λ k. same_keys k (keys_of keys.now row.now)) self.now }
+    {
+        match &self.form {
+            Form::Numbers(numbers) => find_row_number(numbers, keys, row),
+            Form::Rows(rows) => rows.find(keys, row),
         }
     }
 
@@ -143,6 +154,38 @@ fn find_number(numbers: &NumberTable, key: &[Value]) -> Option<usize>
     ensures { result ≡ position (λ k. same_keys k key.now) (map number_key numbers.now) }
 {
     match number_of(key) {
+        Some(n) => numbers.find(n),
+        None => None,
+    }
+}
+
+/// The number that stands for the value of a column of a row, if it is one.
+fn number_in_row(row: &[Value], column: usize) -> Option<i64>
+    ensures some { IfSome result (λ n. number_value n ≡ slice_index_or row.now column Null) }
+    ensures none { IfNone result (IsNoNumber (slice_index_or row.now column Null)) }
+{
+    match row.get(column) {
+        Some(value) => number_in(value),
+        None => Some(i64::MIN),
+    }
+}
+
+/// The number that stands for a row's key, if it is one.
+fn row_number(keys: &[usize], row: &[Value]) -> Option<i64>
+    ensures some { IfSome result (λ n. number_key n ≡ keys_of keys.now row.now) }
+    ensures none { IfNone result (IsNoKey (keys_of keys.now row.now)) }
+{
+    match keys {
+        [column] => number_in_row(row, *column),
+        _ => None,
+    }
+}
+
+/// The place of a row's key among keys that are numbers.
+fn find_row_number(numbers: &NumberTable, keys: &[usize], row: &[Value]) -> Option<usize>
+    ensures { result ≡ position (λ k. same_keys k (keys_of keys.now row.now)) (map number_key numbers.now) }
+{
+    match row_number(keys, row) {
         Some(n) => numbers.find(n),
         None => None,
     }
