@@ -1,3 +1,5 @@
+pub mod Columnwise
+pub mod Entering
 pub mod Growing
 pub mod Keys
 pub mod More

@@ -1,5 +1,5 @@
 -- Keys that are numbers: which key each stands for, and where it stands.
-use Rattle.std.proofs.Common.{◌≡◌, ℕ, ℤ, pos, negsuc, ◌≤◌, ◌-◌, ◌^◌, ◌<◌, Bool, true, false, cond, List, [], ◌∷◌, get_or, length, map, position, Option, Some, None, refl, sym, ap, ◌∙◌, arith}
+use Rattle.std.proofs.Common.{◌≡◌, ℕ, zero, suc, ℤ, negsuc, ◌≤◌, ◌-◌, ◌^◌, ◌<◌, Bool, true, false, cond, List, [], ◌∷◌, get_or, length, map, position, Option, Some, None, refl, sym, ap, ◌∙◌, arith}
 use Rattle.std.specs.Prelude.{slice_index_or}
 use Rattle.std.specs.Option.{IfSome}
 use Rattle.std.specs.Ordering.{int_eq}
@@ -11,10 +11,10 @@ use Rattle.col_value.specs.declared.value.Value.{Value}
 use Rattle.col_value.specs.declared.value.Value.TheVariants as value
 use Rattle.row_keys.proofs.Apart.{same_equal, same_itself}
 use Rattle.row_keys.proofs.Places.{no_place, none_passes, place_is}
-use Rattle.row_keys.specs.Numbers.{is_number, number_at}
+use Rattle.row_keys.specs.Numbers.{is_number}
 use Rattle.sql_bound.specs.Outputs.{keys_of, same_keys}
 use Rattle.exec_group.specs.Columns.{row_of}
-use Rattle.exec_group.specs.NumberKeys.{number_key, IsNoKey, IsNoNumber}
+use Rattle.exec_group.specs.NumberKeys.{null_number, number_key, IsNoKey, IsNoNumber}
 
 abbrev least : ℤ
 least = negsuc (2 ^ 63 - 1)
@@ -115,11 +115,16 @@ place_of_none key numbers none =
       | false ↦ λ h. refl
     ] refl
 
+mapped_at : (ns : List ℤ) (i : ℕ) → get_or (map number_value ns) i value.Null ≡ number_value (get_or ns i null_number)
+mapped_at [] i = refl
+mapped_at (n ∷ ns) zero = refl
+mapped_at (n ∷ ns) (suc i) = mapped_at ns i
+
 -- what a lane shows of the keys of one column
 pub lane_keys : (columns : List (Option (List Value))) (keys : List ℕ) (column : ℕ) (ns : List ℤ) → keys ≡ column ∷ [] → ((place : ℕ) → slice_index_or (row_of columns place) column value.Null ≡ slice_index_or (map number_value ns) place value.Null)
-    → (place : ℕ) → place < length ns → number_key (number_at ns place) ≡ keys_of keys (row_of columns place)
-lane_keys columns keys column ns are lane place inside =
-    ap (λ (v : Value). v ∷ []) (sym (lane place ∙ get_or-map number_value ns place (pos 0) value.Null inside)) ∙ ap (λ (ks : List ℕ). keys_of ks (row_of columns place)) (sym are)
+    → (place : ℕ) → number_key (get_or ns place null_number) ≡ keys_of keys (row_of columns place)
+lane_keys columns keys column ns are lane place =
+    ap (λ (v : Value). v ∷ []) (sym (lane place ∙ mapped_at ns place)) ∙ ap (λ (ks : List ℕ). keys_of ks (row_of columns place)) (sym are)
 
 pub one_key : (keys : List ℕ) → 1 ≤ length keys → length keys ≤ 1 → keys ≡ get_or keys 0 0 ∷ []
 one_key [] some few = absurd (omega (arith, some))

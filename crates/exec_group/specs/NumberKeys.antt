@@ -1,9 +1,13 @@
 -- Keys that are numbers.
-use Rattle.std.specs.Prelude.{◌≡◌, ℤ, List, [], ◌∷◌, map}
+use Rattle.std.specs.Prelude.{◌≡◌, ◌-◌, ◌^◌, ℤ, negsuc, List, [], ◌∷◌, map}
 use Rattle.block_codec.specs.Held.{number_value}
 use Rattle.col_value.specs.declared.value.Value.{Value}
 use Rattle.exec_group.specs.declared.held_keys.Form.{Form}
 use Rattle.exec_group.specs.declared.held_keys.Form.TheVariants as form
+
+-- -2^63, which stands for NULL
+abbrev pub null_number : ℤ
+null_number = negsuc (2 ^ 63 - 1)
 
 -- the key of one column in which a number, or NULL, stands
 abbrev pub number_key : ℤ → List Value

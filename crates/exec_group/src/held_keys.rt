@@ -1,19 +1,20 @@
 //! The keys of groups, in the order in which they were met.
 
-ghost use Rattle.std.specs.Prelude.{◌≡◌, ℕ, ◌<◌, slice_index_or, ◌++◌, ◌∷◌, [], None, length, map, position, IfOk, IfNone, OnOk};
+ghost use Rattle.std.specs.Prelude.{◌≡◌, ℕ, slice_index_or, ◌++◌, ◌∷◌, [], Some, None, get_or, length, map, position, IfOk, IfNone, OnOk};
 ghost use Rattle.std.specs.Option.{IfSome};
 ghost use Rattle.block_codec.specs.Held.{number_value};
 ghost use Rattle.col_value.specs.declared.value.Value.TheVariants.{Null};
 ghost use Rattle.sql_bound.specs.Outputs.{keys_of, same_keys};
-ghost use Rattle.row_keys.specs.Numbers.{number_at};
 ghost use Rattle.exec_group.specs.Columns.{row_of};
-ghost use Rattle.exec_group.specs.NumberKeys.{number_key, IsNoKey, IsNoNumber};
+ghost use Rattle.exec_group.specs.Groups.{met_one, AreEntered};
+ghost use Rattle.exec_group.specs.NumberKeys.{null_number, number_key, IsNoKey, IsNoNumber};
 
 use crate::cells::key_at;
 use crate::lanes::column_numbers;
+use crate::runs::has_key_twice;
 use block_codec::{Block, number_value};
 use col_value::{List, Row, Value};
-use row_keys::{KeyTable, NumberTable};
+use row_keys::{KeyTable, NumberTable, key_of};
 use std::alloc::{AllocError, Global};
 use std::marker::Model;
 
@@ -56,8 +57,18 @@ impl Keys {
         }
     }
 
+    /// How many there are.
+    pub fn len(&self) -> usize
+        ensures { result ≡ length self.now }
+    {
+        match &self.form {
+            Form::Numbers(numbers) => numbers.numbers().len(),
+            Form::Rows(rows) => rows.keys().len(),
+        }
+    }
+
     /// The place of a key.
-    pub fn find(&self, key: &Row) -> Option<usize>
+    fn find(&self, key: &Row) -> Option<usize>
         ensures { result ≡ position (λ k. same_keys k key.now) self.now }
     {
         match &self.form {
@@ -67,32 +78,13 @@ impl Keys {
     }
 
     /// The place of a row's key.
-    pub fn find_row(&self, keys: &[usize], row: &[Value]) -> Option<usize>
+    fn find_row(&self, keys: &[usize], row: &[Value]) -> Option<usize>
         ensures { result ≡ position (λ k. same_keys k (keys_of keys.now row.now)) self.now }
     {
         match &self.form {
             Form::Numbers(numbers) => find_row_number(numbers, keys, row),
             Form::Rows(rows) => rows.find(keys, row),
         }
-    }
-
-    /// The place of the key of the row at a place of columns.
-    pub fn find_at(
-        &self,
-        alloc: Global,
-        keys: &[usize],
-        columns: &[Option<Block>],
-        place: usize,
-    ) -> Result<Option<usize>, AllocError>
-        ensures { IfOk result (λ o. o ≡ position (λ k. same_keys k (keys_of keys.now (row_of columns.now place))) self.now) }
-    {
-        if let Form::Numbers(numbers) = &self.form {
-            if let Some(n) = number_key_at(keys, columns, place) {
-                return Ok(numbers.find(n));
-            }
-        }
-        let key = key_at(alloc, keys, columns, place)?;
-        Ok(self.find(&key))
     }
 
     /// Puts a key behind the others, of which none is the same.
@@ -112,6 +104,107 @@ impl Keys {
             },
             Form::Rows(rows) => rows.add_key(key),
         }
+    }
+
+    /// The place of a row's key, which is put behind the others where it isn't there.
+    pub fn enter_row(
+        &mut self,
+        alloc: Global,
+        keys: &[usize],
+        row: &[Value],
+    ) -> Result<usize, AllocError>
+        ensures met { OnOk result (self.new ≡ met_one self.old (keys_of keys.now row.now)) }
+        ensures there { IfOk result (λ g. position (λ k. same_keys k (keys_of keys.now row.now)) self.new ≡ Some g) }
+    {
+        match self.find_row(keys, row) {
+            Some(place) => Ok(place),
+            None => {
+                let place = self.len();
+                self.add(alloc, key_of(alloc, keys, row)?)?;
+                Ok(place)
+            },
+        }
+    }
+
+    /// The same of the row at a place of columns.
+    fn enter_at(
+        &mut self,
+        alloc: Global,
+        keys: &[usize],
+        columns: &[Option<Block>],
+        place: usize,
+    ) -> Result<usize, AllocError>
+        ensures met { OnOk result (self.new ≡ met_one self.old (keys_of keys.now (row_of columns.now place))) }
+        ensures there { IfOk result (λ g. position (λ k. same_keys k (keys_of keys.now (row_of columns.now place))) self.new ≡ Some g) }
+    {
+        let key = key_at(alloc, keys, columns, place)?;
+        match self.find(&key) {
+            Some(place) => Ok(place),
+            None => {
+                let place = self.len();
+                self.add(alloc, key)?;
+                Ok(place)
+            },
+        }
+    }
+
+    /// The same, where the place of the key of one row is known.
+    fn enter_beside(
+        &mut self,
+        alloc: Global,
+        keys: &[usize],
+        columns: &[Option<Block>],
+        place: usize,
+        known: Option<(usize, usize)>,
+    ) -> Result<usize, AllocError>
+        requires known { IfSome known (λ k. position (λ x. same_keys x (keys_of keys.now (row_of columns.now k.0))) self.old ≡ Some k.1) }
+        ensures met { OnOk result (self.new ≡ met_one self.old (keys_of keys.now (row_of columns.now place))) }
+        ensures there { IfOk result (λ g. position (λ k. same_keys k (keys_of keys.now (row_of columns.now place))) self.new ≡ Some g) }
+    {
+        if let Some((first, group)) = known {
+            if has_key_twice(keys, columns, place, first) {
+                return Ok(group);
+            }
+        }
+        self.enter_at(alloc, keys, columns, place)
+    }
+
+    /// The places of the keys of the rows at places of columns, of which those that aren't there are put behind the others.
+    fn enter_each(
+        &mut self,
+        alloc: Global,
+        keys: &[usize],
+        columns: &[Option<Block>],
+        places: &[usize],
+    ) -> Result<Vec<usize>, AllocError>
+        ensures { IfOk result (λ v. AreEntered (λ p. keys_of keys.now (row_of columns.now p)) places.now self.old self.new v.items) }
+    {
+        let mut out = Vec::with_capacity(alloc, places.len())?;
+        let mut known = None;
+        for place in places {
+            let group = self.enter_beside(alloc, keys, columns, *place, known)?;
+            out.push(group)?;
+            known = Some((*place, group));
+        }
+        Ok(out)
+    }
+
+    /// The same, from a lane of numbers where the keys and the columns are such.
+    pub fn enter_columns(
+        &mut self,
+        alloc: Global,
+        keys: &[usize],
+        columns: &[Option<Block>],
+        places: &[usize],
+    ) -> Result<Vec<usize>, AllocError>
+        ensures { IfOk result (λ v. AreEntered (λ p. keys_of keys.now (row_of columns.now p)) places.now self.old self.new v.items) }
+    {
+        if let Form::Numbers(numbers) = &mut self.form {
+            if let Some(lane) = key_lane(keys, columns) {
+                return enter_numbers(numbers, alloc, keys, columns, lane, places);
+            }
+        }
+        self.enter_each(alloc, keys, columns, places)
     }
 
     /// The keys, given back.
@@ -193,7 +286,7 @@ fn find_row_number(numbers: &NumberTable, keys: &[usize], row: &[Value]) -> Opti
 
 /// The lane of numbers of a key of one column, if it is held so.
 fn key_lane<'a>(keys: &[usize], columns: &'a [Option<Block>]) -> Option<&'a [i64]>
-    ensures { IfSome result (λ ns. (place : ℕ) → place < length ns.now → number_key (number_at ns.now place) ≡ keys_of keys.now (row_of columns.now place)) }
+    ensures { IfSome result (λ ns. (place : ℕ) → number_key (get_or ns.now place null_number) ≡ keys_of keys.now (row_of columns.now place)) }
 {
     match keys {
         [column] => column_numbers(columns, *column),
@@ -201,14 +294,49 @@ fn key_lane<'a>(keys: &[usize], columns: &'a [Option<Block>]) -> Option<&'a [i64
     }
 }
 
-/// The number that stands for the key of the row at a place, where a lane shows it.
-fn number_key_at(keys: &[usize], columns: &[Option<Block>], place: usize) -> Option<i64>
-    ensures { IfSome result (λ n. number_key n ≡ keys_of keys.now (row_of columns.now place)) }
+/// The number of a lane at a place; that of NULL where there is none.
+fn lane_number(lane: &[i64], place: usize) -> i64
+    ensures { result ≡ get_or lane.now place null_number }
 {
-    match key_lane(keys, columns) {
-        Some(lane) if place < lane.len() => Some(lane[place]),
-        _ => None,
+    match lane.get(place) {
+        Some(n) => *n,
+        None => i64::MIN,
     }
+}
+
+/// The place of a number, which is put behind the others where it isn't there.
+fn enter_number(numbers: &mut NumberTable, alloc: Global, n: i64) -> Result<usize, AllocError>
+    ensures met { OnOk result (map number_key numbers.new ≡ met_one (map number_key numbers.old) (number_key n)) }
+    ensures there { IfOk result (λ g. position (λ k. same_keys k (number_key n)) (map number_key numbers.new) ≡ Some g) }
+{
+    match numbers.find(n) {
+        Some(place) => Ok(place),
+        None => {
+            let place = numbers.numbers().len();
+            numbers.add(alloc, n)?;
+            Ok(place)
+        },
+    }
+}
+
+/// The places of the numbers that a lane shows as the keys of the rows at places.
+fn enter_numbers(
+    numbers: &mut NumberTable,
+    alloc: Global,
+    keys: &[usize],
+    columns: &[Option<Block>],
+    lane: &[i64],
+    places: &[usize],
+) -> Result<Vec<usize>, AllocError>
+    requires { (place : ℕ) → number_key (get_or lane.now place null_number) ≡ keys_of keys.now (row_of columns.now place) }
+    ensures { IfOk result (λ v. AreEntered (λ p. keys_of keys.now (row_of columns.now p)) places.now (map number_key numbers.old) (map number_key numbers.new) v.items) }
+{
+    let mut out = Vec::with_capacity(alloc, places.len())?;
+    for place in places {
+        let group = enter_number(numbers, alloc, lane_number(lane, *place))?;
+        out.push(group)?;
+    }
+    Ok(out)
 }
 
 /// The row of a number.
