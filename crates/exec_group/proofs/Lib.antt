@@ -1,4 +1,5 @@
 pub mod Columnwise
+pub mod Counting
 pub mod Entering
 pub mod Growing
 pub mod Keys

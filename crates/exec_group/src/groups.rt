@@ -169,8 +169,8 @@ impl Groups {
 fn column_of(alloc: Global, a: &Aggregate, count: usize) -> Result<Kept, AllocError>
     ensures { IfOk result (λ c. c ≡ padded count (accumulated a.now.kind 0 []) []) }
 {
-    let mut column = Kept::new(alloc);
-    column.pad(a.kind, count)?;
+    let mut column = Kept::new(alloc, a.kind);
+    column.pad(alloc, a.kind, count)?;
     Ok(column)
 }
 
@@ -196,7 +196,7 @@ fn put_row_in(
 ) -> Result<(), AllocError>
     ensures { OnOk result (column.new ≡ put_at (padded count (accumulated a.now.kind 0 []) column.old) group (wide_of value.now)) }
 {
-    column.pad(a.kind, count)?;
+    column.pad(alloc, a.kind, count)?;
     column.take(alloc, group, value)
 }
 
@@ -252,7 +252,7 @@ fn put_places_in(
     requires long { length groups.now ≡ length places.now }
     ensures { OnOk result (column.new ≡ put_each (λ p. argument_in a.now.arg (row_of columns.now p)) groups.now places.now (padded count (accumulated a.now.kind 0 []) column.old)) }
 {
-    column.pad(a.kind, count)?;
+    column.pad(alloc, a.kind, count)?;
     column.take_columns(alloc, a, columns, groups, places)
 }
 
