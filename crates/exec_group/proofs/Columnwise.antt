@@ -72,15 +72,15 @@ module _ {X : Type 0} (row : X → List Value) (q : BoundQuery) where
         (elim (list_any (λ g. same_keys g (key x)) ks) as (λ b. list_any (λ g. same_keys g (key x)) ks ≡ b → IsGrown (kept rows) fresh (group_keys q.keys rows) (if b then ks else ks ++ key x ∷ [])) [
           | true ↦ λ e. grown
           | false ↦ λ e. record {
-              more = suc grown.more;
-              is =
-                  map-append (kept rows) ks (key x ∷ [])
-                  ∙ ap₂ (λ (c : Column) (y : Accumulator). c ++ y ∷ []) grown.is (none_kept rows x (grown.absent (key x) e))
-                  ∙ append_assoc (map (kept rows) (group_keys q.keys rows)) (replicate grown.more fresh) (fresh ∷ [])
-                  ∙ ap (λ (c : Column). map (kept rows) (group_keys q.keys rows) ++ c) (one_more grown.more fresh);
-              long = omega (arith, grown.long, length-append ks (key x ∷ []));
-              absent = λ k h. grown.absent k (any_in_front (λ g. same_keys g k) ks (key x ∷ []) h);
-            }
+            more = suc grown.more;
+            is =
+                map-append (kept rows) ks (key x ∷ [])
+                ∙ ap₂ (λ (c : Column) (y : Accumulator). c ++ y ∷ []) grown.is (none_kept rows x (grown.absent (key x) e))
+                ∙ append_assoc (map (kept rows) (group_keys q.keys rows)) (replicate grown.more fresh) (fresh ∷ [])
+                ∙ ap (λ (c : Column). map (kept rows) (group_keys q.keys rows) ++ c) (one_more grown.more fresh);
+            long = omega (arith, grown.long, length-append ks (key x ∷ []));
+            absent = λ k h. grown.absent k (any_in_front (λ g. same_keys g k) ks (key x ∷ []) h);
+          }
         ] refl)
 
     begun : (rows : Groups) (xs : List X) → padded (length (met key xs (group_keys q.keys rows))) fresh (map (kept rows) (group_keys q.keys rows)) ≡ map (kept rows) (met key xs (group_keys q.keys rows))

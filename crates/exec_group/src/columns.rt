@@ -10,10 +10,10 @@ ghost use Rattle.sql_bound.specs.Values.{number_in, of_row, value_of};
 ghost use Rattle.exec_group.specs.Columns.{row_of, taken_at, AreRowsAt, HasGained, IsRaised, IsTotalOf};
 
 use crate::Accumulator;
+use crate::argument::argument_of;
 use crate::cells::{row_at, worth_at};
 use crate::lanes::lane_of;
 use crate::numbers::number_at;
-use crate::argument::argument_of;
 use block_codec::Block;
 use expr_value::Worth;
 use sql_bound::{Aggregate, Expr};

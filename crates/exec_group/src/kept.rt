@@ -84,12 +84,7 @@ impl Kept {
     }
 
     /// Takes a row more in a group, in which the argument has this value.
-    pub fn take(
-        &mut self,
-        alloc: Global,
-        group: usize,
-        value: &Worth<'_>,
-    ) -> Result<(), AllocError>
+    pub fn take(&mut self, alloc: Global, group: usize, value: &Worth<'_>) -> Result<(), AllocError>
         ensures { OnOk result (self.new ≡ put_at self.old group (wide_of value.now)) }
     {
         match &mut self.form {

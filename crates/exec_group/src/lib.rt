@@ -25,4 +25,3 @@ pub use argument::argument_of;
 pub use cells::{row_at, worth_at};
 pub use fault::GroupFault;
 pub use groups::{Grouped, Groups};
-
