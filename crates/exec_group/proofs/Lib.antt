@@ -1,6 +1,10 @@
+pub mod Columnwise
+pub mod Counting
+pub mod Entering
 pub mod Growing
 pub mod Keys
 pub mod More
+pub mod Numbered
+pub mod Spans
 pub mod Together
 pub mod Totals
-pub mod Spans

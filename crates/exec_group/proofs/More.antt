@@ -1,5 +1,5 @@
 -- An aggregate over a row more.
-use Rattle.std.proofs.Common.{◌≡◌, ℕ, ℤ, pos, ◌+◌, ◌+ℤ◌, ◌<◌, ◌++◌, not, nat_le, Bool, true, false, if◌then◌else◌, List, [], ◌∷◌, length, get_or, map, filter, set, take, zero, suc, Option, Some, None, refl, sym, ap, ap₂, ◌∙◌, arith}
+use Rattle.std.proofs.Common.{◌≡◌, ℕ, ℤ, pos, ◌+◌, ◌+ℤ◌, ◌<◌, ◌++◌, not, nat_le, Bool, true, false, if◌then◌else◌, List, [], ◌∷◌, length, map, filter, Option, Some, None, refl, sym, ap, ap₂, ◌∙◌, arith}
 use Rattle.std.proofs.lemmas.Bool.Decides.{nat_tests}
 use Rattle.std.proofs.lemmas.List.{append-nil, length-append, map-append}
 use Rattle.std.proofs.lemmas.List.Elements.{filter-append}
@@ -12,7 +12,7 @@ use Rattle.sql_bound.specs.declared.query.Aggregate.{Aggregate}
 use Rattle.sql_bound.specs.Bounds.{magnitude, result_bound}
 use Rattle.sql_bound.specs.Outputs.{aggregated, aggregate_over, greater, lesser, number_or_zero, plain_sum, size_of, values_over, IsGreatSum}
 use Rattle.sql_bound.specs.Values.{is_null, of_row, value_of}
-use Rattle.exec_group.specs.Accumulators.{accumulated, accumulated_over, argument_in, counted, fresh, passed, taken, taken_by_all, total_of, worth_or_null}
+use Rattle.exec_group.specs.Accumulators.{accumulated, accumulated_over, argument_in, counted, passed, taken, total_of, worth_or_null}
 use Rattle.exec_group.specs.declared.accumulator.Accumulator.{Accumulator}
 use Rattle.exec_group.specs.declared.accumulator.Accumulator.TheVariants as accumulator
 
@@ -87,19 +87,9 @@ row_taken rows row a =
     value_taken a.kind (length rows) (values_over a.arg rows) (argument_in a.arg row)
     ∙ ap₂ (accumulated a.kind) (sym (length-append rows (row ∷ []))) (sym (values_more a.arg rows row))
 
--- the aggregates of a group over a row more
-pub all_taken : (rows : List (List Value)) (row : List Value) (aggs : List Aggregate) → taken_by_all row aggs (map (accumulated_over rows) aggs) ≡ map (accumulated_over (rows ++ row ∷ [])) aggs
-all_taken rows row [] = refl
-all_taken rows row (a ∷ aggs) = ap₂ (λ (x : Accumulator) (xs : List Accumulator). x ∷ xs) (row_taken rows row a) (all_taken rows row aggs)
-
 pub no_values : (arg : Option Expr) → values_over arg [] ≡ []
 no_values None = refl
 no_values (Some e) = refl
-
--- the aggregates over no row
-pub fresh_over : (aggs : List Aggregate) → fresh aggs ≡ map (accumulated_over []) aggs
-fresh_over [] = refl
-fresh_over (a ∷ aggs) = ap₂ (λ (x : Accumulator) (xs : List Accumulator). x ∷ xs) (ap (accumulated a.kind 0) (sym (no_values a.arg))) (fresh_over aggs)
 
 total_worth : (ws : List Wide) → worth_or_null (accumulator.Sum (total_of ws)) ≡ aggregated AggKind.Sum 0 ws
 total_worth [] = refl
@@ -150,12 +140,3 @@ great_is kind rows ws e h =
 
 pub is_great : (rows : List (List Value)) (a : Aggregate) → IsGreatSum rows a → accumulated_over rows a ≡ accumulator.TooGreat
 is_great rows a great = great_is a.kind (length rows) (values_over a.arg rows) great.0 great.1
-
--- the next aggregate takes a row
-pub next_taken : (row : List Value) (aggs : List Aggregate) (tally : List Accumulator) (i : ℕ) (a : Aggregate) → i < length aggs → a ≡ get_or aggs i a
-    → set (taken_by_all row (take i aggs) tally) i (taken (get_or (taken_by_all row (take i aggs) tally) i accumulator.TooGreat) (argument_in a.arg row)) ≡ taken_by_all row (take (suc i) aggs) tally
-next_taken row [] tally i a h is = absurd (omega arith)
-next_taken row (b ∷ aggs) [] zero a h is = refl
-next_taken row (b ∷ aggs) [] (suc i) a h is = refl
-next_taken row (b ∷ aggs) (x ∷ xs) zero a h is = ap (λ (z : Aggregate). taken x (argument_in z.arg row) ∷ xs) is
-next_taken row (b ∷ aggs) (x ∷ xs) (suc i) a h is = ap (λ (ys : List Accumulator). taken x (argument_in b.arg row) ∷ ys) (next_taken row aggs xs i a (omega arith) is)

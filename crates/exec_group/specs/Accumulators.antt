@@ -1,6 +1,5 @@
 -- What an aggregate keeps of the values that it took.
 use Rattle.std.specs.Prelude.{ℕ, ℤ, pos, ◌+◌, ◌+ℤ◌, if◌then◌else◌, nat_le, Bool, true, List, [], ◌∷◌, length, fold, map, Option, Some, None}
-use Rattle.std.specs.List.{Contains}
 use Rattle.std.specs.Option.{option_map_or}
 use Rattle.col_value.specs.declared.value.Value.{Value}
 use Rattle.col_value.specs.declared.wide.Wide.{Wide}
@@ -99,20 +98,6 @@ worth_or_null accumulator.TooGreat = wide.Null
 worth_or_null (accumulator.Least v) = or_null v
 worth_or_null (accumulator.Greatest v) = or_null v
 
--- the aggregates over no row
-abbrev pub fresh : List Aggregate → List Accumulator
-fresh aggs = map (λ a. accumulated a.kind 0 []) aggs
-
--- each aggregate after a row more
-abbrev pub taken_by_all : List Value → List Aggregate → List Accumulator → List Accumulator
-taken_by_all row [] as_before = as_before
-taken_by_all row (a ∷ aggs) [] = []
-taken_by_all row (a ∷ aggs) (x ∷ xs) = taken x (argument_in a.arg row) ∷ taken_by_all row aggs xs
-
 -- an aggregate whose argument has static bounds
 abbrev pub is_bounded_aggregate : Aggregate → Bool
 is_bounded_aggregate a = option_map_or (is_narrow []) a.arg true
-
--- one of the sums is too great
-abbrev pub HasGreat : List Accumulator → Type 0
-HasGreat tally = Contains tally accumulator.TooGreat

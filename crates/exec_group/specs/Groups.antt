@@ -1,23 +1,30 @@
 -- Groups as they are held, and as they come out.
-use Rattle.std.specs.Prelude.{◌≡◌, ℕ, ◌++◌, List, [], ◌∷◌, Option, Some, None, get_or, map, position, set}
-use Rattle.std.specs.List.{Contains}
+use Rattle.std.specs.Prelude.{◌≡◌, ℕ, ◌+◌, ◌<◌, ◌++◌, List, [], ◌∷◌, if◌then◌else◌, zero, suc, Some, None, fold, get_or, length, map, position}
+use Rattle.std.specs.List.{All, Contains, list_any}
 use Rattle.col_value.specs.declared.value.Value.{Value}
 use Rattle.sql_bound.specs.declared.query.Aggregate.{Aggregate}
 use Rattle.sql_bound.specs.declared.query.BoundQuery.{BoundQuery}
 use Rattle.sql_bound.specs.Outputs.{aggregate_over, group_keys, keys_of, members, same_keys, IsGreatSum}
-use Rattle.exec_group.specs.Accumulators.{HasGreat, accumulated_over, fresh, taken_by_all}
+use Rattle.col_value.specs.declared.wide.Wide.{Wide}
+use Rattle.exec_group.specs.Columns.{each_put}
+use Rattle.exec_group.specs.Accumulators.{accumulated, accumulated_over, worth_or_null}
 use Rattle.exec_group.specs.declared.accumulator.Accumulator.{Accumulator}
+use Rattle.exec_group.specs.declared.accumulator.Accumulator.TheVariants as accumulator
 use Rattle.exec_group.specs.declared.groups.Grouped.{Grouped}
 
--- the keys of the groups in the order in which they were met, and beside each what its aggregates keep
+-- the keys of the groups in the order in which they were met, and of each aggregate what it keeps in each of them
 pub record Held : Type 0 where
   pub keys : List (List Value)
-  pub tallies : List (List Accumulator)
+  pub columns : List (List Accumulator)
+
+-- what an aggregate keeps of some rows in each group
+abbrev pub kept_in : List ℕ → List (List Value) → List (List Value) → Aggregate → List Accumulator
+kept_in keys rows groups a = map (λ group. accumulated_over (members keys group rows) a) groups
 
 -- what is held after these rows
 pub record HoldsGroups (q : BoundQuery) (rows : List (List Value)) (h : Held) : Type 0 where
   pub keys : h.keys ≡ group_keys q.keys rows
-  pub tallies : h.tallies ≡ map (λ key. map (accumulated_over (members q.keys key rows)) q.aggs) (group_keys q.keys rows)
+  pub columns : h.columns ≡ map (kept_in q.keys rows (group_keys q.keys rows)) q.aggs
 
 -- these are the groups of the rows, each with its aggregates
 pub record AreGroups (q : BoundQuery) (rows : List (List Value)) (g : Grouped) : Type 0 where
@@ -30,18 +37,45 @@ HasGreatSum q rows =
     (group : List Value) × (a : Aggregate) × Contains (group_keys q.keys rows) group × Contains q.aggs a
     × IsGreatSum (members q.keys group rows) a
 
--- one of the sums is too great
-abbrev pub HasTooGreat : List (List Accumulator) → Type 0
-HasTooGreat tallies = (tally : List Accumulator) × Contains tallies tally × HasGreat tally
-
 -- one group, of no key and no row
 abbrev pub one_group : List Aggregate → Held
-one_group aggs = record { keys = [] ∷ []; tallies = fresh aggs ∷ [] }
+one_group aggs = record { keys = [] ∷ []; columns = map (λ a. accumulated a.kind 0 [] ∷ []) aggs }
 
--- what is held after a row more: its group takes it, or it begins a group
-abbrev pub pushed_at : Option ℕ → List ℕ → List Aggregate → List Value → Held → Held
-pushed_at None keys aggs row h = record { keys = h.keys ++ keys_of keys row ∷ []; tallies = h.tallies ++ taken_by_all row aggs (fresh aggs) ∷ [] }
-pushed_at (Some place) keys aggs row h = record { keys = h.keys; tallies = set h.tallies place (taken_by_all row aggs (get_or h.tallies place [])) }
+-- the keys that were met, after a key more
+abbrev pub met_one : List (List Value) → List Value → List (List Value)
+met_one groups key = if list_any (λ g. same_keys g key) groups then groups else groups ++ key ∷ []
 
-abbrev pub pushed : List ℕ → List Aggregate → List Value → Held → Held
-pushed keys aggs row h = pushed_at (position (λ key. same_keys key (keys_of keys row)) h.keys) keys aggs row h
+abbrev pub met : {X : Type 0} → (X → List Value) → List X → List (List Value) → List (List Value)
+met key xs groups = fold (λ gs x. met_one gs (key x)) groups xs
+
+-- the keys after these were met, and the place of each of these among them
+pub record AreEntered (key : ℕ → List Value) (places : List ℕ) (old new : List (List Value)) (groups : List ℕ) : Type 0 where
+  pub met : new ≡ met key places old
+  pub there : map Some groups ≡ map (λ p. position (λ k. same_keys k (key p)) new) places
+
+-- rows were put to their groups: each key is met, and each aggregate takes each row in the group of its key
+pub record IsPut {X : Type 0} (row : X → List Value) (keys : List ℕ) (aggs : List Aggregate) (xs : List X) (old new : Held) : Type 0 where
+  pub keys_met : new.keys ≡ met (λ x. keys_of keys (row x)) xs old.keys
+  pub places : List ℕ
+  pub there : map Some places ≡ map (λ x. position (λ k. same_keys k (keys_of keys (row x))) new.keys) xs
+  pub taken : new.columns ≡ each_put row (length new.keys) places xs aggs old.columns
+
+-- what is kept in a group, where something is
+abbrev pub kept_at : List Accumulator → ℕ → Accumulator
+kept_at column g = get_or column g (accumulator.Sum None)
+
+-- the aggregates' values in a group, and in the first groups
+abbrev pub worths_at : List (List Accumulator) → ℕ → List Wide
+worths_at columns g = map (λ column. worth_or_null (kept_at column g)) columns
+
+abbrev pub worths_upto : List (List Accumulator) → ℕ → List (List Wide)
+worths_upto columns zero = []
+worths_upto columns (suc n) = worths_upto columns n ++ worths_at columns n ∷ []
+
+-- no sum is too great in a group
+abbrev pub FitsAt : List (List Accumulator) → ℕ → Type 0
+FitsAt columns g = All (λ column. kept_at column g ≡ accumulator.TooGreat → ⊥) columns
+
+-- one is
+abbrev pub IsGreatAt : List (List Accumulator) → ℕ → Type 0
+IsGreatAt columns g = (column : List Accumulator) × Contains columns column × (kept_at column g ≡ accumulator.TooGreat)

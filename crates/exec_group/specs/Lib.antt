@@ -1,3 +1,5 @@
 pub mod Accumulators
 pub mod Columns
+pub mod Counted
 pub mod Groups
+pub mod NumberKeys

@@ -1,6 +1,6 @@
 //! Aggregates that take the rows at places of columns, one aggregate after another.
 
-ghost use Rattle.std.specs.Prelude.{◌≡◌, ◌+◌, ◌≤◌, true, false, if◌then◌else◌, Some, get_or, map, set, length, IfOk, OnOk};
+ghost use Rattle.std.specs.Prelude.{◌≡◌, ◌+◌, ◌≤◌, true, false, if◌then◌else◌, Some, map, length, IfOk, OnOk};
 ghost use Rattle.std.specs.Option.{IfSome};
 ghost use Rattle.col_value.specs.Order.{IsRow};
 ghost use Rattle.exec_group.specs.Accumulators.{argument_in, is_bounded_aggregate, taken};
@@ -8,13 +8,12 @@ ghost use Rattle.expr_value.specs.Worths.{wide_of};
 ghost use Rattle.sql_bound.specs.Bounds.{magnitude};
 ghost use Rattle.sql_bound.specs.Values.{number_in, of_row, value_of};
 ghost use Rattle.exec_group.specs.Columns.{row_of, taken_at, AreRowsAt, HasGained, IsRaised, IsTotalOf};
-ghost use Rattle.exec_group.specs.declared.accumulator.Accumulator.TheVariants.{TooGreat};
 
 use crate::Accumulator;
+use crate::argument::argument_of;
 use crate::cells::{row_at, worth_at};
 use crate::lanes::lane_of;
 use crate::numbers::number_at;
-use crate::tally::argument_of;
 use block_codec::Block;
 use expr_value::Worth;
 use sql_bound::{Aggregate, Expr};
@@ -58,7 +57,7 @@ fn take_made(
 }
 
 /// An aggregate takes the row at a place.
-fn take_place(
+pub fn take_place(
     accumulator: &mut Accumulator,
     alloc: Global,
     a: &Aggregate,
@@ -203,7 +202,7 @@ fn sums_run(
 
 /// An aggregate takes the rows at places.
 #[tactic(auto, using(crate::proofs::Together::raised_taken))]
-fn take_run(
+pub fn take_run(
     accumulator: &mut Accumulator,
     alloc: Global,
     a: &Aggregate,
@@ -221,23 +220,4 @@ fn take_run(
         return Ok(());
     }
     take_each(accumulator, alloc, a, columns, places)
-}
-
-/// Lets the accumulator at this place take the rows at places.
-pub fn take_run_at(
-    list: &mut Vec<Accumulator>,
-    alloc: Global,
-    i: usize,
-    a: &Aggregate,
-    columns: &[Option<Block>],
-    places: &[usize],
-) -> Result<(), AllocError>
-    requires bounded { is_bounded_aggregate a.now ≡ true }
-    requires rows { AreRowsAt columns.now places.now }
-    ensures { OnOk result (list.new.items ≡ set list.old.items i (taken_at columns.now a.now places.now (get_or list.old.items i TooGreat))) }
-{
-    if i < list.len() {
-        take_run(&mut list[i], alloc, a, columns, places)?;
-    }
-    Ok(())
 }

@@ -1,32 +1,33 @@
 //! Groups, each found by its key.
 
-ghost use Rattle.std.specs.Prelude.{◌≡◌, ◌<◌, ◌≤◌, ◌++◌, ◌∷◌, List, [], true, get_or, length, map, set, take, IfOk, OnOk, IsErrOf};
+ghost use Rattle.std.specs.Prelude.{◌≡◌, ℕ, ◌<◌, ◌++◌, ◌∷◌, List, [], true, get_or, length, map, set, IfOk, OnOk, IsErrOf};
 ghost use Rattle.std.specs.List.{All};
 ghost use Rattle.col_value.specs.Order.{IsRow};
 ghost use Rattle.col_value.specs.declared.value.Value.{Value};
+ghost use Rattle.expr_value.specs.Worths.{wide_of};
 ghost use Rattle.sql_bound.specs.declared.query.BoundQuery.{BoundQuery};
-ghost use Rattle.exec_group.specs.Accumulators.{fresh, is_bounded_aggregate, taken_by_all, worth_or_null};
-ghost use Rattle.exec_group.specs.Columns.{pushed_at_all, row_of, taken_by_each, AreRowsAt};
-ghost use Rattle.exec_group.specs.Groups.{Held, AreGroups, HasGreatSum, HasTooGreat, HoldsGroups, one_group, pushed};
-ghost use Rattle.exec_group.specs.declared.accumulator.Accumulator.TheVariants.{TooGreat};
+ghost use Rattle.sql_bound.specs.Outputs.{keys_of};
+ghost use Rattle.exec_group.specs.Accumulators.{accumulated, argument_in, is_bounded_aggregate};
+ghost use Rattle.exec_group.specs.Columns.{each_put, padded, put_at, put_each, row_of, AreRowsAt};
+ghost use Rattle.exec_group.specs.Groups.{AreGroups, FitsAt, HasGreatSum, HoldsGroups, IsGreatAt, IsPut, one_group, worths_at, worths_upto};
 ghost use Rattle.exec_group.specs.declared.fault.GroupFault.{GroupFault};
 
 use crate::GroupFault;
-use crate::cells::key_at;
-use crate::runs::run_length;
-use crate::tally::Tally;
+use crate::argument::argument_of;
+use crate::held_keys::Keys;
+use crate::kept::Kept;
 use block_codec::Block;
-use col_value::{List, Row, Value, WideRow};
-use row_keys::KeyTable;
+use col_value::{List, Row, Value, Wide, WideRow};
+use expr_value::Worth;
 use sql_bound::{Aggregate, BoundQuery};
 use std::alloc::{AllocError, Global};
 use std::marker::Model;
 
-/// The groups of the rows taken so far.
+/// The groups of the rows taken so far: their keys, and of each aggregate what it keeps in each group.
 #[derive(Drop)]
 pub struct Groups {
-    keys: KeyTable,
-    tallies: Vec<Tally>,
+    keys: Keys,
+    columns: Vec<Kept>,
 }
 
 impl Model for Groups {
@@ -34,7 +35,7 @@ impl Model for Groups {
 
     ghost Value = { Held };
 
-    ghost view = { λ g. record { keys = g.keys; tallies = g.tallies.items } };
+    ghost view = { λ g. record { keys = g.keys; columns = g.columns.items } };
 }
 
 /// Groups that are done: the GROUP BY columns of each, and beside them its aggregates.
@@ -53,8 +54,8 @@ impl Groups {
             return Groups::one(alloc, query.aggs.as_slice());
         }
         Ok(Groups {
-            keys: KeyTable::new(alloc),
-            tallies: Vec::new(alloc),
+            keys: Keys::new(alloc, query.keys.as_slice().len()),
+            columns: columns_of(alloc, query.aggs.as_slice(), 0)?,
         })
     }
 
@@ -62,11 +63,10 @@ impl Groups {
     fn one(alloc: Global, aggs: &[Aggregate]) -> Result<Groups, AllocError>
         ensures { IfOk result (λ g. g ≡ one_group aggs.now) }
     {
-        let mut keys = KeyTable::new(alloc);
-        keys.add(alloc, &[], &[])?;
-        let mut tallies = Vec::new(alloc);
-        tallies.push(Tally::new(alloc, aggs)?)?;
-        Ok(Groups { keys, tallies })
+        let mut keys = Keys::new(alloc, 0);
+        keys.add(alloc, List::new(Vec::new(alloc)))?;
+        let columns = columns_of(alloc, aggs, 1)?;
+        Ok(Groups { keys, columns })
     }
 
     /// Takes a row of the query. Groups that found no memory for a row are of no more use.
@@ -93,18 +93,14 @@ impl Groups {
     ) -> Result<(), AllocError>
         requires bounded { All (λ a. is_bounded_aggregate a ≡ true) aggs.now }
         requires row { IsRow row.now }
-        ensures { OnOk result (self.new ≡ pushed keys.now aggs.now row.now self.old) }
+        ensures { OnOk result (IsPut (λ (r : List Value). r) keys.now aggs.now (row.now ∷ []) self.old self.new) }
     {
-        match self.keys.find(keys, row) {
-            Some(place) => take_at(&mut self.tallies, alloc, place, aggs, row),
-            None => {
-                self.tallies.push(first_tally(alloc, aggs, row)?)?;
-                self.keys.add(alloc, keys, row)
-            }
-        }
+        let group = self.keys.enter_row(alloc, keys, row)?;
+        let count = self.keys.len();
+        put_row(&mut self.columns, alloc, aggs, count, group, row)
     }
 
-    /// Takes the rows of the query at places of columns: those beside each other that have one key together.
+    /// Takes the rows of the query at places of columns, one aggregate after another.
     pub fn push_columns(
         &mut self,
         alloc: Global,
@@ -126,7 +122,6 @@ impl Groups {
     }
 
     /// Puts the rows at places to their groups.
-    #[tactic(auto, using(crate::proofs::Together::put_all, crate::proofs::Together::put_more, crate::proofs::Together::within_more))]
     fn put_columns(
         &mut self,
         alloc: Global,
@@ -137,48 +132,19 @@ impl Groups {
     ) -> Result<(), AllocError>
         requires bounded { All (λ a. is_bounded_aggregate a ≡ true) aggs.now }
         requires rows { AreRowsAt columns.now places.now }
-        ensures { OnOk result (self.new ≡ pushed_at_all columns.now keys.now aggs.now places.now self.old) }
+        ensures { OnOk result (IsPut (row_of columns.now) keys.now aggs.now places.now self.old self.new) }
     {
-        let mut at = 0;
-        while at < places.len() {
-            let n = self.put_run(alloc, keys, aggs, columns, &places[at..])?;
-            at += n;
-        }
-        Ok(())
-    }
-
-    /// Puts the first of the rows at places, and those behind it that have its key, to their group, or begins a group with the first alone;
-    /// answers how many it put.
-    fn put_run(
-        &mut self,
-        alloc: Global,
-        keys: &[usize],
-        aggs: &[Aggregate],
-        columns: &[Option<Block>],
-        places: &[usize],
-    ) -> Result<usize, AllocError>
-        requires some { 0 < length places.now }
-        requires bounded { All (λ a. is_bounded_aggregate a ≡ true) aggs.now }
-        requires rows { AreRowsAt columns.now places.now }
-        ensures some { IfOk result (λ n. 0 < n) }
-        ensures within { IfOk result (λ n. n ≤ length places.now) }
-        ensures put { IfOk result (λ n. self.new ≡ pushed_at_all columns.now keys.now aggs.now (take n places.now) self.old) }
-    {
-        let first = places[0];
-        let key = key_at(alloc, keys, columns, first)?;
-        match self.keys.find_key(&key) {
-            Some(place) => {
-                let n = 1 + run_length(keys, columns, first, &places[1..]);
-                take_run_at(&mut self.tallies, alloc, place, aggs, columns, &places[..n])?;
-                Ok(n)
-            },
-            None => {
-                self.tallies
-                    .push(first_run(alloc, aggs, columns, &[first])?)?;
-                self.keys.add_key(key)?;
-                Ok(1)
-            },
-        }
+        let groups = self.keys.enter_columns(alloc, keys, columns, places)?;
+        let count = self.keys.len();
+        put_places(
+            &mut self.columns,
+            alloc,
+            aggs,
+            count,
+            columns,
+            groups.as_slice(),
+            places,
+        )
     }
 
     /// The groups of all rows taken, and a fault where a SUM passes what a result holds in one of them.
@@ -187,90 +153,188 @@ impl Groups {
         ensures in_range { OnOk result ((q : BoundQuery) (rows : List (List Value)) → HoldsGroups q rows self → HasGreatSum q rows → ⊥) }
         ensures great { IsErrOf result GroupFault.SumOutOfRange → (q : BoundQuery) (rows : List (List Value)) → HoldsGroups q rows self → HasGreatSum q rows }
     {
-        let Groups { keys, tallies } = self;
-        match worths(alloc, tallies.as_slice()) {
-            Ok(aggs) => Ok(Grouped {
-                keys: List::new(keys.into_keys()),
-                aggs: List::new(aggs),
-            }),
-            Err(fault) => Err(fault),
-        }
+        let Groups { keys, columns } = self;
+        let aggs = match worths(alloc, columns.as_slice(), keys.len()) {
+            Ok(aggs) => aggs,
+            Err(fault) => return Err(fault),
+        };
+        Ok(Grouped {
+            keys: List::new(keys.into_rows(alloc)?),
+            aggs: List::new(aggs),
+        })
     }
 }
 
-/// The aggregates over one row.
-fn first_tally(alloc: Global, aggs: &[Aggregate], row: &[Value]) -> Result<Tally, AllocError>
-    requires bounded { All (λ a. is_bounded_aggregate a ≡ true) aggs.now }
-    requires row { IsRow row.now }
-    ensures { IfOk result (λ t. t ≡ taken_by_all row.now aggs.now (fresh aggs.now)) }
+/// An aggregate over no row in so many groups.
+fn column_of(alloc: Global, a: &Aggregate, count: usize) -> Result<Kept, AllocError>
+    ensures { IfOk result (λ c. c ≡ padded count (accumulated a.now.kind 0 []) []) }
 {
-    let mut tally = Tally::new(alloc, aggs)?;
-    tally.take(alloc, aggs, row)?;
-    Ok(tally)
+    let mut column = Kept::new(alloc, a.kind);
+    column.pad(alloc, a.kind, count)?;
+    Ok(column)
 }
 
-/// Lets the aggregates at this place take a row.
-fn take_at(
-    tallies: &mut Vec<Tally>,
+/// The aggregates over no row in so many groups.
+fn columns_of(alloc: Global, aggs: &[Aggregate], count: usize) -> Result<Vec<Kept>, AllocError>
+    ensures { IfOk result (λ v. v.items ≡ map (λ a. padded count (accumulated a.kind 0 []) []) aggs.now) }
+{
+    let mut out = Vec::with_capacity(alloc, aggs.len())?;
+    for a in aggs {
+        out.push(column_of(alloc, a, count)?)?;
+    }
+    Ok(out)
+}
+
+/// Lets an aggregate take a row more in one of so many groups.
+fn put_row_in(
+    column: &mut Kept,
     alloc: Global,
-    place: usize,
+    a: &Aggregate,
+    count: usize,
+    group: usize,
+    value: &Worth<'_>,
+) -> Result<(), AllocError>
+    ensures { OnOk result (column.new ≡ put_at (padded count (accumulated a.now.kind 0 []) column.old) group (wide_of value.now)) }
+{
+    column.pad(alloc, a.kind, count)?;
+    column.take(alloc, group, value)
+}
+
+/// The same of the aggregate at place i.
+fn put_row_at(
+    columns: &mut Vec<Kept>,
+    alloc: Global,
+    i: usize,
+    a: &Aggregate,
+    count: usize,
+    group: usize,
+    value: &Worth<'_>,
+) -> Result<(), AllocError>
+    ensures { OnOk result (columns.new.items ≡ set columns.old.items i (put_at (padded count (accumulated a.now.kind 0 []) (get_or columns.old.items i [])) group (wide_of value.now))) }
+{
+    if i < columns.len() {
+        put_row_in(&mut columns[i], alloc, a, count, group, value)?;
+    }
+    Ok(())
+}
+
+/// Lets each aggregate take a row more in one of so many groups.
+fn put_row(
+    columns: &mut Vec<Kept>,
+    alloc: Global,
     aggs: &[Aggregate],
+    count: usize,
+    group: usize,
     row: &[Value],
 ) -> Result<(), AllocError>
     requires bounded { All (λ a. is_bounded_aggregate a ≡ true) aggs.now }
     requires row { IsRow row.now }
-    ensures { OnOk result (tallies.new.items ≡ set tallies.old.items place (taken_by_all row.now aggs.now (get_or tallies.old.items place []))) }
+    ensures { OnOk result (columns.new.items ≡ each_put (λ (r : List Value). r) count (group ∷ []) (row.now ∷ []) aggs.now columns.old.items) }
 {
-    if place < tallies.len() {
-        tallies[place].take(alloc, aggs, row)?;
+    for (i, a) in aggs.iter().enumerate() {
+        put_row_at(columns, alloc, i, a, count, group, &argument_of(a, row))?;
     }
     Ok(())
 }
 
-/// The aggregates over the rows at places.
-fn first_run(
+/// Lets an aggregate take the rows at places of columns, each in one of so many groups.
+fn put_places_in(
+    column: &mut Kept,
     alloc: Global,
-    aggs: &[Aggregate],
+    a: &Aggregate,
+    count: usize,
     columns: &[Option<Block>],
+    groups: &[usize],
     places: &[usize],
-) -> Result<Tally, AllocError>
-    requires bounded { All (λ a. is_bounded_aggregate a ≡ true) aggs.now }
+) -> Result<(), AllocError>
+    requires bounded { is_bounded_aggregate a.now ≡ true }
     requires rows { AreRowsAt columns.now places.now }
-    ensures { IfOk result (λ t. t ≡ taken_by_each columns.now places.now aggs.now (fresh aggs.now)) }
+    requires long { length groups.now ≡ length places.now }
+    ensures { OnOk result (column.new ≡ put_each (λ p. argument_in a.now.arg (row_of columns.now p)) groups.now places.now (padded count (accumulated a.now.kind 0 []) column.old)) }
 {
-    let mut tally = Tally::new(alloc, aggs)?;
-    tally.take_run(alloc, aggs, columns, places)?;
-    Ok(tally)
+    column.pad(alloc, a.kind, count)?;
+    column.take_columns(alloc, a, columns, groups, places)
 }
 
-/// Lets the aggregates at this place take the rows at places of columns.
-fn take_run_at(
-    tallies: &mut Vec<Tally>,
+/// The same of the aggregate at place i.
+fn put_places_at(
+    kept: &mut Vec<Kept>,
     alloc: Global,
-    place: usize,
-    aggs: &[Aggregate],
+    i: usize,
+    a: &Aggregate,
+    count: usize,
     columns: &[Option<Block>],
+    groups: &[usize],
+    places: &[usize],
+) -> Result<(), AllocError>
+    requires bounded { is_bounded_aggregate a.now ≡ true }
+    requires rows { AreRowsAt columns.now places.now }
+    requires long { length groups.now ≡ length places.now }
+    ensures { OnOk result (kept.new.items ≡ set kept.old.items i (put_each (λ p. argument_in a.now.arg (row_of columns.now p)) groups.now places.now (padded count (accumulated a.now.kind 0 []) (get_or kept.old.items i [])))) }
+{
+    if i < kept.len() {
+        put_places_in(&mut kept[i], alloc, a, count, columns, groups, places)?;
+    }
+    Ok(())
+}
+
+/// Lets each aggregate take the rows at places of columns, each in one of so many groups.
+fn put_places(
+    kept: &mut Vec<Kept>,
+    alloc: Global,
+    aggs: &[Aggregate],
+    count: usize,
+    columns: &[Option<Block>],
+    groups: &[usize],
     places: &[usize],
 ) -> Result<(), AllocError>
     requires bounded { All (λ a. is_bounded_aggregate a ≡ true) aggs.now }
     requires rows { AreRowsAt columns.now places.now }
-    ensures { OnOk result (tallies.new.items ≡ set tallies.old.items place (taken_by_each columns.now places.now aggs.now (get_or tallies.old.items place []))) }
+    requires long { length groups.now ≡ length places.now }
+    ensures { OnOk result (kept.new.items ≡ each_put (row_of columns.now) count groups.now places.now aggs.now kept.old.items) }
 {
-    if place < tallies.len() {
-        tallies[place].take_run(alloc, aggs, columns, places)?;
+    for (i, a) in aggs.iter().enumerate() {
+        put_places_at(kept, alloc, i, a, count, columns, groups, places)?;
     }
     Ok(())
 }
 
-/// The values of each group's aggregates, and a fault where a sum is too great.
-fn worths(alloc: Global, tallies: &[Tally]) -> Result<Vec<WideRow>, GroupFault>
-    ensures values { IfOk result (λ v. v.items ≡ map (map worth_or_null) tallies.now) }
-    ensures in_range { OnOk result (All (All (λ a. a ≡ TooGreat → ⊥)) tallies.now) }
-    ensures great { IsErrOf result GroupFault.SumOutOfRange → HasTooGreat tallies.now }
+/// The values of the aggregates in a group, and a fault where a sum is too great there.
+fn worths_in(alloc: Global, columns: &[Kept], group: usize) -> Result<WideRow, GroupFault>
+    ensures values { IfOk result (λ r. r ≡ worths_at columns.now group) }
+    ensures in_range { OnOk result (FitsAt columns.now group) }
+    ensures great { IsErrOf result GroupFault.SumOutOfRange → IsGreatAt columns.now group }
 {
-    let mut out = Vec::with_capacity(alloc, tallies.len())?;
-    for tally in tallies {
-        match tally.worths(alloc) {
+    match column_worths(alloc, columns, group) {
+        Ok(values) => Ok(List::new(values)),
+        Err(fault) => Err(fault),
+    }
+}
+
+fn column_worths(alloc: Global, columns: &[Kept], group: usize) -> Result<Vec<Wide>, GroupFault>
+    ensures values { IfOk result (λ v. v.items ≡ worths_at columns.now group) }
+    ensures in_range { OnOk result (FitsAt columns.now group) }
+    ensures great { IsErrOf result GroupFault.SumOutOfRange → IsGreatAt columns.now group }
+{
+    let mut out = Vec::with_capacity(alloc, columns.len())?;
+    for column in columns {
+        match column.worth_at(alloc, group) {
+            Ok(value) => out.push(value)?,
+            Err(fault) => return Err(fault),
+        }
+    }
+    Ok(out)
+}
+
+/// The same in each of the first groups.
+fn worths(alloc: Global, columns: &[Kept], count: usize) -> Result<Vec<WideRow>, GroupFault>
+    ensures values { IfOk result (λ v. v.items ≡ worths_upto columns.now count) }
+    ensures in_range { OnOk result ((g : ℕ) → g < count → FitsAt columns.now g) }
+    ensures great { IsErrOf result GroupFault.SumOutOfRange → (g : ℕ) × (g < count) × IsGreatAt columns.now g }
+{
+    let mut out = Vec::with_capacity(alloc, count)?;
+    for group in 0..count {
+        match worths_in(alloc, columns, group) {
             Ok(values) => out.push(values)?,
             Err(fault) => return Err(fault),
         }

@@ -37,7 +37,7 @@ fn numbers_of<'a>(e: &Expr, columns: &'a [Option<Block>]) -> Option<&'a [i64]>
 }
 
 /// The lane of numbers of a column, if it is held so.
-fn column_numbers(columns: &[Option<Block>], column: usize) -> Option<&[i64]>
+pub fn column_numbers(columns: &[Option<Block>], column: usize) -> Option<&[i64]>
     ensures { IfSome result (λ ns. (place : ℕ) → slice_index_or (row_of columns.now place) column Null ≡ slice_index_or (map number_value ns.now) place Null) }
 {
     match columns.get(column) {

@@ -8,18 +8,20 @@
 #![tactic(auto)]
 
 mod accumulator;
+mod argument;
 mod cells;
 mod columns;
 mod fault;
 mod groups;
+mod held_keys;
+mod kept;
 mod lanes;
 mod numbers;
 mod runs;
-mod tally;
 mod total;
 
 pub use accumulator::Accumulator;
+pub use argument::argument_of;
 pub use cells::{row_at, worth_at};
 pub use fault::GroupFault;
 pub use groups::{Grouped, Groups};
-pub use tally::argument_of;

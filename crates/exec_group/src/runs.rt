@@ -1,7 +1,6 @@
-//! Rows beside each other that have one key.
+//! Rows of which columns show that they have one key.
 
-ghost use Rattle.std.specs.Prelude.{◌≡◌, ◌<◌, ◌≤◌, true, length, slice_index_or, take};
-ghost use Rattle.std.specs.List.{All};
+ghost use Rattle.std.specs.Prelude.{◌≡◌, ◌<◌, true, length, slice_index_or};
 ghost use Rattle.col_value.specs.declared.value.Value.TheVariants.{Null};
 ghost use Rattle.sql_bound.specs.Outputs.{keys_of};
 ghost use Rattle.exec_group.specs.Columns.{row_of};
@@ -34,7 +33,7 @@ fn is_same_in(columns: &[Option<Block>], column: usize, a: usize, b: usize) -> b
 }
 
 /// Whether columns show at a look that the rows at two places have one key.
-fn has_key_twice(keys: &[usize], columns: &[Option<Block>], a: usize, b: usize) -> bool
+pub fn has_key_twice(keys: &[usize], columns: &[Option<Block>], a: usize, b: usize) -> bool
     ensures { result ≡ true → keys_of keys.now (row_of columns.now a) ≡ keys_of keys.now (row_of columns.now b) }
 {
     for key in keys {
@@ -43,22 +42,4 @@ fn has_key_twice(keys: &[usize], columns: &[Option<Block>], a: usize, b: usize) 
         }
     }
     true
-}
-
-/// How many of the rows at places, from the first on, have the key of the row at `first`, as far as the columns show it.
-pub fn run_length(
-    keys: &[usize],
-    columns: &[Option<Block>],
-    first: usize,
-    places: &[usize],
-) -> usize
-    ensures within { result ≤ length places.now }
-    ensures same { All (λ i. keys_of keys.now (row_of columns.now i) ≡ keys_of keys.now (row_of columns.now first)) (take result places.now) }
-{
-    for (n, place) in places.iter().enumerate() {
-        if !has_key_twice(keys, columns, *place, first) {
-            return n;
-        }
-    }
-    places.len()
 }

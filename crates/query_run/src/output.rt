@@ -2,7 +2,7 @@
 
 ghost use Rattle.std.specs.Prelude.{◌≡◌, ◌++◌, ◌∷◌, true, List, [], map, IfOk, OnOk, IsErrOf};
 ghost use Rattle.std.specs.List.{All};
-ghost use Rattle.std.specs.Option.{option_map_or};
+ghost use Rattle.std.specs.Option.{IfSome, option_map_or};
 ghost use Rattle.col_value.specs.declared.value.Value.{Value};
 ghost use Rattle.col_value.specs.declared.wide.Wide.{Wide as Result};
 ghost use Rattle.sql_bound.specs.Bounds.{bound_of_aggregate, is_narrow};
@@ -10,10 +10,10 @@ ghost use Rattle.sql_bound.specs.Outputs.{output, IsSumTooGreat};
 ghost use Rattle.query_laws.specs.Bounded.{IsBoundedQuery};
 ghost use Rattle.query_laws.specs.Scopes.{is_shown, IsGroupOf};
 ghost use Rattle.query_run.specs.declared.fault.QueryFault.{QueryFault};
-ghost use Rattle.query_order.specs.Enough.{IsEnough};
-ghost use Rattle.query_run.specs.Outputs.{HasCollected, items_in, scope_of, scopes_of, shown};
+ghost use Rattle.query_order.specs.Enough.{AreFew, IsEnough};
+ghost use Rattle.query_run.specs.Outputs.{HasCollected, IsBar, items_in, scope_of, scopes_of, shown};
 
-use crate::collected::{Collected, add_row};
+use crate::collected::{Collected, add_made};
 use crate::fault::QueryFault;
 use crate::seen::has_windows;
 use crate::windows::of_windows;
@@ -95,13 +95,17 @@ fn add_shown(
     requires narrow { All (λ e. is_narrow (map bound_of_aggregate query.now.aggs) e ≡ true) query.now.items }
     requires having { option_map_or (is_narrow (map bound_of_aggregate query.now.aggs)) query.now.having true ≡ true }
     requires group { IsGroupOf query.now (scope_of keys.now aggs.now) }
-    ensures { OnOk result ((all : List (List Result)) → IsEnough query.now.order query.now.limit all out.old.items → IsEnough query.now.order query.now.limit (all ++ shown query.now (scope_of keys.now aggs.now ∷ [])) out.new.items) }
+    requires few { AreFew query.now.limit out.old.items }
+    requires bar { IfSome bar.old (IsBar query.now.order query.now.limit out.old.items) }
+    ensures enough { OnOk result ((all : List (List Result)) → IsEnough query.now.order query.now.limit all out.old.items → IsEnough query.now.order query.now.limit (all ++ shown query.now (scope_of keys.now aggs.now ∷ [])) out.new.items) }
+    ensures few { OnOk result (AreFew query.now.limit out.new.items) }
+    ensures bar { OnOk result (IfSome bar.new (IsBar query.now.order query.now.limit out.new.items)) }
 {
     if !is_shown(query, keys, aggs) {
         return Ok(());
     }
     let row = items_in(alloc, query, keys, aggs)?;
-    add_row(alloc, out, bar, query, row)
+    add_made(alloc, out, bar, query, row)
 }
 
 /// Whether HAVING is true of the group with these keys and aggregates.

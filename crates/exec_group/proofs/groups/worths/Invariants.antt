@@ -1,11 +1,9 @@
-use Rattle.std.proofs.Common.{◌≡◌, map, take}
-use Rattle.std.specs.List.{All}
-use Rattle.exec_group.specs.Accumulators.{worth_or_null}
-use Rattle.exec_group.specs.declared.accumulator.Accumulator.TheVariants.{TooGreat}
+use Rattle.std.proofs.Common.{◌≡◌, ℕ, ◌<◌}
+use Rattle.exec_group.specs.Groups.{worths_upto, FitsAt}
 use Rattle.exec_group.proofs.groups.worths.Given as goal
 
-abbrev pub invariant-loop-tally : goal.invariant-loop-tally
-invariant-loop-tally l = record {
-  values : l.out.items ≡ map (map worth_or_null) (take l.tally-index l.tallies);
-  in_range : All (All (λ a. a ≡ TooGreat → ⊥)) (take l.tally-index l.tallies);
+abbrev pub invariant-loop-group : goal.invariant-loop-group
+invariant-loop-group l = record {
+  values : l.out.items ≡ worths_upto l.columns l.group;
+  in_range : (g : ℕ) → g < l.group → FitsAt l.columns g;
 }

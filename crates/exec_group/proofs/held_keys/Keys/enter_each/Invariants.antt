@@ -1,0 +1,12 @@
+use Rattle.std.proofs.Common.{◌≡◌, Some, position, take}
+use Rattle.std.specs.Option.{IfSome}
+use Rattle.sql_bound.specs.Outputs.{keys_of, same_keys}
+use Rattle.exec_group.specs.Columns.{row_of}
+use Rattle.exec_group.specs.Groups.{AreEntered}
+use Rattle.exec_group.proofs.held_keys.Keys.enter_each.Given as goal
+
+abbrev pub invariant-loop-place : goal.invariant-loop-place
+invariant-loop-place l = record {
+  entered : AreEntered (λ p. keys_of l.keys (row_of l.columns p)) (take l.place-index l.places) l.fn.self l.self l.out.items;
+  known : IfSome l.known (λ k. position (λ x. same_keys x (keys_of l.keys (row_of l.columns k.0))) l.self ≡ Some k.1);
+}

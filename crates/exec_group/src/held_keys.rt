@@ -1,0 +1,369 @@
+//! The keys of groups, in the order in which they were met.
+
+ghost use Rattle.std.specs.Prelude.{◌≡◌, ℕ, slice_index_or, ◌++◌, ◌∷◌, [], Some, None, get_or, length, map, position, IfOk, IfNone, OnOk};
+ghost use Rattle.std.specs.Option.{IfSome};
+ghost use Rattle.block_codec.specs.Held.{number_value};
+ghost use Rattle.col_value.specs.declared.value.Value.TheVariants.{Null};
+ghost use Rattle.sql_bound.specs.Outputs.{keys_of, same_keys};
+ghost use Rattle.exec_group.specs.Columns.{row_of};
+ghost use Rattle.exec_group.specs.Groups.{met_one, AreEntered};
+ghost use Rattle.exec_group.specs.NumberKeys.{null_number, number_key, IsNoKey, IsNoNumber};
+
+use crate::cells::key_at;
+use crate::lanes::column_numbers;
+use crate::runs::has_key_twice;
+use block_codec::{Block, number_value};
+use col_value::{List, Row, Value};
+use row_keys::{KeyTable, NumberTable, key_of};
+use std::alloc::{AllocError, Global};
+use std::marker::Model;
+
+/// How the keys are held: as numbers, where each is one number or NULL, or one by one.
+#[derive(Drop)]
+pub enum Form {
+    Numbers(NumberTable),
+    Rows(KeyTable),
+}
+
+/// Keys, which contracts see as their list.
+#[derive(Drop)]
+pub struct Keys {
+    form: Form,
+}
+
+impl Model for Keys {
+    ghost use Rattle.std.specs.Prelude.{List};
+    ghost use Rattle.col_value.specs.declared.value.Value.{Value as Cell};
+    ghost use Rattle.exec_group.specs.NumberKeys.{keys_held};
+
+    ghost Value = { List (List Cell) };
+
+    ghost view = { λ k. keys_held k.form };
+}
+
+impl Keys {
+    /// No keys of so many columns; they take no memory.
+    pub fn new(alloc: Global, columns: usize) -> Keys
+        ensures { result ≡ [] }
+    {
+        if columns == 1 {
+            Keys {
+                form: Form::Numbers(NumberTable::new(alloc)),
+            }
+        } else {
+            Keys {
+                form: Form::Rows(KeyTable::new(alloc)),
+            }
+        }
+    }
+
+    /// How many there are.
+    pub fn len(&self) -> usize
+        ensures { result ≡ length self.now }
+    {
+        match &self.form {
+            Form::Numbers(numbers) => numbers.numbers().len(),
+            Form::Rows(rows) => rows.keys().len(),
+        }
+    }
+
+    /// The place of a key.
+    fn find(&self, key: &Row) -> Option<usize>
+        ensures { result ≡ position (λ k. same_keys k key.now) self.now }
+    {
+        match &self.form {
+            Form::Numbers(numbers) => find_number(numbers, key.as_slice()),
+            Form::Rows(rows) => rows.find_key(key),
+        }
+    }
+
+    /// The place of a row's key.
+    fn find_row(&self, keys: &[usize], row: &[Value]) -> Option<usize>
+        ensures { result ≡ position (λ k. same_keys k (keys_of keys.now row.now)) self.now }
+    {
+        match &self.form {
+            Form::Numbers(numbers) => find_row_number(numbers, keys, row),
+            Form::Rows(rows) => rows.find(keys, row),
+        }
+    }
+
+    /// Puts a key behind the others, of which none is the same.
+    pub fn add(&mut self, alloc: Global, key: Row) -> Result<(), AllocError>
+        requires { position (λ k. same_keys k key) self.old ≡ None }
+        ensures { OnOk result (self.new ≡ self.old ++ key ∷ []) }
+    {
+        match &mut self.form {
+            Form::Numbers(numbers) => match number_of(key.as_slice()) {
+                Some(n) => numbers.add(alloc, n),
+                None => {
+                    let mut rows = rows_of(alloc, numbers.numbers())?;
+                    rows.add_key(key)?;
+                    self.form = Form::Rows(rows);
+                    Ok(())
+                },
+            },
+            Form::Rows(rows) => rows.add_key(key),
+        }
+    }
+
+    /// The place of a row's key, which is put behind the others where it isn't there.
+    pub fn enter_row(
+        &mut self,
+        alloc: Global,
+        keys: &[usize],
+        row: &[Value],
+    ) -> Result<usize, AllocError>
+        ensures met { OnOk result (self.new ≡ met_one self.old (keys_of keys.now row.now)) }
+        ensures there { IfOk result (λ g. position (λ k. same_keys k (keys_of keys.now row.now)) self.new ≡ Some g) }
+    {
+        match self.find_row(keys, row) {
+            Some(place) => Ok(place),
+            None => {
+                let place = self.len();
+                self.add(alloc, key_of(alloc, keys, row)?)?;
+                Ok(place)
+            },
+        }
+    }
+
+    /// The same of the row at a place of columns.
+    fn enter_at(
+        &mut self,
+        alloc: Global,
+        keys: &[usize],
+        columns: &[Option<Block>],
+        place: usize,
+    ) -> Result<usize, AllocError>
+        ensures met { OnOk result (self.new ≡ met_one self.old (keys_of keys.now (row_of columns.now place))) }
+        ensures there { IfOk result (λ g. position (λ k. same_keys k (keys_of keys.now (row_of columns.now place))) self.new ≡ Some g) }
+    {
+        let key = key_at(alloc, keys, columns, place)?;
+        match self.find(&key) {
+            Some(place) => Ok(place),
+            None => {
+                let place = self.len();
+                self.add(alloc, key)?;
+                Ok(place)
+            },
+        }
+    }
+
+    /// The same, where the place of the key of one row is known.
+    fn enter_beside(
+        &mut self,
+        alloc: Global,
+        keys: &[usize],
+        columns: &[Option<Block>],
+        place: usize,
+        known: Option<(usize, usize)>,
+    ) -> Result<usize, AllocError>
+        requires known { IfSome known (λ k. position (λ x. same_keys x (keys_of keys.now (row_of columns.now k.0))) self.old ≡ Some k.1) }
+        ensures met { OnOk result (self.new ≡ met_one self.old (keys_of keys.now (row_of columns.now place))) }
+        ensures there { IfOk result (λ g. position (λ k. same_keys k (keys_of keys.now (row_of columns.now place))) self.new ≡ Some g) }
+    {
+        if let Some((first, group)) = known {
+            if has_key_twice(keys, columns, place, first) {
+                return Ok(group);
+            }
+        }
+        self.enter_at(alloc, keys, columns, place)
+    }
+
+    /// The places of the keys of the rows at places of columns, of which those that aren't there are put behind the others.
+    fn enter_each(
+        &mut self,
+        alloc: Global,
+        keys: &[usize],
+        columns: &[Option<Block>],
+        places: &[usize],
+    ) -> Result<Vec<usize>, AllocError>
+        ensures { IfOk result (λ v. AreEntered (λ p. keys_of keys.now (row_of columns.now p)) places.now self.old self.new v.items) }
+    {
+        let mut out = Vec::with_capacity(alloc, places.len())?;
+        let mut known = None;
+        for place in places {
+            let group = self.enter_beside(alloc, keys, columns, *place, known)?;
+            out.push(group)?;
+            known = Some((*place, group));
+        }
+        Ok(out)
+    }
+
+    /// The same, from a lane of numbers where the keys and the columns are such.
+    pub fn enter_columns(
+        &mut self,
+        alloc: Global,
+        keys: &[usize],
+        columns: &[Option<Block>],
+        places: &[usize],
+    ) -> Result<Vec<usize>, AllocError>
+        ensures { IfOk result (λ v. AreEntered (λ p. keys_of keys.now (row_of columns.now p)) places.now self.old self.new v.items) }
+    {
+        if let Form::Numbers(numbers) = &mut self.form {
+            if let Some(lane) = key_lane(keys, columns) {
+                return enter_numbers(numbers, alloc, keys, columns, lane, places);
+            }
+        }
+        self.enter_each(alloc, keys, columns, places)
+    }
+
+    /// The keys, given back.
+    pub fn into_rows(self, alloc: Global) -> Result<Vec<Row>, AllocError>
+        ensures { IfOk result (λ v. v.items ≡ self) }
+    {
+        let Keys { form } = self;
+        match form {
+            Form::Numbers(numbers) => number_rows(alloc, numbers.numbers()),
+            Form::Rows(rows) => Ok(rows.into_keys()),
+        }
+    }
+}
+
+/// The number that stands for a value: -2^63 for NULL.
+fn number_in(value: &Value) -> Option<i64>
+    ensures some { IfSome result (λ n. number_value n ≡ value.now) }
+    ensures none { IfNone result (IsNoNumber value.now) }
+{
+    match value {
+        Value::Null => Some(i64::MIN),
+        Value::Int(n) if *n != i64::MIN => Some(*n),
+        _ => None,
+    }
+}
+
+/// The number that stands for a key, if it is one.
+fn number_of(key: &[Value]) -> Option<i64>
+    ensures some { IfSome result (λ n. number_key n ≡ key.now) }
+    ensures none { IfNone result (IsNoKey key.now) }
+{
+    match key {
+        [value] => number_in(value),
+        _ => None,
+    }
+}
+
+/// The place of a key among keys that are numbers.
+fn find_number(numbers: &NumberTable, key: &[Value]) -> Option<usize>
+    ensures { result ≡ position (λ k. same_keys k key.now) (map number_key numbers.now) }
+{
+    match number_of(key) {
+        Some(n) => numbers.find(n),
+        None => None,
+    }
+}
+
+/// The number that stands for the value of a column of a row, if it is one.
+fn number_in_row(row: &[Value], column: usize) -> Option<i64>
+    ensures some { IfSome result (λ n. number_value n ≡ slice_index_or row.now column Null) }
+    ensures none { IfNone result (IsNoNumber (slice_index_or row.now column Null)) }
+{
+    match row.get(column) {
+        Some(value) => number_in(value),
+        None => Some(i64::MIN),
+    }
+}
+
+/// The number that stands for a row's key, if it is one.
+fn row_number(keys: &[usize], row: &[Value]) -> Option<i64>
+    ensures some { IfSome result (λ n. number_key n ≡ keys_of keys.now row.now) }
+    ensures none { IfNone result (IsNoKey (keys_of keys.now row.now)) }
+{
+    match keys {
+        [column] => number_in_row(row, *column),
+        _ => None,
+    }
+}
+
+/// The place of a row's key among keys that are numbers.
+fn find_row_number(numbers: &NumberTable, keys: &[usize], row: &[Value]) -> Option<usize>
+    ensures { result ≡ position (λ k. same_keys k (keys_of keys.now row.now)) (map number_key numbers.now) }
+{
+    match row_number(keys, row) {
+        Some(n) => numbers.find(n),
+        None => None,
+    }
+}
+
+/// The lane of numbers of a key of one column, if it is held so.
+fn key_lane<'a>(keys: &[usize], columns: &'a [Option<Block>]) -> Option<&'a [i64]>
+    ensures { IfSome result (λ ns. (place : ℕ) → number_key (get_or ns.now place null_number) ≡ keys_of keys.now (row_of columns.now place)) }
+{
+    match keys {
+        [column] => column_numbers(columns, *column),
+        _ => None,
+    }
+}
+
+/// The number of a lane at a place; that of NULL where there is none.
+fn lane_number(lane: &[i64], place: usize) -> i64
+    ensures { result ≡ get_or lane.now place null_number }
+{
+    match lane.get(place) {
+        Some(n) => *n,
+        None => i64::MIN,
+    }
+}
+
+/// The place of a number, which is put behind the others where it isn't there.
+fn enter_number(numbers: &mut NumberTable, alloc: Global, n: i64) -> Result<usize, AllocError>
+    ensures met { OnOk result (map number_key numbers.new ≡ met_one (map number_key numbers.old) (number_key n)) }
+    ensures there { IfOk result (λ g. position (λ k. same_keys k (number_key n)) (map number_key numbers.new) ≡ Some g) }
+{
+    match numbers.find(n) {
+        Some(place) => Ok(place),
+        None => {
+            let place = numbers.numbers().len();
+            numbers.add(alloc, n)?;
+            Ok(place)
+        },
+    }
+}
+
+/// The places of the numbers that a lane shows as the keys of the rows at places.
+fn enter_numbers(
+    numbers: &mut NumberTable,
+    alloc: Global,
+    keys: &[usize],
+    columns: &[Option<Block>],
+    lane: &[i64],
+    places: &[usize],
+) -> Result<Vec<usize>, AllocError>
+    requires { (place : ℕ) → number_key (get_or lane.now place null_number) ≡ keys_of keys.now (row_of columns.now place) }
+    ensures { IfOk result (λ v. AreEntered (λ p. keys_of keys.now (row_of columns.now p)) places.now (map number_key numbers.old) (map number_key numbers.new) v.items) }
+{
+    let mut out = Vec::with_capacity(alloc, places.len())?;
+    for place in places {
+        let group = enter_number(numbers, alloc, lane_number(lane, *place))?;
+        out.push(group)?;
+    }
+    Ok(out)
+}
+
+/// The row of a number.
+fn number_row(alloc: Global, n: i64) -> Result<Row, AllocError>
+    ensures { IfOk result (λ r. r ≡ number_key n) }
+{
+    Ok(List::new(Vec::from_array(alloc, [number_value(n)])?))
+}
+
+/// The rows of numbers.
+fn number_rows(alloc: Global, numbers: &[i64]) -> Result<Vec<Row>, AllocError>
+    ensures { IfOk result (λ v. v.items ≡ map number_key numbers.now) }
+{
+    let mut out = Vec::with_capacity(alloc, numbers.len())?;
+    for n in numbers {
+        out.push(number_row(alloc, *n)?)?;
+    }
+    Ok(out)
+}
+
+/// The same, each found by its digest.
+fn rows_of(alloc: Global, numbers: &[i64]) -> Result<KeyTable, AllocError>
+    ensures { IfOk result (λ t. t ≡ map number_key numbers.now) }
+{
+    let mut out = KeyTable::new(alloc);
+    for n in numbers {
+        out.add_key(number_row(alloc, *n)?)?;
+    }
+    Ok(out)
+}
