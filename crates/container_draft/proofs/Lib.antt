@@ -7,3 +7,7 @@ pub mod Joined
 pub mod Marks
 pub mod Rising
 pub mod OneOrder
+pub mod Full
+pub mod ByLanes
+pub mod Loaded
+pub mod Widths

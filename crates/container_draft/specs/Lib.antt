@@ -1,6 +1,7 @@
 pub mod Draft
 pub mod Finished
 pub mod Keeping
-pub mod Ordering
+pub mod Lanes
 pub mod Placed
 pub mod Reading
+pub mod Spots

@@ -10,11 +10,11 @@ ghost use Rattle.ros_container.specs.Files.{body_of, index_of};
 ghost use Rattle.ros_container.specs.Rows.{stored_values};
 ghost use Rattle.container_draft.specs.Placed.{all_at};
 
+use crate::rows::Rows;
 use crate::values::stored_values;
 use catalog_types::Projection;
 use col_disk::{Disk, DiskFault};
 use col_file::write_column;
-use col_value::Asked;
 use ros_container::{body_of, encoding_of, index_of};
 use std::alloc::{AllocError, Global};
 
@@ -24,7 +24,7 @@ pub fn write_one<D: Disk>(
     disk: &mut D,
     base: u64,
     shape: &Projection,
-    rows: &[Asked],
+    rows: &Rows,
     places: &[usize],
     column: usize,
 ) -> Result<(), DiskFault>

@@ -21,9 +21,9 @@ ghost use Rattle.container_draft.specs.Reading.{del_of};
 
 use crate::columns::write_one;
 use crate::finishing::write_end;
+use crate::rows::Rows;
 use catalog_types::Projection;
 use col_disk::{Disk, DiskFault};
-use col_value::Asked;
 use container_writer::Written;
 use std::alloc::Global;
 use std::marker::Model;
@@ -32,7 +32,7 @@ use std::marker::Model;
 /// many columns are done.
 #[derive(Drop)]
 pub struct Draft {
-    rows: Vec<Asked>,
+    rows: Rows,
     places: Vec<usize>,
     base: u64,
     done: usize,
@@ -44,7 +44,7 @@ impl Model for Draft {
 
     ghost Value = { Drafted };
 
-    ghost view = { λ d. seen d.rows.items d.places.items d.base d.done };
+    ghost view = { λ d. seen d.rows d.places.items d.base d.done };
 }
 
 /// Makes the files of a column; where there are no rows there is nothing to make.
@@ -53,7 +53,7 @@ fn write_next<D: Disk>(
     disk: &mut D,
     base: u64,
     shape: &Projection,
-    rows: &[Asked],
+    rows: &Rows,
     places: &[usize],
     column: usize,
 ) -> Result<(), DiskFault>
@@ -71,8 +71,8 @@ fn write_next<D: Disk>(
 
 impl Draft {
     /// Rows of which those at some places are to be written. It takes no memory.
-    pub fn new(rows: Vec<Asked>, places: Vec<usize>, base: u64) -> Draft
-        ensures { result ≡ seen rows.items places.items base 0 }
+    pub fn new(rows: Rows, places: Vec<usize>, base: u64) -> Draft
+        ensures { result ≡ seen rows places.items base 0 }
     {
         Draft {
             rows,
@@ -111,7 +111,7 @@ impl Draft {
             disk,
             self.base,
             shape,
-            self.rows.as_slice(),
+            &self.rows,
             self.places.as_slice(),
             self.done,
         ) {
@@ -147,9 +147,9 @@ impl Draft {
                 next,
             });
         }
-        let (rows, places) = (self.rows.as_slice(), self.places.as_slice());
+        let places = self.places.as_slice();
         write_end(
-            alloc, disk, shape, rows, places, self.base, dels, level, next,
+            alloc, disk, shape, &self.rows, places, self.base, dels, level, next,
         )
     }
 }

@@ -20,17 +20,17 @@ ghost use Rattle.container_draft.specs.Placed.{asked_at, all_at, seen};
 ghost use Rattle.container_draft.specs.Reading.{del_of};
 
 use crate::marking::vector_of;
+use crate::rows::Rows;
 use crate::values::epoch_at;
 use catalog_types::{Container, Projection};
 use col_disk::{Disk, DiskFault};
-use col_value::Asked;
 use container_writer::{Written, write_vector};
 use std::alloc::{AllocError, Global};
 
 // Numbers are drawn below this one.
 const MOST_NUMBERS: u64 = 1 << 61;
 
-fn least_epoch(rows: &[Asked], places: &[usize]) -> u64
+fn least_epoch(rows: &Rows, places: &[usize]) -> u64
     ensures { All (λ i. result ≤ (asked_at rows.now i).ins) places.now }
 {
     let mut least = u64::MAX;
@@ -40,7 +40,7 @@ fn least_epoch(rows: &[Asked], places: &[usize]) -> u64
     least
 }
 
-fn greatest_epoch(rows: &[Asked], places: &[usize]) -> u64
+fn greatest_epoch(rows: &Rows, places: &[usize]) -> u64
     ensures { All (λ i. (asked_at rows.now i).ins ≤ result) places.now }
 {
     let mut greatest: u64 = 0;
@@ -51,7 +51,7 @@ fn greatest_epoch(rows: &[Asked], places: &[usize]) -> u64
 }
 
 /// The entry of a container of the rows at some places, none of them deleted, which stores so many columns.
-fn entry_of(base: u64, rows: &[Asked], places: &[usize], level: u32, columns: usize) -> Container
+fn entry_of(base: u64, rows: &Rows, places: &[usize], level: u32, columns: usize) -> Container
     ensures base { result.base ≡ base }
     ensures stored { result.stored ≡ columns }
     ensures rows { result.rows ≡ length places.now }
@@ -91,7 +91,7 @@ pub fn write_end<D: Disk>(
     alloc: Global,
     disk: &mut D,
     shape: &Projection,
-    rows: &[Asked],
+    rows: &Rows,
     places: &[usize],
     base: u64,
     dels: &[Option<u64>],

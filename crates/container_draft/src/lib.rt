@@ -6,15 +6,19 @@
 //! `IsDraft` of `specs/Draft.antt` says.
 #![tactic(auto)]
 
+mod column;
 mod columns;
 mod deletes;
 mod draft;
 mod finishing;
 mod keeping;
+mod lanes;
+mod loading;
 mod marking;
 mod order;
 mod ordering;
 mod reading;
+mod rows;
 mod values;
 
 pub use deletes::{chosen_deletes, deletes_by};
@@ -22,3 +26,4 @@ pub use draft::Draft;
 pub use keeping::{deletes_at, kept_places};
 pub use ordering::in_order;
 pub use reading::{chosen_rows, is_chosen};
+pub use rows::Rows;

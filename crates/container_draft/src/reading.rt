@@ -1,6 +1,6 @@
 //! The rows of chosen containers.
 
-ghost use Rattle.std.specs.Prelude.{◌≡◌, ◌++◌, Some, slice_index_or, false, IfOk, IfErr, OnOk};
+ghost use Rattle.std.specs.Prelude.{◌≡◌, Some, slice_index_or, false, IfOk, IfErr, OnOk};
 ghost use Rattle.common_laws.specs.Causes.{HasCause};
 ghost use Rattle.common_laws.specs.Maps.{Contents};
 ghost use Rattle.col_disk.specs.Moved.{Moved, NoName};
@@ -11,18 +11,12 @@ ghost use Rattle.proj_store.specs.Reading.{BlamesRows};
 ghost use Rattle.merge_rows.specs.Inputs.{chosen};
 ghost use Rattle.container_draft.specs.Reading.{JoinsIf, HoldEach};
 
+use crate::loading::read_lanes;
+use crate::rows::Rows;
 use catalog_types::{Container, Projection};
 use col_disk::{Disk, StoreFault};
-use col_value::Asked;
 use proj_store::ProjStore;
 use std::alloc::{AllocError, Global};
-
-fn add_rows(rows: &mut Vec<Asked>, more: Vec<Asked>) -> Result<(), AllocError>
-    ensures { OnOk result (rows.new.items ≡ rows.old.items ++ more.items) }
-{
-    let mut more = more;
-    rows.append(&mut more)
-}
 
 /// Whether the container at a place is chosen.
 pub fn is_chosen(inputs: &[bool], place: usize) -> bool
@@ -41,10 +35,10 @@ fn read_if<D: Disk>(
     shape: &Projection,
     container: &Container,
     wanted: bool,
-    rows: &mut Vec<Asked>,
+    rows: &mut Rows,
 ) -> Result<(), StoreFault>
     requires readable { IsReadable shape.now.columns container.now }
-    ensures read { OnOk result ((m : Contents) → D.holds disk.old ≡ Some m → JoinsIf wanted m (written_of shape.now) container.now rows.old.items rows.new.items) }
+    ensures read { OnOk result ((m : Contents) → D.holds disk.old ≡ Some m → JoinsIf wanted m (written_of shape.now) container.now rows.old rows.new) }
     ensures blamed { IfErr result (BlamesContainer (written_of shape.now) container.now (D.holds disk.old)) }
     ensures kept { D.holds disk.new ≡ D.holds disk.old }
     ensures moved { Moved ⟦<D as Disk>⟧ NoName NoName disk.old disk.new }
@@ -53,11 +47,11 @@ fn read_if<D: Disk>(
     if !wanted {
         return Ok(());
     }
-    let read = match ros_container::rows(alloc, disk, container, shape) {
-        Ok(read) => read,
+    let lanes = match read_lanes(alloc, disk, container, shape) {
+        Ok(lanes) => lanes,
         Err(fault) => return Err(fault),
     };
-    match add_rows(rows, read) {
+    match rows.push(lanes) {
         Ok(()) => Ok(()),
         Err(AllocError) => Err(StoreFault::Memory),
     }
@@ -69,8 +63,8 @@ pub fn chosen_rows<D: Disk>(
     disk: &mut D,
     p: &ProjStore,
     inputs: &[bool],
-) -> Result<Vec<Asked>, StoreFault>
-    ensures read { IfOk result (λ v. (m : Contents) → D.holds disk.old ≡ Some m → HoldEach m (written_of p.now.stored.entry) (chosen inputs.now p.now.stored.entry.containers) v.items) }
+) -> Result<Rows, StoreFault>
+    ensures read { IfOk result (λ v. (m : Contents) → D.holds disk.old ≡ Some m → HoldEach m (written_of p.now.stored.entry) (chosen inputs.now p.now.stored.entry.containers) v) }
     ensures blamed { IfErr result (BlamesRows p.now.stored.entry (D.holds disk.old)) }
     ensures kept { D.holds disk.new ≡ D.holds disk.old }
     ensures moved { Moved ⟦<D as Disk>⟧ NoName NoName disk.old disk.new }
@@ -78,7 +72,7 @@ pub fn chosen_rows<D: Disk>(
 {
     let shape = p.entry();
     let containers = shape.containers.as_slice();
-    let mut rows = Vec::new(alloc);
+    let mut rows = Rows::of(alloc, Vec::new(alloc));
     for (i, container) in containers.iter().enumerate() {
         let wanted = is_chosen(inputs, i);
         match read_if(alloc, disk, shape, container, wanted, &mut rows) {

@@ -3,13 +3,16 @@
 ghost use Rattle.std.specs.Prelude.{◌≡◌, map, pos, slice_index_or, IfOk};
 ghost use Rattle.std.specs.List.{All};
 ghost use Rattle.block_choice.specs.Choice.{TakesAll};
+ghost use Rattle.block_codec.specs.Held.{cell_value};
 ghost use Rattle.col_value.specs.Order.{IsValue};
 ghost use Rattle.col_value.specs.declared.value.Value.TheVariants.{Int, Null};
 ghost use Rattle.ros_container.specs.Rows.{column_values, epoch_values, stored_values};
 ghost use Rattle.container_draft.specs.Placed.{asked_at, all_at};
 
+use crate::rows::Rows;
 use block_choice::takes_all;
-use col_value::{Asked, Encoding, Row, Value};
+use block_codec::Cell;
+use col_value::{Encoding, Value};
 use std::alloc::{AllocError, Global};
 use value_bytes::is_value;
 
@@ -37,36 +40,28 @@ fn taken(values: Vec<Value>, encoding: Encoding) -> Result<Vec<Value>, AllocErro
     }
 }
 
-/// The value of a row in a column; one that is not there is NULL.
-fn value_of(alloc: Global, row: &Row, column: usize) -> Result<Value, AllocError>
-    ensures { IfOk result (λ v. v ≡ slice_index_or row.now column Null) }
+/// The value of a cell, of its own.
+fn owned(alloc: Global, cell: Cell) -> Result<Value, AllocError>
+    ensures { IfOk result (λ v. v ≡ cell_value cell.entry) }
 {
-    match row.as_slice().get(column) {
-        Some(value) => value.copy(alloc),
-        None => Ok(Value::Null),
+    match cell {
+        Cell::Lent(value) => value.copy(alloc),
+        Cell::Made(value) => Ok(value),
     }
 }
 
 /// The value of the row at a place; a row that is not there has none.
-fn value_at(alloc: Global, rows: &[Asked], place: usize, column: usize) -> Result<Value, AllocError>
+fn value_at(alloc: Global, rows: &Rows, place: usize, column: usize) -> Result<Value, AllocError>
     ensures { IfOk result (λ v. v ≡ slice_index_or (asked_at rows.now place).row column Null) }
 {
-    if place < rows.len() {
-        value_of(alloc, &rows[place].row, column)
-    } else {
-        Ok(Value::Null)
-    }
+    owned(alloc, rows.spot(place).cell(column))
 }
 
 /// The epoch of the row at a place.
-pub fn epoch_at(rows: &[Asked], place: usize) -> u64
+pub fn epoch_at(rows: &Rows, place: usize) -> u64
     ensures { result ≡ (asked_at rows.now place).ins }
 {
-    if place < rows.len() {
-        rows[place].ins
-    } else {
-        0
-    }
+    rows.spot(place).epoch()
 }
 
 /// An epoch as a number.
@@ -81,7 +76,7 @@ fn number_of(epoch: u64) -> Result<Value, AllocError>
 
 fn column_values(
     alloc: Global,
-    rows: &[Asked],
+    rows: &Rows,
     places: &[usize],
     column: usize,
 ) -> Result<Vec<Value>, AllocError>
@@ -96,7 +91,7 @@ fn column_values(
     Ok(out)
 }
 
-fn epoch_values(alloc: Global, rows: &[Asked], places: &[usize]) -> Result<Vec<Value>, AllocError>
+fn epoch_values(alloc: Global, rows: &Rows, places: &[usize]) -> Result<Vec<Value>, AllocError>
     ensures same { IfOk result (λ v. v.items ≡ epoch_values (all_at rows.now places.now)) }
     ensures values { IfOk result (λ v. All IsValue v.items) }
 {
@@ -112,7 +107,7 @@ fn epoch_values(alloc: Global, rows: &[Asked], places: &[usize]) -> Result<Vec<V
 pub fn stored_values(
     alloc: Global,
     columns: usize,
-    rows: &[Asked],
+    rows: &Rows,
     places: &[usize],
     column: usize,
     encoding: Encoding,

@@ -90,7 +90,7 @@ fn drafted<D: Disk>(
         Ok(rows) => rows,
         Err(fault) => return Err(fault),
     };
-    match in_order(alloc, p.entry(), rows.as_slice(), kept.as_slice()) {
+    match in_order(p.entry(), &rows, kept) {
         Ok(places) => Ok(Draft::new(rows, places, base)),
         Err(AllocError) => Err(StoreFault::Memory),
     }

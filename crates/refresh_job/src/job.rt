@@ -27,8 +27,8 @@ use crate::entry::refreshed_entry;
 use crate::rows::{all_places, asked, deletes, refs, wanted_rows};
 use catalog_types::Projection;
 use col_disk::{Disk, DiskFault, StoreFault};
-use col_value::{Asked, Stamped};
-use container_draft::{Draft, deletes_at, in_order};
+use col_value::Stamped;
+use container_draft::{Draft, Rows, deletes_at, in_order};
 use container_writer::{Written, write_stamped};
 use proj_store::ProjStore;
 use ros_container::one_container;
@@ -66,7 +66,7 @@ pub struct Refreshed {
 /// Rows with their places in the order of a container.
 #[derive(Drop)]
 struct InOrder {
-    rows: Vec<Asked>,
+    rows: Rows,
     dels: Vec<Option<u64>>,
     places: Vec<usize>,
 }
@@ -80,23 +80,24 @@ fn ordered(
     mark: u64,
     epoch: u64,
 ) -> Result<InOrder, AllocError>
-    ensures rows { IfOk result (λ o. o.rows.items ≡ map asked_of (wanted mark epoch false via.now rows.now)) }
+    ensures rows { IfOk result (λ o. o.rows ≡ map asked_of (wanted mark epoch false via.now rows.now)) }
     ensures dels { IfOk result (λ o. o.dels.items ≡ map del_of (wanted mark epoch false via.now rows.now)) }
-    ensures same { IfOk result (λ o. SameBag (range_with_len 0 (length o.rows.items)) o.places.items) }
-    ensures within { IfOk result (λ o. All (λ i. i < length o.rows.items) o.places.items) }
-    ensures ascending { IfOk result (λ o. IsSorted (λ i j. container_cmp shape.now (asked_at o.rows.items i) (asked_at o.rows.items j)) o.places.items) }
+    ensures same { IfOk result (λ o. SameBag (range_with_len 0 (length o.rows)) o.places.items) }
+    ensures within { IfOk result (λ o. All (λ i. i < length o.rows) o.places.items) }
+    ensures ascending { IfOk result (λ o. IsSorted (λ i j. container_cmp shape.now (asked_at o.rows i) (asked_at o.rows j)) o.places.items) }
 {
     let first = wanted_rows(alloc, rows, via, mark, epoch, false)?;
     let dels = deletes(alloc, first.as_slice())?;
     let rows = asked(alloc, first)?;
     let all = all_places(alloc, rows.len())?;
-    let places = in_order(alloc, shape, rows.as_slice(), all.as_slice())?;
+    let rows = Rows::of(alloc, rows);
+    let places = in_order(shape, &rows, all)?;
     Ok(InOrder { rows, dels, places })
 }
 
 /// What is in order as a draft.
 fn into_draft(found: InOrder, base: u64) -> Draft
-    ensures { result ≡ seen found.rows.items found.places.items base 0 }
+    ensures { result ≡ seen found.rows found.places.items base 0 }
 {
     let InOrder { rows, dels, places } = found;
     drop(dels);

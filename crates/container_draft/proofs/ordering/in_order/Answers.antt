@@ -1,21 +1,14 @@
-use Rattle.std.proofs.Common.{length}
+use Rattle.std.proofs.Common.{ℕ, List, ◌≡◌, ◌<◌, ◌≤◌, length, arith, refl, subst}
+use Rattle.std.specs.List.{All}
+use Rattle.std.proofs.lemmas.List.Elements.{All-weaker}
+use Rattle.std.proofs.lemmas.List.Sorted.{All-permutation}
 use Rattle.std.proofs.lemmas.Result.{IfOk-weaker}
-use Rattle.container_draft.proofs.Rising.{ordered_same, ordered_within, ordered_rises}
 use Rattle.container_draft.proofs.ordering.in_order.Goals as goal
-
-pub returns-clause-same : goal.returns-clause-same
-returns-clause-same c =
-    IfOk-weaker c.places_of.result _ _
-    (λ v is. ordered_same c.args.places.now c.in_ok-found.found.items c.in_ok-rising.rising.items c.as_slice.result.now v.items c.in_ok-found.ensures.places c.in_ok-rising.ensures.same c.as_slice.ensures.value is) c.places_of.ensures
-
-pub returns-clause-ascending : goal.returns-clause-ascending
-returns-clause-ascending c =
-    IfOk-weaker c.places_of.result _ _
-    (λ v is. ordered_rises c.args.shape.now c.args.rows.now c.in_ok-found.found.items c.in_ok-rising.rising.items c.as_slice.result.now v.items c.in_ok-found.ensures.stand c.in_ok-rising.ensures.same c.in_ok-rising.ensures.ascending
-    c.as_slice.ensures.value is)
-    c.places_of.ensures
 
 pub returns-clause-within : goal.returns-clause-within
 returns-clause-within c =
-    IfOk-weaker c.places_of.result _ _
-    (λ v is. ordered_within (length c.args.rows.now) c.in_ok-found.found.items c.in_ok-rising.rising.items c.as_slice.result.now v.items c.in_ok-found.ensures.within c.in_ok-rising.ensures.same c.as_slice.ensures.value is) c.places_of.ensures
+    let count = c.count.ensures in
+    let below : All (λ (i : ℕ). i < c.count.result) c.args.places.items = subst (All (λ (i : ℕ). i < c.count.result)) c.as_slice.ensures.value (c.if-not-are_below.ensures refl) in
+    let within : All (λ (i : ℕ). i < length c.args.rows.now) c.args.places.items =
+    All-weaker (λ (i : ℕ). i < c.count.result) (λ (i : ℕ). i < length c.args.rows.now) (λ i lt. omega (arith, lt, count)) c.args.places.items below in
+    IfOk-weaker c.sorted.result _ _ (λ v same. All-permutation (λ (i : ℕ). i < length c.args.rows.now) c.args.places.items v.items same within) c.sorted.ensures.same

@@ -11,7 +11,7 @@ use Rattle.container_draft.proofs.reading.chosen_rows.Goals as goal
 
 pub loop-i-init : goal.loop-i-init
 loop-i-init g c = record {
-  read = λ m told. hold_none m (written_of c.args.p.now.stored.entry) c.args.inputs.now c.args.p.now.stored.entry.containers c.new-rows.result.items c.new-rows.ensures.items;
+  read = λ m told. hold_none m (written_of c.args.p.now.stored.entry) c.args.inputs.now c.args.p.now.stored.entry.containers c.of-rows.result (c.of-rows.ensures ∙ c.new.ensures.items);
   kept = refl;
   moved = moved_none g.D.Disk c.args.disk.now;
 }
@@ -34,10 +34,10 @@ loop-i-preserved g c =
     let i = c.loop-i.i in
     let shown : ks ≡ p.entry.containers = search rules in
     record {
-      read = λ m told. hold_more m (written_of p.entry) i c.args.inputs.now ks p.entry.containers (item ks i) c.loop-i.rows.items c.read_if.new.rows.items shown c.loop-i-test.true (item_is ks i c.loop-i-test.true)
+      read = λ m told. hold_more m (written_of p.entry) i c.args.inputs.now ks p.entry.containers (item ks i) c.loop-i.rows c.read_if.new.rows shown c.loop-i-test.true (item_is ks i c.loop-i-test.true)
           (c.loop-i.invariant.read m told)
-          (subst (λ (f : Bool). JoinsIf f m (written_of p.entry) (item ks i) c.loop-i.rows.items c.read_if.new.rows.items) c.is_chosen-wanted.ensures
-          (subst (λ (e : Projection). JoinsIf c.is_chosen-wanted.result m (written_of e) (item ks i) c.loop-i.rows.items c.read_if.new.rows.items) c.entry-shape.ensures.entry (c.in-Ok.ensures.read m (c.loop-i.invariant.kept ∙ told))));
+          (subst (λ (f : Bool). JoinsIf f m (written_of p.entry) (item ks i) c.loop-i.rows c.read_if.new.rows) c.is_chosen-wanted.ensures
+          (subst (λ (e : Projection). JoinsIf c.is_chosen-wanted.result m (written_of e) (item ks i) c.loop-i.rows c.read_if.new.rows) c.entry-shape.ensures.entry (c.in-Ok.ensures.read m (c.loop-i.invariant.kept ∙ told))));
       kept = c.read_if.ensures.kept ∙ c.loop-i.invariant.kept;
       moved = moved_join g.D.Disk c.loop-i.invariant.moved c.read_if.ensures.moved;
     }
@@ -47,7 +47,7 @@ returns-clause-read g c = λ m told.
     let p = c.args.p.now.stored in
     let ks = c.as_slice-containers.result.now in
     let shown : ks ≡ p.entry.containers = search rules in
-    hold_all m (written_of p.entry) c.loop-i.i c.args.inputs.now ks p.entry.containers c.loop-i.rows.items shown c.loop-i-test.false (c.loop-i.invariant.read m told)
+    hold_all m (written_of p.entry) c.loop-i.i c.args.inputs.now ks p.entry.containers c.loop-i.rows shown c.loop-i-test.false (c.loop-i.invariant.read m told)
 
 pub returns-in-Err-clause-moved : goal.returns-in-Err-clause-moved
 returns-in-Err-clause-moved g c = moved_join g.D.Disk c.loop-i.invariant.moved c.read_if.ensures.moved

@@ -9,7 +9,7 @@ use Rattle.container_draft.proofs.reading.chosen_rows.Given as goal
 
 abbrev pub invariant-loop-i : goal.invariant-loop-i
 invariant-loop-i g l = record {
-  read : (m : Contents) → g.D.Disk.holds l.fn.disk ≡ Some m → HoldEach m (written_of l.p.stored.entry) (chosen (take l.i l.inputs) (take l.i l.p.stored.entry.containers)) l.rows.items;
+  read : (m : Contents) → g.D.Disk.holds l.fn.disk ≡ Some m → HoldEach m (written_of l.p.stored.entry) (chosen (take l.i l.inputs) (take l.i l.p.stored.entry.containers)) l.rows;
   kept : g.D.Disk.holds l.disk ≡ g.D.Disk.holds l.fn.disk;
   moved : Moved g.D.Disk NoName NoName l.fn.disk l.disk;
 }

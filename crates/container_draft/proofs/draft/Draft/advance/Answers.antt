@@ -1,4 +1,4 @@
-use Rattle.std.proofs.Common.{length, sym}
+use Rattle.std.proofs.Common.{length, refl, sym}
 use Rattle.std.proofs.lemmas.List.{length-map}
 use Rattle.ros_container.specs.Encodings.{written_as, written_of}
 use Rattle.container_draft.proofs.Drafted.{goes_on_at}
@@ -8,5 +8,5 @@ pub returns-clause-goes_on : goal.returns-clause-goes_on
 returns-clause-goes_on g c =
     let shape = c.args.shape.now in
     let inside = c.self.inside in
-    goes_on_at g.D.Disk (written_of shape) (length shape.columns) inside.rows.items c.as_slice.result.now inside.places.items c.as_slice-2.result.now inside.base inside.done c.args.self.now (sym (length-map shape.columns written_as))
-    c.as_slice.ensures.value c.as_slice-2.ensures.value c.self.view_is c.in-Ok.ensures.held c.write_next.ensures.moved
+    goes_on_at g.D.Disk (written_of shape) (length shape.columns) inside.rows inside.rows inside.places.items c.as_slice.result.now inside.base inside.done c.args.self.now (sym (length-map shape.columns written_as))
+    refl c.as_slice.ensures.value c.self.view_is c.in-Ok.ensures.held c.write_next.ensures.moved

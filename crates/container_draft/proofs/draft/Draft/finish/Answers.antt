@@ -1,4 +1,4 @@
-use Rattle.std.proofs.Common.{length}
+use Rattle.std.proofs.Common.{length, refl}
 use Rattle.col_disk.proofs.Moving.{moved_none}
 use Rattle.ros_container.specs.Encodings.{written_of}
 use Rattle.container_draft.proofs.Ended.{finish_held, finish_numbers}
@@ -11,11 +11,11 @@ pub returns-clause-held : goal.returns-clause-held
 returns-clause-held g c =
     let shape = c.args.shape.now in
     let inside = c.self.inside in
-    finish_held c.write_end.result (written_of shape) (length shape.columns) c.args.next inside.rows.items c.as_slice-rows.result.now inside.places.items c.as_slice-places.result.now inside.base inside.done c.args.dels.now c.args.self.now
-    (g.D.Disk.holds c.args.disk.now) (g.D.Disk.holds c.write_end.new.disk) c.as_slice-rows.ensures.value c.as_slice-places.ensures.value c.self.view_is c.write_end.ensures.held
+    finish_held c.write_end.result (written_of shape) (length shape.columns) c.args.next inside.rows inside.rows inside.places.items c.as_slice-places.result.now inside.base inside.done c.args.dels.now c.args.self.now
+    (g.D.Disk.holds c.args.disk.now) (g.D.Disk.holds c.write_end.new.disk) refl c.as_slice-places.ensures.value c.self.view_is c.write_end.ensures.held
 
 pub returns-clause-numbers : goal.returns-clause-numbers
 returns-clause-numbers g c =
     let inside = c.self.inside in
-    finish_numbers c.write_end.result (length c.args.shape.now.columns) c.args.level c.args.next inside.rows.items c.as_slice-rows.result.now inside.places.items c.as_slice-places.result.now inside.base inside.done c.args.self.now c.as_slice-rows.ensures.value
+    finish_numbers c.write_end.result (length c.args.shape.now.columns) c.args.level c.args.next inside.rows inside.rows inside.places.items c.as_slice-places.result.now inside.base inside.done c.args.self.now refl
     c.as_slice-places.ensures.value c.self.view_is c.write_end.ensures.numbers

@@ -5,4 +5,4 @@ use Rattle.container_draft.specs.Placed.{asked_at}
 use Rattle.container_draft.proofs.draft.Draft.places.Goals as goal
 
 pub returns-clause-count : goal.returns-clause-count
-returns-clause-count c = ap length c.as_slice.ensures.value ∙ sym (length-map c.self.inside.places.items (asked_at c.self.inside.rows.items)) ∙ ap (λ (d : Drafted). length d.rows) c.self.view_is
+returns-clause-count c = ap length c.as_slice.ensures.value ∙ sym (length-map c.self.inside.places.items (asked_at c.self.inside.rows)) ∙ ap (λ (d : Drafted). length d.rows) c.self.view_is

@@ -1,0 +1,93 @@
+//! A column in memory.
+
+ghost use Rattle.std.specs.Prelude.{◌≡◌, ◌++◌, [], get_or, slice_index_or, IsTrue, OnOk};
+ghost use Rattle.block_codec.specs.Held.{cell_value};
+ghost use Rattle.col_value.specs.declared.value.Value.TheVariants.{Null};
+ghost use Rattle.container_draft.specs.Lanes.{EndsFull};
+
+use block_codec::{Block, Cell};
+use col_value::Value;
+use std::alloc::{AllocError, Global};
+use std::marker::Model;
+
+// Each block but the last has so many values.
+const BLOCK: usize = 1024;
+
+/// The values of a column, in the blocks in which they stand on disk.
+#[derive(Drop)]
+pub struct Column {
+    pieces: Vec<Block>,
+}
+
+impl Model for Column {
+    ghost use Rattle.std.specs.Prelude.{List};
+    ghost use Rattle.col_value.specs.declared.value.Value.{Value as Item};
+    ghost use Rattle.container_draft.specs.Lanes.{joined, AreFull};
+
+    ghost Value = { List Item };
+
+    ghost view = { λ c. joined c.pieces.items };
+
+    ghost invariant = { λ c. AreFull c.pieces.items };
+}
+
+/// The value at a place of a block, or NULL.
+fn cell_in(block: &Block, i: usize) -> Cell<'_>
+    ensures { cell_value result ≡ slice_index_or block.now i Null }
+{
+    if i < block.len() {
+        block.cell(i)
+    } else {
+        Cell::Made(Value::Null)
+    }
+}
+
+/// The value at a place of block k, or NULL.
+fn cell_at(blocks: &[Block], k: usize, i: usize) -> Cell<'_>
+    ensures { cell_value result ≡ slice_index_or (get_or blocks.now k []) i Null }
+{
+    match blocks.get(k) {
+        Some(block) => cell_in(block, i),
+        None => Cell::Made(Value::Null),
+    }
+}
+
+/// Whether a block may follow: the last one is full.
+fn may_follow(blocks: &[Block]) -> bool
+    ensures { IsTrue result → EndsFull blocks.now }
+{
+    match blocks.last() {
+        Some(block) => block.len() == BLOCK,
+        None => true,
+    }
+}
+
+impl Column {
+    /// A column without values. It takes no memory.
+    pub fn new(alloc: Global) -> Column
+        ensures { result ≡ [] }
+    {
+        Column {
+            pieces: Vec::new(alloc),
+        }
+    }
+
+    /// The values of a block behind the others. A block that is too long, or whose values would stand behind a block that isn't full, is
+    /// answered as want of memory: no column has such.
+    pub fn push(&mut self, block: Block) -> Result<(), AllocError>
+        ensures { OnOk result (self.new ≡ self.old ++ block) }
+    {
+        if block.len() > BLOCK || !may_follow(self.pieces.as_slice()) {
+            return Err(AllocError);
+        }
+        self.pieces.push(block)?;
+        Ok(())
+    }
+
+    /// The value at a place, or NULL where none stands there.
+    pub fn cell(&self, place: usize) -> Cell<'_>
+        ensures { cell_value result ≡ slice_index_or self.now place Null }
+    {
+        cell_at(self.pieces.as_slice(), place / BLOCK, place % BLOCK)
+    }
+}

@@ -1,0 +1,94 @@
+//! The rows of a container in memory.
+
+ghost use Rattle.std.specs.Prelude.{◌≡◌, length, get_or, slice_index_or};
+ghost use Rattle.block_codec.specs.Held.{cell_value};
+ghost use Rattle.col_value.specs.declared.value.Value.TheVariants.{Null};
+ghost use Rattle.container_draft.specs.Lanes.{row_by, rows_by};
+ghost use Rattle.container_draft.specs.Placed.{asked_at};
+
+use crate::column::Column;
+use block_codec::Cell;
+use col_value::Value;
+use std::marker::Model;
+
+/// Rows that are held by their columns, with the epochs that inserted them.
+#[derive(Drop)]
+pub struct Lanes {
+    columns: Vec<Column>,
+    epochs: Vec<u64>,
+}
+
+impl Model for Lanes {
+    ghost use Rattle.std.specs.Prelude.{List};
+    ghost use Rattle.col_value.specs.declared.row.Asked.{Asked};
+    ghost use Rattle.container_draft.specs.Lanes.{row_by, rows_by};
+
+    ghost Value = { List Asked };
+
+    ghost view = { λ l. rows_by l.columns.items l.epochs.items };
+}
+
+/// The value of a column at a place; a column that is not there has NULL.
+fn cell_of(columns: &[Column], place: usize, column: usize) -> Cell<'_>
+    ensures { cell_value result ≡ slice_index_or (row_by columns.now place) column Null }
+{
+    match columns.get(column) {
+        Some(column) => column.cell(place),
+        None => Cell::Made(Value::Null),
+    }
+}
+
+/// The epoch at a place; where none stands there it is 0.
+fn epoch_in(epochs: &[u64], place: usize) -> u64
+    ensures { result ≡ get_or epochs.now place 0 }
+{
+    match epochs.get(place) {
+        Some(epoch) => *epoch,
+        None => 0,
+    }
+}
+
+impl Lanes {
+    /// The rows with these epochs whose columns have these values.
+    pub fn new(columns: Vec<Column>, epochs: Vec<u64>) -> Lanes
+        ensures { result ≡ rows_by columns.items epochs.items }
+    {
+        Lanes { columns, epochs }
+    }
+
+    /// How many rows there are.
+    pub fn len(&self) -> usize
+        ensures { result ≡ length self.now }
+    {
+        self.epochs.as_slice().len()
+    }
+
+    /// The value of the row at a place in a column, or NULL.
+    pub fn cell(&self, place: usize, column: usize) -> Cell<'_>
+        ensures { cell_value result ≡ slice_index_or (asked_at self.now place).row column Null }
+    {
+        if place < self.len() {
+            cell_of(self.columns.as_slice(), place, column)
+        } else {
+            Cell::Made(Value::Null)
+        }
+    }
+
+    /// How many values the row at a place has.
+    pub fn width(&self, place: usize) -> usize
+        ensures { result ≡ length (asked_at self.now place).row }
+    {
+        if place < self.len() {
+            self.columns.as_slice().len()
+        } else {
+            0
+        }
+    }
+
+    /// The epoch of the row at a place.
+    pub fn epoch(&self, place: usize) -> u64
+        ensures { result ≡ (asked_at self.now place).ins }
+    {
+        epoch_in(self.epochs.as_slice(), place)
+    }
+}
