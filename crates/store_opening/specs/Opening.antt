@@ -44,7 +44,7 @@ WhereBlamedAt Fact Memory = Unit {0}
 abbrev pub BlamesAbsent : Catalogue → Option Contents → ℕ → Type 0
 BlamesAbsent c holds q = OfSome (λ k. IsListedOf k q) c × ((m : Contents) → holds ≡ Some m → get m q ≡ None)
 
--- a file of a container that holds no rows, where the catalogue is cut
+-- a file of a container that isn't what it has to be, where the catalogue is cut
 abbrev pub BlamesCut : Catalogue → Option Contents → ℕ → Type 0
 BlamesCut c holds q = (is_past c (least_lge c) ≡ true) × cut.BlamesTables c.tables holds (Damaged q)
 
