@@ -35,7 +35,8 @@ const MOST_BYTES: usize = 67_108_864;
 /// script's statements in order over them, each with K steps of the mover behind it, and writes what each prints. At the end, after `Done`
 /// and `Refused`, all tables are on the disk, but with `--halt`, which leaves the end out. Each status comes as `Status` says; `Memory` is
 /// free to come at any time. What is said of a script that is read holds where the files tell their content, what is said of the written
-/// bytes where the sink tells them, and what is said of the tables where the disk tells what it holds.
+/// bytes where the sink tells them, and what is said of the tables where the disk tells what it holds. `Damaged` comes of the opening, and
+/// then it names a file that keeps the folder from opening and no file was removed, or of a folder that opened.
 ///
 /// An audit reads no script: it judges the folder, writes the verdict, and writes and removes no file. `Done` and `AuditNo` tell whether the
 /// folder reopens, which no other status of an audit does.
