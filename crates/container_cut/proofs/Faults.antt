@@ -26,6 +26,7 @@ use Rattle.vector_files.specs.Blamed.{IsNoVectorAt, BlamesVector}
 use Rattle.container_writer.specs.Writing.{DataFrom}
 use Rattle.container_cut.specs.Listed.{IsBelow, IsListedBelow}
 use Rattle.container_cut.specs.Blamed.{IsDamageOf, IsDamageIn, Blames, BlamesOne}
+use Rattle.container_cut.proofs.Bad.{bad_back, front_bad}
 use Rattle.container_cut.proofs.Below.{SameBelow, below_data, container_same}
 use Rattle.container_cut.proofs.Fronts.{front as narrowed, narrow}
 
@@ -42,6 +43,7 @@ no_vector k holds q (Some v) is m told marks held = is.1 m told marks held
 pub vector_blamed : (p : Projection) (k : Container) (holds : Option Contents) (fault : StoreFault) → BlamesVector k holds fault → BlamesOne p k holds fault
 vector_blamed p k holds (Damaged q) is = λ m told. record {
   listed = inr (vector_listed k holds q k.marks is);
+  bad = inr (subst (λ (h : Option Contents). BlamesVector k h (Damaged q)) told is);
   none = λ rows held. no_vector k holds q k.marks is m told held.0 held.3;
 }
 vector_blamed p k holds Disk is = tt
@@ -61,6 +63,7 @@ pub rows_blamed : (p : Projection) (k : Container) (es : List Written) (holds : 
     → (fault : StoreFault) → BlamesContainer es k holds fault → HoldsNoRows es k holds fault → BlamesOne p k holds fault
 rows_blamed p k es holds front le (Damaged q) is nowhere = λ m told. record {
   listed = inl (file_named es k holds q is);
+  bad = inl (front_bad es (written_of p) k (Some m) q front (subst (λ (h : Option Contents). BlamesContainer es k h (Damaged q)) told is));
   none = λ rows (marks, here, more, vector, (asked, held, stamp), rest, are).
       nowhere m told (map (narrowed k.stored) asked) (subst (λ (ws : List Written). HoldsContainer m ws k (map (narrowed k.stored) asked)) (sym front) (narrow m (written_of p) k asked le held));
 }
@@ -74,11 +77,13 @@ pub rows_same : (m n : Contents) (p : Projection) (ks : List Container) (rows : 
 rows_same m n p ks rows same held = entry_kept m n (record p { containers = ks }) rows same held
 
 pub damage_back : (m l : Contents) (first : ℕ) (p : Projection) (q : ℕ) (k : Container) → SameBelow first m l → IsBelow first p.columns k → IsDamageOf p l q k → IsDamageOf p m q k
-damage_back m l first p q k same below is = record {
-  listed = is.listed;
-  none = λ rows held.
-      is.none rows (rows_same m l p (k ∷ []) rows (All-cons (SameFiles m l) k [] (container_same m l first p.columns k same below) (All-nil (SameFiles m l))) held);
-}
+damage_back m l first p q k same below is =
+    let files = container_same m l first p.columns k same below in
+    record {
+      listed = is.listed;
+      bad = bad_back p m l q k files is.bad;
+      none = λ rows held. is.none rows (rows_same m l p (k ∷ []) rows (All-cons (SameFiles m l) k [] files (All-nil (SameFiles m l))) held);
+    }
 
 pub any_back : {X : Type 0} (P Q Low : X → Type 0) (xs : List X) → ((x : X) → Low x → P x → Q x) → All Low xs → Any P xs → Any Q xs
 any_back P Q Low xs h low (i, x, lt, is, p) = (i, x, lt, is, h x (All-contains Low xs x low (i, lt, is)) p)

@@ -53,7 +53,7 @@ all_one f d (a ∷ rows) all =
 
 -- ---- the columns
 
-encoding_front : (es : List Written) (n i : ℕ) → i < n → encoding_at (take n es) i ≡ encoding_at es i
+pub encoding_front : (es : List Written) (n i : ℕ) → i < n → encoding_at (take n es) i ≡ encoding_at es i
 encoding_front es n i lt = ap (λ (w : Written). w.encoding) (get_or-take n es i as_epochs lt)
 
 -- a default behind the columns that are stored

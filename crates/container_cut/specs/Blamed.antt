@@ -1,5 +1,5 @@
 -- Which file is to blame where a cut finds no rows.
-use Rattle.std.specs.Prelude.{ℕ, ◌≡◌, List, [], ◌∷◌, length, Option, Some}
+use Rattle.std.specs.Prelude.{ℕ, ◌≡◌, ◌⊎◌, List, [], ◌∷◌, length, Option, Some}
 use Rattle.std.specs.List.{Any}
 use Rattle.common_laws.specs.Maps.{Contents}
 use Rattle.col_disk.specs.declared.disk.StoreFault.{StoreFault}
@@ -8,12 +8,19 @@ use Rattle.col_value.specs.declared.row.Stamped.{Stamped}
 use Rattle.catalog_types.specs.declared.catalogue.Container.{Container}
 use Rattle.catalog_types.specs.declared.catalogue.Projection.{Projection}
 use Rattle.ros_container.specs.Encodings.{written_of}
+use Rattle.ros_container.specs.Held.{BlamesContainer}
 use Rattle.stored_rows.specs.Listed.{IsListedOf}
 use Rattle.stored_rows.specs.Held.{HoldsRows}
+use Rattle.vector_files.specs.Blamed.{BlamesVector}
 
--- the file is one of a container of a projection, or its delete vector, and the container with its delete vector holds no rows
+-- the file isn't what it has to be: of a column that is stored, or of the epochs, the index, or the body whose index is one; or the delete vector
+abbrev pub IsBadFile : Projection → Contents → ℕ → Container → Type 0
+IsBadFile p m q k = BlamesContainer (written_of p) k (Some m) (Damaged q) ⊎ BlamesVector k (Some m) (Damaged q)
+
+-- the file is one of a container of a projection, or its delete vector, and it is bad; so the container with its delete vector holds no rows
 pub record IsDamageOf (p : Projection) (m : Contents) (q : ℕ) (k : Container) : Type 0 where
   pub listed : IsListedOf k q
+  pub bad : IsBadFile p m q k
   pub none : (rows : List Stamped) → HoldsRows m (written_of p) (k ∷ []) rows → ⊥
 
 abbrev pub IsDamageAmong : Projection → Contents → ℕ → List Container → Type 0

@@ -23,7 +23,7 @@ ghost use Rattle.db_model.specs.Sound.{RowFits};
 ghost use Rattle.sound_laws.specs.Moves.{moved_at};
 ghost use Rattle.table_store.specs.Moving.{IsFreshAt};
 ghost use Rattle.folder_model.specs.Reopening.{Reopens};
-ghost use Rattle.store_opening.specs.Opening.{BlamesOpening, IsStartOf, IsStill};
+ghost use Rattle.store_opening.specs.Opening.{BlamesOpening, IsLeftAlone, IsOpening, IsStartOf, IsStill, WhereBlamed};
 ghost use Rattle.store_core.specs.Running.{IsState, frame_of};
 ghost use Rattle.store_core.specs.Waiting.{has_name};
 ghost use Rattle.store_core.specs.Sessions.{with_current, with_own, with_pending};
@@ -99,11 +99,13 @@ fn place_in(tables: &[Table], name: &[u8]) -> Option<usize>
 
 impl Store {
     /// The tables of a folder, over which nothing is pending; session 1 is the current one. `Damaged` names a file that keeps the folder from
-    /// opening.
+    /// opening, and then no file was removed.
     pub fn open<D: Disk>(alloc: Global, disk: &mut D) -> Result<Store, StoreFault>
         ensures opened { IfOk result (λ s. (m : Contents) (d : Database) → D.holds disk.old ≡ Some m → Reopens m d → (parts : ℕ) × IsStartOf m s.seen.catalogue.next parts × IsState ⟦<D as Disk>⟧ s disk.new (opened_with s.seen.catalogue.next parts d)) }
         ensures any_moment { (m : Contents) (d : Database) → D.holds disk.old ≡ Some m → Reopens m d → Leaves ⟦<D as Disk>⟧ (IsStill ⟦<D as Disk>⟧ disk.old d) disk.old disk.new }
+        ensures opens { IfOk result (λ s. (m : Contents) → D.holds disk.old ≡ Some m → IsOpening m) }
         ensures blamed { IfErr result (BlamesOpening (D.holds disk.old)) }
+        ensures untouched { IfErr result (WhereBlamed (IsLeftAlone ⟦<D as Disk>⟧ disk.old disk.new)) }
         ensures cause { HasCause StoreFault.Disk (D.faults disk.old) (D.faults disk.new) result }
     {
         let txns = match Txns::new(alloc) {

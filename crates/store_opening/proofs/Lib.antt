@@ -6,3 +6,4 @@ mod Started
 pub mod Unblamed
 pub mod Untouched
 mod Absent
+mod There

@@ -27,6 +27,7 @@ use Rattle.folder_model.specs.Reopening.{IsTableAt, IsCutOf, ReopensBy, Reopens}
 use Rattle.ros_container.specs.Encodings.{Written, written_of}
 use Rattle.stored_rows.specs.Held.{HoldsVectorAt, HoldsVector, HoldsMarked, HoldsRows}
 use Rattle.store_opening.specs.Opening.{BlamesListed, BlamesOpening}
+use Rattle.store_opening.proofs.Absent.{held_there}
 use Rattle.vector_files.specs.Blamed.{IsNoVectorAt}
 
 -- ---- a container of a projection whose files hold rows
@@ -71,18 +72,27 @@ listed_held m v c d root is_cut i t lt is j p below there n k within at =
     held_in m c.ahm (least_lge c) found.0.rows p p.fresh
     (All-contains (λ e. OnTrue e.fresh (HoldsHistory m c.ahm (least_lge c) found.0.rows e)) t.projections p found.1.rows (j, below, there)) entry.stale n k within at
 
+not_absent : {X : Type 0} (o : Option X) → o ≡ None → IsSome o → ⊥
+not_absent None none some = absurd (cc)
+not_absent (Some x) none some = absurd (cc)
+
 none_listed : (m : Contents) (v : ℕ) (c : Catalogue) (d : Database) (q : ℕ) → IsRoot m v c → IsCutOf m c d → BlamesListed c (Some m) (Damaged q) → ⊥
-none_listed m v c d q root is_cut (inl blamed) =
+none_listed m v c d q root is_cut (inl (some, absent)) =
+    let entry = some.4 in
+    let container = entry.4 in
+    let held = listed_held m v c d root is_cut some.0 some.1 some.2 some.3 entry.0 entry.1 entry.2 entry.3 container.0 container.1 container.2 container.3 in
+    not_absent (get m q) (absent m refl) (held_there m (written_of entry.1) container.1 (held.1 ++ []) q (held.0, held.1, [], held.2, held.3, refl, refl) container.4)
+none_listed m v c d q root is_cut (inr (inl table)) =
+    let entry = table.4 in
+    let container = entry.4 in
+    let held = listed_held m v c d root is_cut table.0 table.1 table.2 table.3 entry.0 entry.1 entry.2 entry.3 container.0 container.1 container.2 container.3 in
+    has_vector m container.1 q container.1.marks held.0 held.2 container.4
+none_listed m v c d q root is_cut (inr (inr (past, blamed))) =
     let table = blamed m refl in
     let entry = table.4 in
     let container = entry.4 in
     not_damaged m entry.1 q container.1
     (listed_held m v c d root is_cut table.0 table.1 table.2 table.3 entry.0 entry.1 entry.2 entry.3 container.0 container.1 container.2 container.3) container.4
-none_listed m v c d q root is_cut (inr table) =
-    let entry = table.4 in
-    let container = entry.4 in
-    let held = listed_held m v c d root is_cut table.0 table.1 table.2 table.3 entry.0 entry.1 entry.2 entry.3 container.0 container.1 container.2 container.3 in
-    has_vector m container.1 q container.1.marks held.0 held.2 container.4
 
 -- ---- roots
 
@@ -91,11 +101,7 @@ none_damaged m q Fresh fresh (inl (v, is, gate, none)) = fresh.closed v gate.is_
 none_damaged m q (Root w c) root (inl (v, is, gate, none)) =
     let same = one_gate m w v root.gate gate in
     none c (record { valid = root.valid; below = subst (λ x. x < c.next) same root.below }) (subst (λ x. HoldsBody (get m (body_file x)) c) same root.body)
-none_damaged m q Fresh fresh (inr (n, is, closed, least)) = no_some (get m (data_file n)) (fresh.blank n) least.there
-  where
-    no_some : (o : Option (List ℕ)) → o ≡ None → IsSome o → ⊥
-    no_some None none some = absurd (cc)
-    no_some (Some x) none some = absurd (cc)
+none_damaged m q Fresh fresh (inr (n, is, closed, least)) = not_absent (get m (data_file n)) (fresh.blank n) least.there
 none_damaged m q (Root w c) root (inr (n, is, closed, least)) = closed w root.gate.is_open
 
 none_found : (m : Contents) (d : Database) (q v : ℕ) (c : Catalogue) (found : Found) → Opens m found → ReopensBy m found d → IsRoot m v c → BlamesListed c (Some m) (Damaged q) → ⊥

@@ -3,7 +3,8 @@
 //! A folder reopens to the database of `Reopens` of `folder_model/specs/Reopening.antt`: its tables, cut at the one epoch up to which every
 //! up-to-date projection has all its rows on disk. `open` answers a `TableStore` that stands for it. Where files hold later rows or
 //! deletes it writes the cut containers under new numbers and commits a catalogue that lists them; whatever a crash leaves of that, the
-//! folder reopens to the same database. No row is read but of containers that are cut. A listed file that is absent is blamed before anything is removed.
+//! folder reopens to the same database. No row is read but of containers that are cut. Where a file is blamed, none was removed: `IsLeftAlone` of
+//! `specs/Opening.antt`.
 #![tactic(auto)]
 
 mod laws;

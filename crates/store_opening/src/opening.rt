@@ -1,6 +1,6 @@
 //! The opening.
 
-ghost use Rattle.std.specs.Prelude.{ℕ, ◌≡◌, ◌&&◌, ◌+◌, ◌<◌, ◌≤◌, nat_lt, Some, false, map, IfOk, IfErr};
+ghost use Rattle.std.specs.Prelude.{ℕ, ◌≡◌, ◌⊎◌, ◌&&◌, ◌+◌, ◌<◌, ◌≤◌, nat_lt, Some, true, false, map, IfOk, IfErr};
 ghost use Rattle.std.specs.List.{All, list_any};
 ghost use Rattle.common_laws.specs.Causes.{HasCause};
 ghost use Rattle.common_laws.specs.Maps.{Contents};
@@ -22,7 +22,7 @@ ghost use Rattle.folder_model.specs.Reopening.{Reopens};
 ghost use Rattle.store_commit.specs.Seen.{Stands};
 ghost use Rattle.table_store.specs.Held.{projections_of};
 ghost use Rattle.store_opening.specs.Loading.{AreEntriesOf, BlamesTables};
-ghost use Rattle.store_opening.specs.Opening.{BlamesListed, BlamesOpening, IsOpenedFrom, IsOpenedOf, IsQuietFor, IsStill};
+ghost use Rattle.store_opening.specs.Opening.{BlamesListed, BlamesOpening, HasBegunCut, IsLeftAlone, IsOpenedFrom, IsOpenedOf, IsOpening, IsQuietFor, IsStill, IsThere, WhereBlamed};
 
 use crate::loading::load_tables;
 use crate::missing::look_for_files;
@@ -43,7 +43,9 @@ pub fn open<D: Disk>(alloc: Global, disk: &mut D) -> Result<TableStore, StoreFau
     ensures numbers { IfOk result (λ s. (m : Contents) (d : Database) → D.holds disk.old ≡ Some m → Reopens m d → IsOpenedOf m s.catalogue) }
     ensures any_moment { (m : Contents) (d : Database) → D.holds disk.old ≡ Some m → Reopens m d → Leaves ⟦<D as Disk>⟧ (IsStill ⟦<D as Disk>⟧ disk.old d) disk.old disk.new }
     ensures unwritten { (m : Contents) (v : ℕ) (c : Listing) → D.holds disk.old ≡ Some m → IsRoot m v c → is_past c (least_lge c) ≡ false → Moved ⟦<D as Disk>⟧ NoName (IsUnlisted v c) disk.old disk.new }
+    ensures opens { IfOk result (λ s. (m : Contents) → D.holds disk.old ≡ Some m → IsOpening m) }
     ensures blamed { IfErr result (BlamesOpening (D.holds disk.old)) }
+    ensures untouched { IfErr result (WhereBlamed (IsLeftAlone ⟦<D as Disk>⟧ disk.old disk.new)) }
     ensures cause { HasCause StoreFault.Disk (D.faults disk.old) (D.faults disk.new) result }
 {
     match catalog_root::open(alloc, disk) {
@@ -86,7 +88,9 @@ fn open_root<D: Disk>(
     ensures stands { IfOk result (λ s. (m : Contents) (d : Database) → IsQuietFor ⟦<D as Disk>⟧ disk.old version catalogue d m → Stands ⟦<D as Disk>⟧ s disk.new d) }
     ensures numbers { IfOk result (λ s. (m : Contents) (d : Database) → IsQuietFor ⟦<D as Disk>⟧ disk.old version catalogue d m → IsOpenedFrom catalogue s.catalogue) }
     ensures any_moment { (m : Contents) (d : Database) → IsQuietFor ⟦<D as Disk>⟧ disk.old version catalogue d m → Leaves ⟦<D as Disk>⟧ (λ x. Reopens x d) disk.old disk.new }
+    ensures there { IfOk result (λ s. (m : Contents) → D.holds disk.old ≡ Some m → IsThere m catalogue) }
     ensures blamed { IfErr result (BlamesListed catalogue (D.holds disk.old)) }
+    ensures untouched { IfErr result (WhereBlamed (Looks ⟦<D as Disk>⟧ disk.old disk.new ⊎ HasBegunCut ⟦<D as Disk>⟧ catalogue disk.old disk.new)) }
     ensures unwritten { is_past catalogue (least_lge catalogue) ≡ false → Moved ⟦<D as Disk>⟧ NoName (IsUnlisted version catalogue) disk.old disk.new }
     ensures cause { HasCause StoreFault.Disk (D.faults disk.old) (D.faults disk.new) result }
 {
@@ -109,7 +113,9 @@ fn keep<D: Disk>(
     ensures stands { IfOk result (λ s. (m : Contents) (d : Database) → IsQuietFor ⟦<D as Disk>⟧ disk.old version catalogue d m → Stands ⟦<D as Disk>⟧ s disk.new d) }
     ensures numbers { IfOk result (λ s. (m : Contents) (d : Database) → IsQuietFor ⟦<D as Disk>⟧ disk.old version catalogue d m → IsOpenedFrom catalogue s.catalogue) }
     ensures any_moment { (m : Contents) (d : Database) → IsQuietFor ⟦<D as Disk>⟧ disk.old version catalogue d m → Leaves ⟦<D as Disk>⟧ (λ x. Reopens x d) disk.old disk.new }
+    ensures there { IfOk result (λ s. (m : Contents) → D.holds disk.old ≡ Some m → IsThere m catalogue) }
     ensures blamed { IfErr result (BlamesListed catalogue (D.holds disk.old)) }
+    ensures untouched { IfErr result (WhereBlamed (Looks ⟦<D as Disk>⟧ disk.old disk.new)) }
     ensures unwritten { Moved ⟦<D as Disk>⟧ NoName (IsUnlisted version catalogue) disk.old disk.new }
     ensures cause { HasCause StoreFault.Disk (D.faults disk.old) (D.faults disk.new) result }
 {
@@ -130,9 +136,10 @@ fn load_root<D: Disk>(
     disk: &mut D,
     root: &Catalogue,
 ) -> Result<Vec<Parts>, StoreFault>
-    requires { All HasLoadable root.now.tables }
+    requires { IsValid root.now }
     ensures entries { IfOk result (λ v. AreEntriesOf root.now v.items) }
     ensures loaded { IfOk result (λ v. (m : Contents) → D.holds disk.old ≡ Some m → LoadedStores m root.now (map projections_of v.items)) }
+    ensures there { IfOk result (λ v. (m : Contents) → D.holds disk.old ≡ Some m → IsThere m root.now) }
     ensures blamed { IfErr result (BlamesListed root.now (D.holds disk.old)) }
     ensures looks { Looks ⟦<D as Disk>⟧ disk.old disk.new }
     ensures cause { HasCause StoreFault.Disk (D.faults disk.old) (D.faults disk.new) result }
@@ -180,11 +187,14 @@ fn recover<D: Disk>(
     version: u64,
     catalogue: Catalogue,
 ) -> Result<TableStore, StoreFault>
-    requires { IsBody version catalogue }
+    requires body { IsBody version catalogue }
+    requires past { is_past catalogue (least_lge catalogue) ≡ true }
     ensures stands { IfOk result (λ s. (m : Contents) (d : Database) → IsQuietFor ⟦<D as Disk>⟧ disk.old version catalogue d m → Stands ⟦<D as Disk>⟧ s disk.new d) }
     ensures numbers { IfOk result (λ s. (m : Contents) (d : Database) → IsQuietFor ⟦<D as Disk>⟧ disk.old version catalogue d m → IsOpenedFrom catalogue s.catalogue) }
     ensures any_moment { (m : Contents) (d : Database) → IsQuietFor ⟦<D as Disk>⟧ disk.old version catalogue d m → Leaves ⟦<D as Disk>⟧ (λ x. Reopens x d) disk.old disk.new }
+    ensures there { IfOk result (λ s. (m : Contents) → D.holds disk.old ≡ Some m → IsThere m catalogue) }
     ensures blamed { IfErr result (BlamesListed catalogue (D.holds disk.old)) }
+    ensures untouched { IfErr result (WhereBlamed (Looks ⟦<D as Disk>⟧ disk.old disk.new ⊎ HasBegunCut ⟦<D as Disk>⟧ catalogue disk.old disk.new)) }
     ensures cause { HasCause StoreFault.Disk (D.faults disk.old) (D.faults disk.new) result }
 {
     a_cut_reopens();

@@ -6,3 +6,4 @@ pub mod Ending
 pub mod FewTexts
 pub mod Audited
 pub mod Serving
+pub mod Naming

@@ -3,6 +3,7 @@ pub mod Statements
 pub mod Runs
 pub mod Audits
 pub mod Ends
+pub mod Blamed
 pub use Rattle.db_model.specs.Loading
 pub use Rattle.db_model.specs.Mover
 pub use Rattle.db_model.specs.State

@@ -9,7 +9,8 @@
 //! no earlier than the last good one before it (`IsOnTheWay` of `specs/Runs.antt`). `Session` promises the same of the opening, of one statement (`Executed` of
 //! `specs/Statements.antt`), of the mover's steps (`MovedOn`) and of the end, and says which answer halts it (`halts_by` of
 //! `specs/Sessions.antt`). What the words ask for is `wanted` of `run_words`. Where they ask for an audit, `run` judges the folder in place of
-//! running a script, and prints the verdict (`AuditEnds` of `specs/Audits.antt`).
+//! running a script, and prints the verdict (`AuditEnds` of `specs/Audits.antt`). Which file status 6 names is said over any contents (`NamesFile` of
+//! `specs/Blamed.antt`).
 #![tactic(auto)]
 
 mod auditing;

@@ -1,7 +1,7 @@
 //! The program.
 #![tactic(auto)]
 
-ghost use Rattle.std.specs.Prelude.{◌≡◌, ◌≢◌, ◌≤◌, ◌⊎◌, map, None, Some, string_bytes};
+ghost use Rattle.std.specs.Prelude.{ℕ, ◌≡◌, ◌≢◌, ◌≤◌, ◌⊎◌, map, None, Some, string_bytes};
 ghost use Rattle.common_laws.specs.Causes.{Rose};
 ghost use Rattle.col_disk.specs.Moved.{Leaves};
 ghost use Rattle.db_model.specs.Database.{Database as Logical};
@@ -10,8 +10,9 @@ ghost use Rattle.common_laws.specs.Maps.{Contents};
 ghost use Rattle.run_words.specs.Told.{source_told, told};
 ghost use Rattle.run_words.specs.Words.{wanted};
 ghost use Rattle.generated_load.specs.Load.{generated_files, generated_script};
-ghost use Rattle.vert_cli.specs.declared.faults.Status.TheVariants.{Usage as usage_refused, NoScript as no_script, SinkFault as sink_fault, ReadFault as read_fault, DiskFault as disk_fault, Memory as no_memory, TooLarge as too_large};
+ghost use Rattle.vert_cli.specs.declared.faults.Status.TheVariants.{Damaged as damaged, Usage as usage_refused, NoScript as no_script, SinkFault as sink_fault, ReadFault as read_fault, DiskFault as disk_fault, Memory as no_memory, TooLarge as too_large};
 ghost use Rattle.vert_cli.specs.Audits.{AuditKeeps, AuditOf};
+ghost use Rattle.vert_cli.specs.Blamed.{NamesFile};
 ghost use Rattle.vert_cli.specs.Runs.{setting_of};
 ghost use Rattle.vert_cli.specs.Ends.{AreFilesFor, AreFilesOf, CutInScript, ExactlyWhere, IsAbsent, IsAnswered, IsIdle, IsOpenable, IsServable, IsTooLarge, NeverBegins, RunBegins, RunEnds, RunLeaves, ScriptBegins, ScriptEnds, script_of};
 
@@ -34,7 +35,8 @@ const MOST_BYTES: usize = 67_108_864;
 /// script's statements in order over them, each with K steps of the mover behind it, and writes what each prints. At the end, after `Done`
 /// and `Refused`, all tables are on the disk, but with `--halt`, which leaves the end out. Each status comes as `Status` says; `Memory` is
 /// free to come at any time. What is said of a script that is read holds where the files tell their content, what is said of the written
-/// bytes where the sink tells them, and what is said of the tables where the disk tells what it holds.
+/// bytes where the sink tells them, and what is said of the tables where the disk tells what it holds. `Damaged` comes of the opening, and
+/// then it names a file that keeps the folder from opening and no file was removed, or of a folder that opened.
 ///
 /// An audit reads no script: it judges the folder, writes the verdict, and writes and removes no file. `Done` and `AuditNo` tell whether the
 /// folder reopens, which no other status of an audit does.
@@ -58,6 +60,7 @@ pub fn run<F: Files, S: Sink, D: Disk>(
         → IsAnswered result (record { sink = S.faults out.old; files = F.faults files.old; disk = D.faults disk.old }) (record { sink = S.faults out.new; files = F.faults files.new; disk = D.faults disk.new }) }
     ensures audit { (m : Contents) → D.holds disk.old ≡ Some m → AuditOf (wanted (map string_bytes words.now)) result m (S.taken out.old) (S.taken out.new) }
     ensures audit_keeps { AuditKeeps ⟦<D as Disk>⟧ (wanted (map string_bytes words.now)) disk.old disk.new }
+    ensures blamed { (q : ℕ) → result ≡ damaged q → NamesFile ⟦<D as Disk>⟧ q disk.old disk.new (S.taken out.old) (S.taken out.new) }
     ensures idle { NeverBegins result → IsIdle disk.old disk.new (S.taken out.old) (S.taken out.new) }
     ensures content { F.content files.new ≡ F.content files.old }
     ensures sink { result ≡ sink_fault → Rose (S.faults out.old) (S.faults out.new) }
@@ -94,6 +97,7 @@ fn run_wanted<F: Files, S: Sink, D: Disk>(
     ensures audit { (m : Contents) → D.holds disk.old ≡ Some m → AuditOf (Some (told wanted)) result m (S.taken out.old) (S.taken out.new) }
     ensures audit_keeps { AuditKeeps ⟦<D as Disk>⟧ (Some (told wanted)) disk.old disk.new }
     ensures named { result ≢ usage_refused }
+    ensures blamed { (q : ℕ) → result ≡ damaged q → NamesFile ⟦<D as Disk>⟧ q disk.old disk.new (S.taken out.old) (S.taken out.new) }
     ensures idle { NeverBegins result → IsIdle disk.old disk.new (S.taken out.old) (S.taken out.new) }
     ensures content { F.content files.new ≡ F.content files.old }
     ensures sink { result ≡ sink_fault → Rose (S.faults out.old) (S.faults out.new) }
@@ -123,6 +127,7 @@ fn run_source<F: Files, S: Sink, D: Disk>(
     ensures any_moment { (there : LoadFiles) (d : Logical) → AreFilesFor (source_told run.source) (F.content files.old) there → IsOpenable ⟦<D as Disk>⟧ disk.old d
         → Leaves ⟦<D as Disk>⟧ (CutInScript ⟦<D as Disk>⟧ disk.old (setting_of there run.steps run.halts) d (script_of (source_told run.source) there) (S.taken out.old) (S.taken out.new)) disk.old disk.new }
     ensures named { result ≢ usage_refused }
+    ensures blamed { (q : ℕ) → result ≡ damaged q → NamesFile ⟦<D as Disk>⟧ q disk.old disk.new (S.taken out.old) (S.taken out.new) }
     ensures idle { NeverBegins result → IsIdle disk.old disk.new (S.taken out.old) (S.taken out.new) }
     ensures content { F.content files.new ≡ F.content files.old }
     ensures sink { result ≡ sink_fault → Rose (S.faults out.old) (S.faults out.new) }
@@ -161,6 +166,7 @@ fn run_generated<S: Sink, D: Disk>(
     ensures any_moment { (d : Logical) → IsOpenable ⟦<D as Disk>⟧ disk.old d
         → Leaves ⟦<D as Disk>⟧ (CutInScript ⟦<D as Disk>⟧ disk.old (setting_of (generated_files lines seed) steps halts) d (Some generated_script) (S.taken out.old) (S.taken out.new)) disk.old disk.new }
     ensures named { result ≢ usage_refused }
+    ensures blamed { (q : ℕ) → result ≡ damaged q → NamesFile ⟦<D as Disk>⟧ q disk.old disk.new (S.taken out.old) (S.taken out.new) }
     ensures idle { NeverBegins result → IsIdle disk.old disk.new (S.taken out.old) (S.taken out.new) }
     ensures sink { result ≡ sink_fault → Rose (S.faults out.old) (S.faults out.new) }
     ensures read { result ≢ read_fault }
@@ -188,6 +194,7 @@ fn run_file<F: Files, S: Sink, D: Disk>(
     ensures any_moment { (there : LoadFiles) (d : Logical) → F.content files.old ≡ Some there → IsOpenable ⟦<D as Disk>⟧ disk.old d
         → Leaves ⟦<D as Disk>⟧ (CutInScript ⟦<D as Disk>⟧ disk.old (setting_of there steps halts) d (there name.now) (S.taken out.old) (S.taken out.new)) disk.old disk.new }
     ensures named { result ≢ usage_refused }
+    ensures blamed { (q : ℕ) → result ≡ damaged q → NamesFile ⟦<D as Disk>⟧ q disk.old disk.new (S.taken out.old) (S.taken out.new) }
     ensures idle { NeverBegins result → IsIdle disk.old disk.new (S.taken out.old) (S.taken out.new) }
     ensures content { F.content files.new ≡ F.content files.old }
     ensures sink { result ≡ sink_fault → Rose (S.faults out.old) (S.faults out.new) }

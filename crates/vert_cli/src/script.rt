@@ -1,7 +1,7 @@
 //! A script's statements, run in order.
 #![tactic(auto)]
 
-ghost use Rattle.std.specs.Prelude.{◌≡◌, ◌≤◌, Bool, false, length, map, All, Some, IfOk, IsErrOf};
+ghost use Rattle.std.specs.Prelude.{ℕ, ◌≡◌, ◌≤◌, Err, Bool, false, length, map, All, Some, IfOk, IsErrOf};
 ghost use Rattle.common_laws.specs.Causes.{Rose, HasCause};
 ghost use Rattle.col_disk.specs.Moved.{Leaves};
 ghost use Rattle.db_model.specs.Database.{Database as Logical};
@@ -9,8 +9,9 @@ ghost use Rattle.db_model.specs.Loading.{Files as LoadFiles};
 ghost use Rattle.db_model.specs.State.{State};
 ghost use Rattle.sql_words.specs.Texts.{cut, statement_texts, LiesWithin};
 ghost use Rattle.store_step.specs.Running.{IsState};
-ghost use Rattle.vert_cli.specs.declared.faults.RunFault.TheVariants.{Sink as sink_failed, Disk as disk_failed, Read as read_failed, Halted as halted};
-ghost use Rattle.vert_cli.specs.declared.faults.Status.TheVariants.{SinkFault as sink_fault, DiskFault as disk_fault, ReadFault as read_fault};
+ghost use Rattle.vert_cli.specs.declared.faults.RunFault.TheVariants.{Sink as sink_failed, Damaged as damaged_file, Disk as disk_failed, Read as read_failed, Halted as halted};
+ghost use Rattle.vert_cli.specs.declared.faults.Status.TheVariants.{Damaged as damaged, SinkFault as sink_fault, DiskFault as disk_fault, ReadFault as read_fault};
+ghost use Rattle.vert_cli.specs.Blamed.{NamesFile};
 ghost use Rattle.vert_cli.specs.Runs.{RanText, RanTexts, setting_of};
 ghost use Rattle.vert_cli.specs.Ends.{CutInRun, IsIdle, IsOpenable, NeverBegins, OpenedEnd, ScriptBegins, ScriptEnds};
 
@@ -42,6 +43,7 @@ pub(crate) fn run_script<F: Files, S: Sink, D: Disk>(
     ensures any_moment { (there : LoadFiles) (d : Logical) → F.content files.old ≡ Some there → IsOpenable ⟦<D as Disk>⟧ disk.old d
         → Leaves ⟦<D as Disk>⟧ (CutInRun ⟦<D as Disk>⟧ disk.old (setting_of there steps halts) d (statement_texts script.now) (S.taken out.old) (S.taken out.new)) disk.old disk.new }
     ensures idle { NeverBegins result → IsIdle disk.old disk.new (S.taken out.old) (S.taken out.new) }
+    ensures blamed { (q : ℕ) → result ≡ damaged q → NamesFile ⟦<D as Disk>⟧ q disk.old disk.new (S.taken out.old) (S.taken out.new) }
     ensures content { F.content files.new ≡ F.content files.old }
     ensures sink { result ≡ sink_fault → Rose (S.faults out.old) (S.faults out.new) }
     ensures read { result ≡ read_fault → Rose (F.faults files.old) (F.faults files.new) }
@@ -86,6 +88,7 @@ fn run_opened<F: Files, S: Sink, D: Disk>(
         → OpenedEnd result ⟦<D as Disk>⟧ (setting_of there steps halts) d (map (cut script.now) spans.now) disk.old disk.new (S.taken out.old) (S.taken out.new) }
     ensures any_moment { (there : LoadFiles) (d : Logical) → F.content files.old ≡ Some there → IsOpenable ⟦<D as Disk>⟧ disk.old d
         → Leaves ⟦<D as Disk>⟧ (CutInRun ⟦<D as Disk>⟧ disk.old (setting_of there steps halts) d (map (cut script.now) spans.now) (S.taken out.old) (S.taken out.new)) disk.old disk.new }
+    ensures blamed { (q : ℕ) → result ≡ Err (damaged_file q) → NamesFile ⟦<D as Disk>⟧ q disk.old disk.new (S.taken out.old) (S.taken out.new) }
     ensures content { F.content files.new ≡ F.content files.old }
     ensures sink { IsErrOf result sink_failed → Rose (S.faults out.old) (S.faults out.new) }
     ensures read { IsErrOf result read_failed → Rose (F.faults files.old) (F.faults files.new) }

@@ -10,7 +10,7 @@ ghost use Rattle.db_model.specs.Database.{Database as Logical};
 ghost use Rattle.db_model.specs.Loading.{Files as LoadFiles};
 ghost use Rattle.db_model.specs.State.{State, opened_with};
 ghost use Rattle.folder_model.specs.Reopening.{Reopens};
-ghost use Rattle.store_step.specs.Opening.{BlamesOpening, IsStartOf, IsStill};
+ghost use Rattle.store_step.specs.Opening.{BlamesOpening, IsLeftAlone, IsOpening, IsStartOf, IsStill, WhereBlamed};
 ghost use Rattle.store_step.specs.Running.{Running, IsState};
 ghost use Rattle.store_step.specs.Steps.{Ends};
 ghost use Rattle.vert_cli.specs.declared.faults.RunFault.TheVariants.{Sink as sink_failed, Disk as stopped, Read as read_failed, Halted as halted};
@@ -43,12 +43,14 @@ impl Model for Session {
 impl Session {
     /// A session over the tables that the folder reopens to, cut at the last good epoch. `Damaged` names a file that keeps the folder from
     /// opening: the body of the greatest open gate, a listed file that is absent or not what it has to be, or a data file where no gate is
-    /// open.
+    /// open; and then no file was removed.
     pub fn open<D: Disk>(alloc: Global, disk: &mut D) -> Result<Session, StoreFault>
         ensures opened { IfOk result (λ s. (m : Contents) (d : Logical) → D.holds disk.old ≡ Some m → Reopens m d → (next : ℕ) × (parts : ℕ) × IsStartOf m next parts × IsState ⟦<D as Disk>⟧ s.running disk.new (opened_with next parts d)) }
         ensures live { IfOk result (λ s. s.halted ≡ false) }
         ensures any_moment { (m : Contents) (d : Logical) → D.holds disk.old ≡ Some m → Reopens m d → Leaves ⟦<D as Disk>⟧ (IsStill ⟦<D as Disk>⟧ disk.old d) disk.old disk.new }
+        ensures opens { IfOk result (λ s. (m : Contents) → D.holds disk.old ≡ Some m → IsOpening m) }
         ensures blamed { IfErr result (BlamesOpening (D.holds disk.old)) }
+        ensures untouched { IfErr result (WhereBlamed (IsLeftAlone ⟦<D as Disk>⟧ disk.old disk.new)) }
         ensures cause { HasCause disk_failed (D.faults disk.old) (D.faults disk.new) result }
     {
         match Store::open(alloc, disk) {

@@ -1,15 +1,15 @@
 use Rattle.std.proofs.Common.{sym, subst, map}
 use Rattle.col_disk.proofs.Moving.{moved_join, moved_read}
-use Rattle.cut_job.proofs.Entries.{valid_loadable}
 use Rattle.store_commit.specs.Seen.{Seen, Stands}
 use Rattle.table_store.specs.Held.{projections_of}
 use Rattle.store_opening.proofs.Blames.{fault_blamed}
 use Rattle.store_opening.proofs.Quieted.{kept_stands, looked_reopens, tidied_reopens}
 use Rattle.store_opening.proofs.Started.{kept_numbers}
+use Rattle.store_opening.proofs.There.{where_always}
 use Rattle.store_opening.proofs.opening.keep.Goals as goal
 
 pub load_root-requires : goal.load_root-requires
-load_root-requires g c = valid_loadable c.args.catalogue c.requires.body.valid
+load_root-requires g c = c.requires.body.valid
 
 pub returns-in-Ok-tidy-clause-stands : goal.returns-in-Ok-tidy-clause-stands
 returns-in-Ok-tidy-clause-stands g c = λ m d quiet.
@@ -34,7 +34,13 @@ pub returns-in-Err-clause-blamed : goal.returns-in-Err-clause-blamed
 returns-in-Err-clause-blamed g c = c.in-Err.ensures.blamed
 
 pub returns-in-Err-tidy-clause-blamed : goal.returns-in-Err-tidy-clause-blamed
-returns-in-Err-tidy-clause-blamed g c = fault_blamed c.args.catalogue (g.D.Disk.holds c.args.disk.now) c.in-Err-tidy.fault c.from.result c.from.ensures
+returns-in-Err-tidy-clause-blamed g c = fault_blamed _ c.in-Err-tidy.fault c.from.result c.from.ensures
+
+pub returns-in-Err-clause-untouched : goal.returns-in-Err-clause-untouched
+returns-in-Err-clause-untouched g c = where_always _ c.in-Err.fault c.load_root.ensures.looks
+
+pub returns-in-Err-tidy-clause-untouched : goal.returns-in-Err-tidy-clause-untouched
+returns-in-Err-tidy-clause-untouched g c = fault_blamed _ c.in-Err-tidy.fault c.from.result c.from.ensures
 
 pub returns-in-Ok-tidy-clause-unwritten : goal.returns-in-Ok-tidy-clause-unwritten
 returns-in-Ok-tidy-clause-unwritten g c = moved_join g.D.Disk (moved_read g.D.Disk c.load_root.ensures.looks) c.tidy.ensures.moved

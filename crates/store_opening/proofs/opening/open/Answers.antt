@@ -1,9 +1,10 @@
-use Rattle.std.proofs.Common.{inl, inr}
-use Rattle.std.proofs.lemmas.Result.{IfOk-weaker}
+use Rattle.std.proofs.Common.{inl, inr, ◌∙◌}
+use Rattle.std.proofs.lemmas.Result.{IfOk-weaker, IfErr-weaker}
 use Rattle.col_disk.proofs.Moving.{leaves_join, leaves_wider, moved_read}
 use Rattle.store_opening.proofs.Quieted.{fresh_stands, opened_quiet, leaves_looked}
 use Rattle.store_opening.proofs.Untouched.{root_unwritten}
 use Rattle.store_opening.proofs.Started.{fresh_numbers, root_numbers}
+use Rattle.store_opening.proofs.There.{fresh_opening, left_alone, root_opening, where_always, where_wider}
 use Rattle.store_opening.proofs.opening.open.Goals as goal
 
 pub returns-in-Ok-Fresh-clause-stands : goal.returns-in-Ok-Fresh-clause-stands
@@ -56,3 +57,20 @@ returns-in-Ok-Root-clause-unwritten g c = λ m v r told root whole.
 
 pub returns-in-Err-clause-unwritten : goal.returns-in-Err-clause-unwritten
 returns-in-Err-clause-unwritten g c = λ m v r told root whole. moved_read g.D.Disk c.open.ensures.looks
+
+pub returns-in-Ok-Fresh-clause-opens : goal.returns-in-Ok-Fresh-clause-opens
+returns-in-Ok-Fresh-clause-opens g c = λ m told. fresh_opening m c.in-Ok-Fresh.field-0 c.in-Ok-Fresh.field-0-is (c.in-Ok-Fresh.ensures.found m told)
+
+pub returns-in-Ok-Root-clause-opens : goal.returns-in-Ok-Root-clause-opens
+returns-in-Ok-Root-clause-opens g c =
+    let k = c.in-Ok-Root in
+    IfOk-weaker c.open_root.result _ _ (λ s there m told. root_opening m k.version k.catalogue k.field-0 k.field-0-is (k.ensures.found m told) (there m (c.open.ensures.kept ∙ told))) c.open_root.ensures.there
+
+pub returns-in-Err-clause-untouched : goal.returns-in-Err-clause-untouched
+returns-in-Err-clause-untouched g c = where_always _ c.in-Err.fault (inl c.open.ensures.looks)
+
+pub returns-in-Ok-Root-clause-untouched : goal.returns-in-Ok-Root-clause-untouched
+returns-in-Ok-Root-clause-untouched g c =
+    let k = c.in-Ok-Root in
+    IfErr-weaker c.open_root.result _ _ (λ fault left. where_wider _ _ fault (left_alone g.D.Disk {old = c.args.disk.now} {mid = c.open.new.disk} {new = c.open_root.new.disk} k.version k.catalogue k.field-0 k.field-0-is k.ensures.found c.open.ensures.looks) left)
+    c.open_root.ensures.untouched

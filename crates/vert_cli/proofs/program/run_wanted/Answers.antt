@@ -7,6 +7,7 @@ use Rattle.vert_cli.specs.declared.faults.Status.{Status}
 use Rattle.vert_cli.specs.Audits.{AuditKeeps, AuditOf}
 use Rattle.vert_cli.specs.Ends.{AreFilesOf, ExactlyWhere, IsAbsent, IsServable, IsTooLarge, RunBegins, RunEnds, RunLeaves}
 use Rattle.vert_cli.proofs.Audited.{audit_answered, audit_unread, never_where, not_unbegun, untouched_left}
+use Rattle.vert_cli.proofs.Naming.{audit_unnamed}
 use Rattle.vert_cli.proofs.Serving.{complete, no_script_where, too_large_where}
 use Rattle.vert_cli.proofs.program.run_wanted.Goals as goal
 
@@ -110,3 +111,6 @@ returns-in-Audit-clause-idle g c = λ never. absurd (not_unbegun c.run_audit.res
 
 pub returns-in-Audit-clause-read : goal.returns-in-Audit-clause-read
 returns-in-Audit-clause-read g c = λ same. absurd (audit_unread c.run_audit.result c.run_audit.ensures.begins same)
+
+pub returns-in-Audit-clause-blamed : goal.returns-in-Audit-clause-blamed
+returns-in-Audit-clause-blamed g c = λ q is. absurd (audit_unnamed c.run_audit.result c.run_audit.ensures.begins q is)

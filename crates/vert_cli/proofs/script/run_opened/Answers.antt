@@ -1,4 +1,4 @@
-use Rattle.std.proofs.Common.{map, sym, subst}
+use Rattle.std.proofs.Common.{map, sym, subst, inr}
 use Rattle.std.specs.Prelude.{Err}
 use Rattle.db_model.specs.State.{opened_with}
 use Rattle.sql_words.specs.Texts.{cut}
@@ -6,6 +6,7 @@ use Rattle.vert_cli.specs.declared.faults.RunFault.{RunFault}
 use Rattle.vert_cli.specs.Runs.{setting_of}
 use Rattle.vert_cli.specs.Ends.{OpenedEnd}
 use Rattle.vert_cli.proofs.Ending.{starts_with, not_opened, texts_stopped, texts_halted, texts_ended, end_failed, opening_leaves, texts_leave, end_leaves}
+use Rattle.vert_cli.proofs.Naming.{shut_named}
 use Rattle.vert_cli.proofs.script.run_opened.Goals as goal
 
 pub returns-in-Err-clause-ends : goal.returns-in-Err-clause-ends
@@ -79,3 +80,19 @@ returns-in-Err-close-clause-any_moment g c = λ there d content openable.
     end_leaves g.D.Disk there c.args.steps c.args.halts d (map (cut c.args.script.now) c.args.spans.now) start.0 start.1 c.run_spans.new.session.running c.args.disk.now c.open.new.disk c.run_spans.new.disk c.close.new.disk c.in-Ok-run_spans.refused _
     (g.S.Sink.taken c.args.out.now) (g.S.Sink.taken c.run_spans.new.out) (starts_with g.D.Disk openable.files c.args.disk.now start.0 start.1 openable.told start.2) c.if-halts.false (c.in-Ok.ensures.any_moment openable.files d openable.told openable.reopens)
     (c.in-Ok-run_spans.ensures.ran there (opened_with start.0 start.1 d) c.args.halts content start.3) (λ state here. c.in-Err-close.ensures.ends state here)
+
+pub returns-in-Err-clause-blamed : goal.returns-in-Err-clause-blamed
+returns-in-Err-clause-blamed g c =
+    shut_named g.D.Disk c.in-Err.fault c.fault_of.result c.args.disk.now c.open.new.disk (g.S.Sink.taken c.args.out.now) c.fault_of.ensures c.in-Err.ensures.blamed c.in-Err.ensures.untouched
+
+pub returns-in-Err-run_spans-clause-blamed : goal.returns-in-Err-run_spans-clause-blamed
+returns-in-Err-run_spans-clause-blamed g c = λ q is. inr (λ m told. c.in-Ok.ensures.opens m told)
+
+pub returns-then-halts-clause-blamed : goal.returns-then-halts-clause-blamed
+returns-then-halts-clause-blamed g c = λ q is. inr (λ m told. c.in-Ok.ensures.opens m told)
+
+pub returns-in-Ok-close-clause-blamed : goal.returns-in-Ok-close-clause-blamed
+returns-in-Ok-close-clause-blamed g c = λ q is. inr (λ m told. c.in-Ok.ensures.opens m told)
+
+pub returns-in-Err-close-clause-blamed : goal.returns-in-Err-close-clause-blamed
+returns-in-Err-close-clause-blamed g c = λ q is. inr (λ m told. c.in-Ok.ensures.opens m told)

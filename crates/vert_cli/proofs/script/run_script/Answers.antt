@@ -4,6 +4,7 @@ use Rattle.std.proofs.lemmas.List.{length-map}
 use Rattle.sql_words.specs.Texts.{cut, statement_texts}
 use Rattle.vert_cli.specs.declared.faults.Status.{Status}
 use Rattle.vert_cli.specs.Runs.{setting_of}
+use Rattle.vert_cli.proofs.Naming.{damaged_only}
 use Rattle.vert_cli.proofs.Serving.{disk_only, large, large_many, never_begun, read_only, script_rests, served_begins, served_ends, short, sink_only, texts_left, unbegun, unbegun_ends}
 use Rattle.vert_cli.proofs.script.run_script.Goals as goal
 
@@ -71,3 +72,6 @@ returns-in-Err-clause-any_moment g c = λ there d content openable.
 pub returns-then-len-gt-MOST_STATEMENTS-clause-any_moment : goal.returns-then-len-gt-MOST_STATEMENTS-clause-any_moment
 returns-then-len-gt-MOST_STATEMENTS-clause-any_moment g c = λ there d content openable.
     script_rests g.D.Disk (setting_of there c.args.steps c.args.halts) d (Some c.args.script.now) c.args.disk.now (g.S.Sink.taken c.args.out.now) (g.S.Sink.taken c.args.out.now)
+
+pub returns-clause-blamed : goal.returns-clause-blamed
+returns-clause-blamed g c = λ q is. c.run_opened.ensures.blamed q (damaged_only c.run_opened.result q (sym c.status_of_end.ensures ∙ is))
