@@ -1,7 +1,8 @@
 -- Rows at places of columns, taken together.
 use Rattle.std.proofs.Common.{◌≡◌, ℕ, ℤ, pos, zero, suc, ◌+◌, ◌-◌, ◌<◌, ◌≤◌, ◌++◌, Bool, if◌then◌else◌, List, [], ◌∷◌, length, get_or, map, replicate, set, take, drop, Option, Some, None, refl, sym, ap, ap₂, ◌∙◌, arith, subst}
 use Rattle.std.specs.List.{All}
-use Rattle.std.proofs.lemmas.List.{append_assoc, append-nil, length-append, length-drop, take_all, take_more}
+use Rattle.std.proofs.lemmas.List.{append_assoc, append-nil, length-append, length-drop, length-take, take_all, take_more}
+use Rattle.std.proofs.Math.Seq.{take-add}
 use Rattle.std.proofs.lemmas.List.Elements.{All-drop, All-head, All-push, All-tail}
 use Rattle.col_value.specs.declared.value.Value.{Value}
 use Rattle.col_value.specs.declared.wide.Wide.{Wide}
@@ -146,3 +147,23 @@ some_from places at h = omega (arith, ap length (all_from places at), length-dro
 
 pub within_more : (places : List ℕ) (at n : ℕ) → at ≤ length places → n ≤ length (places_from places at) → at + n ≤ length places
 within_more places at n h k = omega (arith, h, k, ap length (all_from places at), length-drop at places)
+
+pub long_from : (gs places : List ℕ) (at : ℕ) → length gs ≡ length places → length (places_from gs at) ≡ length (places_from places at)
+long_from gs places at long =
+    omega (arith, long, ap length (all_from gs at), ap length (all_from places at), length-drop at gs, length-drop at places)
+
+put_apart : {X : Type 0} (f : X → Wide) (gs hs : List ℕ) (xs ys : List X) (column : Column) → length gs ≡ length xs → put_each f (gs ++ hs) (xs ++ ys) column ≡ put_each f hs ys (put_each f gs xs column)
+put_apart f [] hs [] ys column long = refl
+put_apart f [] hs (x ∷ xs) ys column long = absurd (omega (arith, long))
+put_apart f (g ∷ gs) hs [] ys column long = absurd (omega (arith, long))
+put_apart f (g ∷ gs) hs (x ∷ xs) ys column long = put_apart f gs hs xs ys (put_at column g (f x)) (omega (arith, long))
+
+-- more rows of those that stand from a place on
+pub put_further : (f : ℕ → Wide) (gs places : List ℕ) (at n : ℕ) (first now next : Column) → length gs ≡ length places → at ≤ length places → now ≡ put_each f (take at gs) (take at places) first
+    → next ≡ put_each f (take n (places_from gs at)) (take n (places_from places at)) now → next ≡ put_each f (take (at + n) gs) (take (at + n) places) first
+put_further f gs places at n first now next long within was is =
+    let here : length (take at gs) ≡ length (take at places) = omega (arith, long, length-take at gs, length-take at places) in
+    is ∙ ap₂ (λ (hs ps : List ℕ). put_each f (take n hs) (take n ps) now) (all_from gs at) (all_from places at)
+    ∙ ap (put_each f (take n (drop at gs)) (take n (drop at places))) was
+    ∙ sym (put_apart f (take at gs) (take n (drop at gs)) (take at places) (take n (drop at places)) first here)
+    ∙ sym (ap₂ (λ (hs ps : List ℕ). put_each f hs ps first) (take-add at n gs) (take-add at n places))

@@ -1,6 +1,6 @@
 //! What one aggregate keeps, group by group.
 
-ghost use Rattle.std.specs.Prelude.{◌≡◌, ℕ, List, true, [], Some, get_or, length, map, set, IfOk, OnOk, IsErrOf};
+ghost use Rattle.std.specs.Prelude.{◌≡◌, ℕ, ◌<◌, ◌≤◌, List, true, [], Some, get_or, length, map, set, take, IfOk, OnOk, IsErrOf};
 ghost use Rattle.std.specs.List.{All};
 ghost use Rattle.std.specs.Option.{IfSome};
 ghost use Rattle.col_value.specs.Order.{IsRow};
@@ -26,6 +26,9 @@ use sql_bound::{Aggregate, Expr};
 use sql_tree::AggKind;
 use std::alloc::{AllocError, Global};
 use std::marker::Model;
+
+/// So many rows of one group are taken together.
+const MANY: usize = 16;
 
 /// How they are held: of COUNT(*) the counts alone.
 #[derive(Drop)]
@@ -299,17 +302,17 @@ fn argument_lane(
     }
 }
 
-/// The one group that all are, if they are so.
-fn only_group(groups: &[usize]) -> Option<usize>
-    ensures { IfSome result (λ g. All (λ h. h ≡ g) groups.now) }
+/// How many groups, from the first on, are the same.
+fn same_length(groups: &[usize]) -> usize
+    ensures within { result ≤ length groups.now }
+    ensures same { All (λ h. h ≡ get_or groups.now 0 0) (take result groups.now) }
 {
-    let first = *groups.first()?;
-    for group in groups {
-        if *group != first {
-            return None;
+    for (n, group) in groups.iter().enumerate() {
+        if *group != groups[0] {
+            return n;
         }
     }
-    Some(first)
+    groups.len()
 }
 
 /// Takes the rows at places of columns in one group.
@@ -331,6 +334,52 @@ fn take_run_at(
     Ok(())
 }
 
+/// Takes the rows at places of columns, each in its group, one after another.
+fn take_mixed(
+    list: &mut Vec<Accumulator>,
+    alloc: Global,
+    a: &Aggregate,
+    columns: &[Option<Block>],
+    groups: &[usize],
+    places: &[usize],
+) -> Result<(), AllocError>
+    requires bounded { is_bounded_aggregate a.now ≡ true }
+    requires rows { AreRowsAt columns.now places.now }
+    requires long { length groups.now ≡ length places.now }
+    ensures { OnOk result (list.new.items ≡ put_each (λ p. argument_in a.now.arg (row_of columns.now p)) groups.now places.now list.old.items) }
+{
+    match argument_lane(alloc, a, columns, places)? {
+        Some(numbers) => take_numbers(list, alloc, groups, numbers.as_slice()),
+        None => take_each(list, alloc, a, columns, groups, places),
+    }
+}
+
+/// Takes the first of the rows at places together, where many of one group stand there, or else all; answers how many it took.
+fn take_next(
+    list: &mut Vec<Accumulator>,
+    alloc: Global,
+    a: &Aggregate,
+    columns: &[Option<Block>],
+    groups: &[usize],
+    places: &[usize],
+) -> Result<usize, AllocError>
+    requires bounded { is_bounded_aggregate a.now ≡ true }
+    requires rows { AreRowsAt columns.now places.now }
+    requires long { length groups.now ≡ length places.now }
+    requires some { 0 < length places.now }
+    ensures some { IfOk result (λ n. 0 < n) }
+    ensures within { IfOk result (λ n. n ≤ length places.now) }
+    ensures taken { IfOk result (λ n. list.new.items ≡ put_each (λ p. argument_in a.now.arg (row_of columns.now p)) (take n groups.now) (take n places.now) list.old.items) }
+{
+    let n = same_length(groups);
+    if n >= MANY {
+        take_run_at(list, alloc, groups[0], a, columns, &places[..n])?;
+        return Ok(n);
+    }
+    take_mixed(list, alloc, a, columns, groups, places)?;
+    Ok(places.len())
+}
+
 /// Takes the rows at places of columns, each in its group.
 fn take_columns(
     list: &mut Vec<Accumulator>,
@@ -345,11 +394,10 @@ fn take_columns(
     requires long { length groups.now ≡ length places.now }
     ensures { OnOk result (list.new.items ≡ put_each (λ p. argument_in a.now.arg (row_of columns.now p)) groups.now places.now list.old.items) }
 {
-    if let Some(group) = only_group(groups) {
-        return take_run_at(list, alloc, group, a, columns, places);
+    let mut at = 0;
+    while at < places.len() {
+        let n = take_next(list, alloc, a, columns, &groups[at..], &places[at..])?;
+        at += n;
     }
-    match argument_lane(alloc, a, columns, places)? {
-        Some(numbers) => take_numbers(list, alloc, groups, numbers.as_slice()),
-        None => take_each(list, alloc, a, columns, groups, places),
-    }
+    Ok(())
 }
