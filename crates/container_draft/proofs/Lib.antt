@@ -11,3 +11,4 @@ pub mod Full
 pub mod ByLanes
 pub mod Loaded
 pub mod Widths
+pub mod Nearly

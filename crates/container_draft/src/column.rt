@@ -1,7 +1,7 @@
 //! A column in memory.
 
-ghost use Rattle.std.specs.Prelude.{◌≡◌, ◌++◌, [], get_or, slice_index_or, IsTrue, OnOk};
-ghost use Rattle.block_codec.specs.Held.{cell_value};
+ghost use Rattle.std.specs.Prelude.{◌≡◌, ◌++◌, [], get_or, slice_index_or, IfSome, IsTrue, OnOk};
+ghost use Rattle.block_codec.specs.Held.{cell_value, number_value, picked};
 ghost use Rattle.col_value.specs.declared.value.Value.TheVariants.{Null};
 ghost use Rattle.container_draft.specs.Lanes.{EndsFull};
 
@@ -52,6 +52,56 @@ fn cell_at(blocks: &[Block], k: usize, i: usize) -> Cell<'_>
     }
 }
 
+/// The number at a place of a block, where it holds numbers.
+fn number_in(block: &Block, i: usize) -> Option<i64>
+    ensures { IfSome result (λ n. number_value n ≡ slice_index_or block.now i Null) }
+{
+    match block.numbers()?.get(i) {
+        Some(n) => Some(*n),
+        None => None,
+    }
+}
+
+/// The number at a place of block k, where that holds numbers.
+fn number_at(blocks: &[Block], k: usize, i: usize) -> Option<i64>
+    ensures { IfSome result (λ n. number_value n ≡ slice_index_or (get_or blocks.now k []) i Null) }
+{
+    match blocks.get(k) {
+        Some(block) => number_in(block, i),
+        None => None,
+    }
+}
+
+/// The value at a place of a block, where its words are lent.
+fn lent_in(block: &Block, i: usize) -> Option<&Value>
+    ensures { IfSome result (λ v. v.now ≡ slice_index_or block.now i Null) }
+{
+    match block.coded() {
+        Some((words, places)) => word_at(words, places, i),
+        None => None,
+    }
+}
+
+/// The word at a place.
+fn word_at<'a>(words: &'a [Value], places: &[u64], i: usize) -> Option<&'a Value>
+    ensures { IfSome result (λ v. v.now ≡ slice_index_or (picked words.now places.now) i Null) }
+{
+    match places.get(i) {
+        Some(place) => words.get(*place as usize),
+        None => None,
+    }
+}
+
+/// The value at a place of block k, where its words are lent.
+fn lent_at(blocks: &[Block], k: usize, i: usize) -> Option<&Value>
+    ensures { IfSome result (λ v. v.now ≡ slice_index_or (get_or blocks.now k []) i Null) }
+{
+    match blocks.get(k) {
+        Some(block) => lent_in(block, i),
+        None => None,
+    }
+}
+
 /// Whether a block may follow: the last one is full.
 fn may_follow(blocks: &[Block]) -> bool
     ensures { IsTrue result → EndsFull blocks.now }
@@ -89,5 +139,19 @@ impl Column {
         ensures { cell_value result ≡ slice_index_or self.now place Null }
     {
         cell_at(self.pieces.as_slice(), place / BLOCK, place % BLOCK)
+    }
+
+    /// The number of a lane that stands for the value at a place, where such are held.
+    pub fn number(&self, place: usize) -> Option<i64>
+        ensures { IfSome result (λ n. number_value n ≡ slice_index_or self.now place Null) }
+    {
+        number_at(self.pieces.as_slice(), place / BLOCK, place % BLOCK)
+    }
+
+    /// The value at a place, where it is a word that is lent.
+    pub fn lent(&self, place: usize) -> Option<&Value>
+        ensures { IfSome result (λ v. v.now ≡ slice_index_or self.now place Null) }
+    {
+        lent_at(self.pieces.as_slice(), place / BLOCK, place % BLOCK)
     }
 }

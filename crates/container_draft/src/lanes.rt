@@ -1,7 +1,7 @@
 //! The rows of a container in memory.
 
-ghost use Rattle.std.specs.Prelude.{◌≡◌, length, get_or, slice_index_or};
-ghost use Rattle.block_codec.specs.Held.{cell_value};
+ghost use Rattle.std.specs.Prelude.{◌≡◌, length, get_or, slice_index_or, IfSome};
+ghost use Rattle.block_codec.specs.Held.{cell_value, number_value};
 ghost use Rattle.col_value.specs.declared.value.Value.TheVariants.{Null};
 ghost use Rattle.container_draft.specs.Lanes.{row_by, rows_by};
 ghost use Rattle.container_draft.specs.Placed.{asked_at};
@@ -38,6 +38,26 @@ fn cell_of(columns: &[Column], place: usize, column: usize) -> Cell<'_>
     }
 }
 
+/// The number of a lane that stands for the value of a column at a place, where such are held.
+fn number_of(columns: &[Column], place: usize, column: usize) -> Option<i64>
+    ensures { IfSome result (λ n. number_value n ≡ slice_index_or (row_by columns.now place) column Null) }
+{
+    match columns.get(column) {
+        Some(column) => column.number(place),
+        None => None,
+    }
+}
+
+/// The value of a column at a place, where it is a word that is lent.
+fn lent_of(columns: &[Column], place: usize, column: usize) -> Option<&Value>
+    ensures { IfSome result (λ v. v.now ≡ slice_index_or (row_by columns.now place) column Null) }
+{
+    match columns.get(column) {
+        Some(column) => column.lent(place),
+        None => None,
+    }
+}
+
 /// The epoch at a place; where none stands there it is 0.
 fn epoch_in(epochs: &[u64], place: usize) -> u64
     ensures { result ≡ get_or epochs.now place 0 }
@@ -71,6 +91,28 @@ impl Lanes {
             cell_of(self.columns.as_slice(), place, column)
         } else {
             Cell::Made(Value::Null)
+        }
+    }
+
+    /// The number of a lane that stands for the value of the row at a place in a column, where such are held.
+    pub fn number(&self, place: usize, column: usize) -> Option<i64>
+        ensures { IfSome result (λ n. number_value n ≡ slice_index_or (asked_at self.now place).row column Null) }
+    {
+        if place < self.len() {
+            number_of(self.columns.as_slice(), place, column)
+        } else {
+            None
+        }
+    }
+
+    /// The value of the row at a place in a column, where it is a word that is lent.
+    pub fn lent(&self, place: usize, column: usize) -> Option<&Value>
+        ensures { IfSome result (λ v. v.now ≡ slice_index_or (asked_at self.now place).row column Null) }
+    {
+        if place < self.len() {
+            lent_of(self.columns.as_slice(), place, column)
+        } else {
+            None
         }
     }
 

@@ -4,6 +4,9 @@
 //! into the order of a container. A `Draft` holds the rows as they were read and those places; `advance` makes the files of the next
 //! column, and `finish` the delete vector, by the deletes that are known then. What is written holds the rows at the places, as
 //! `IsDraft` of `specs/Draft.antt` says.
+//!
+//! `Rows` that were read are held by their columns, in blocks as they stand on disk (`Lanes`, `Column`): seen as rows, they take the memory of
+//! their numbers and words.
 #![tactic(auto)]
 
 mod column;
@@ -15,6 +18,7 @@ mod keeping;
 mod lanes;
 mod loading;
 mod marking;
+mod near;
 mod order;
 mod ordering;
 mod reading;

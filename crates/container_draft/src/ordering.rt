@@ -7,6 +7,7 @@ ghost use Rattle.common_laws.specs.Bags.{SameBag};
 ghost use Rattle.container_writer.specs.Ordered.{container_cmp};
 ghost use Rattle.container_draft.specs.Placed.{asked_at};
 
+use crate::near::near_places;
 use crate::order::place_order;
 use crate::rows::Rows;
 use catalog_types::Projection;
@@ -43,8 +44,9 @@ pub fn in_order(
     ensures within { IfOk result (λ v. All (λ i. i < length rows.now) v.items) }
     ensures ascending { IfOk result (λ v. IsSorted (λ i j. container_cmp shape.now (asked_at rows.now i) (asked_at rows.now j)) v.items) }
 {
-    if !are_below(places.as_slice(), rows.count()) {
+    let near = near_places(shape, rows, places)?;
+    if !are_below(near.as_slice(), rows.count()) {
         return Err(AllocError);
     }
-    sorted(shape, rows, places)
+    sorted(shape, rows, near)
 }

@@ -1,7 +1,7 @@
 //! Rows in memory, and the places where they are held.
 
-ghost use Rattle.std.specs.Prelude.{◌≡◌, ◌≤◌, ◌+◌, ◌++◌, length, slice_index_or, OnOk};
-ghost use Rattle.block_codec.specs.Held.{cell_value};
+ghost use Rattle.std.specs.Prelude.{◌≡◌, ◌≤◌, ◌+◌, ◌++◌, length, slice_index_or, IfSome, OnOk};
+ghost use Rattle.block_codec.specs.Held.{cell_value, number_value};
 ghost use Rattle.col_value.specs.declared.value.Value.TheVariants.{Null};
 ghost use Rattle.container_draft.specs.Lanes.{joined};
 ghost use Rattle.container_draft.specs.Placed.{asked_at};
@@ -83,6 +83,27 @@ impl<'a> Spot<'a> {
             Spot::Own(asked) => cell_of(&asked.row, column),
             Spot::In(lanes, place) => lanes.cell(*place, column),
             Spot::Nowhere => Cell::Made(Value::Null),
+        }
+    }
+
+    /// The number of a lane that stands for the value of the row in a column, where such are held.
+    pub fn number(&self, column: usize) -> Option<i64>
+        ensures { IfSome result (λ n. number_value n ≡ slice_index_or (asked_on self.now).row column Null) }
+    {
+        match self {
+            Spot::In(lanes, place) => lanes.number(*place, column),
+            _ => None,
+        }
+    }
+
+    /// The value of the row in a column, where it is lent.
+    pub fn lent(&self, column: usize) -> Option<&'a Value>
+        ensures { IfSome result (λ v. v.now ≡ slice_index_or (asked_on self.now).row column Null) }
+    {
+        match self {
+            Spot::Own(asked) => asked.row.as_slice().get(column),
+            Spot::In(lanes, place) => lanes.lent(*place, column),
+            Spot::Nowhere => None,
         }
     }
 

@@ -8,10 +8,11 @@ ghost use Rattle.col_value.specs.Order.{IsValue};
 ghost use Rattle.col_value.specs.declared.value.Value.TheVariants.{Int, Null};
 ghost use Rattle.ros_container.specs.Rows.{column_values, epoch_values, stored_values};
 ghost use Rattle.container_draft.specs.Placed.{asked_at, all_at};
+ghost use Rattle.container_draft.specs.Spots.{asked_on};
 
-use crate::rows::Rows;
+use crate::rows::{Rows, Spot};
 use block_choice::takes_all;
-use block_codec::Cell;
+use block_codec::{Cell, number_value};
 use col_value::{Encoding, Value};
 use std::alloc::{AllocError, Global};
 use value_bytes::is_value;
@@ -50,11 +51,25 @@ fn owned(alloc: Global, cell: Cell) -> Result<Value, AllocError>
     }
 }
 
+/// The value of a row in a column, by its number where it has one.
+fn unlent(alloc: Global, spot: &Spot, column: usize) -> Result<Value, AllocError>
+    ensures { IfOk result (λ v. v ≡ slice_index_or (asked_on spot.now).row column Null) }
+{
+    match spot.number(column) {
+        Some(n) => Ok(number_value(n)),
+        None => owned(alloc, spot.cell(column)),
+    }
+}
+
 /// The value of the row at a place; a row that is not there has none.
 fn value_at(alloc: Global, rows: &Rows, place: usize, column: usize) -> Result<Value, AllocError>
     ensures { IfOk result (λ v. v ≡ slice_index_or (asked_at rows.now place).row column Null) }
 {
-    owned(alloc, rows.spot(place).cell(column))
+    let spot = rows.spot(place);
+    match spot.lent(column) {
+        Some(value) => value.copy(alloc),
+        None => unlent(alloc, &spot, column),
+    }
 }
 
 /// The epoch of the row at a place.

@@ -1,0 +1,225 @@
+//! Places nearly in the order of a container.
+//!
+//! That order looks at values where they are held. A first sort by numbers beside each place waits for no memory, and leaves little to do
+//! for the one that the order is promised of.
+
+ghost use Rattle.std.specs.Prelude.{◌≡◌, ◌∷◌, ◌++◌, [], map, IfOk, OnOk};
+ghost use Rattle.std.specs.List.Sorted.{IsPermutation};
+ghost use Rattle.common_laws.specs.Bags.{SameBag};
+ghost use Rattle.container_draft.specs.Led.{place_of};
+
+use crate::rows::{Rows, Spot};
+use catalog_types::Projection;
+use col_value::Value;
+use std::alloc::{AllocError, Global};
+use std::cmp::Ordering;
+
+/// A place, and numbers by which its row stands among the others.
+#[derive(Clone, Copy, Debug)]
+pub struct Led {
+    pub high: u64,
+    pub low: u64,
+    pub place: usize,
+}
+
+/// The columns by which rows are ordered, the first of them first.
+fn order_columns(alloc: Global, shape: &Projection) -> Result<Vec<usize>, AllocError> {
+    let mut columns = Vec::new(alloc);
+    columns.extend_from_slice(shape.sort.as_slice())?;
+    for column in 0..shape.columns.as_slice().len() {
+        if !columns.as_slice().contains(&column) {
+            columns.push(column)?;
+        }
+    }
+    Ok(columns)
+}
+
+/// The first eight bytes of a text as a number; behind its end there are zeros.
+fn head(text: &[u8]) -> u64 {
+    let mut head: u64 = 0;
+    for i in 0..8 {
+        let byte = match text.get(i) {
+            Some(byte) => u64::from(*byte),
+            None => 0,
+        };
+        head = head.wrapping_mul(256).wrapping_add(byte);
+    }
+    head
+}
+
+/// The rank of a value among those of its column. Only where it is this value's alone do the columns behind tell more.
+#[derive(Clone, Copy, Debug)]
+pub struct Rank {
+    pub at: u64,
+    pub alone: bool,
+}
+
+fn rank_alone(at: u64) -> Rank {
+    Rank { at, alone: true }
+}
+
+/// A number as one without a sign, in the same order.
+fn unsigned(n: i64) -> u64 {
+    u64::from_be_bytes(n.to_be_bytes()).wrapping_add(1 << 63)
+}
+
+fn text_rank(text: &[u8]) -> Rank {
+    Rank {
+        at: head(text),
+        alone: !text.is_empty() && text.len() <= 8,
+    }
+}
+
+fn rank_of(value: &Value) -> Rank {
+    match value {
+        Value::Null => rank_alone(0),
+        Value::Bool(value) => rank_alone(1 + u64::from(*value)),
+        Value::Int(n) => rank_alone(unsigned(*n)),
+        Value::Date(d) => rank_alone(u64::from(*d).wrapping_add(1 << 63)),
+        Value::Text(text) => text_rank(text.as_bytes()),
+    }
+}
+
+/// The rank of a row's value in a column.
+fn rank_in(spot: &Spot, column: usize) -> Rank {
+    match spot.number(column) {
+        Some(n) => rank_alone(unsigned(n)),
+        None => match spot.lent(column) {
+            Some(value) => rank_of(value),
+            None => rank_of(spot.cell(column).value()),
+        },
+    }
+}
+
+/// The rank of a row by the column at a place of the order, if there is one.
+fn rank_at(spot: &Spot, order: &[usize], place: usize) -> Rank {
+    match order.get(place) {
+        Some(column) => rank_in(spot, *column),
+        None => rank_alone(0),
+    }
+}
+
+/// A rank in half of its bits: near the number 0 in its low ones, else in its high ones.
+fn half(rank: Rank) -> Rank {
+    let zero: u64 = 1 << 63;
+    let reach: u64 = 1 << 30;
+    if rank.at < zero - reach {
+        return Rank {
+            at: rank.at >> 33,
+            alone: rank.alone && rank.at % (1 << 33) == 0,
+        };
+    }
+    if rank.at < zero + reach {
+        return Rank {
+            at: (rank.at - (zero - reach)) + (1 << 30),
+            alone: rank.alone,
+        };
+    }
+    Rank {
+        at: 3 << 30,
+        alone: false,
+    }
+}
+
+/// What the second and the third column of the order tell.
+fn lower(spot: &Spot, order: &[usize]) -> u64 {
+    let second = half(rank_at(spot, order, 1));
+    let third = if second.alone {
+        half(rank_at(spot, order, 2)).at
+    } else {
+        (1 << 32) - 1
+    };
+    second.at.wrapping_mul(1 << 32).wrapping_add(third)
+}
+
+/// A place with the ranks of its row.
+fn led_at(rows: &Rows, place: usize, order: &[usize]) -> Led
+    ensures { result.place ≡ place }
+{
+    let spot = rows.spot(place);
+    let first = rank_at(&spot, order, 0);
+    let low = if first.alone {
+        lower(&spot, order)
+    } else {
+        u64::MAX
+    };
+    Led {
+        high: first.at,
+        low,
+        place,
+    }
+}
+
+fn all_led(
+    alloc: Global,
+    rows: &Rows,
+    places: &[usize],
+    order: &[usize],
+) -> Result<Vec<Led>, AllocError>
+    ensures { IfOk result (λ v. map place_of v.items ≡ places.now) }
+{
+    let mut out = Vec::with_capacity(alloc, places.len())?;
+    for place in places {
+        out.push(led_at(rows, *place, order))?;
+    }
+    Ok(out)
+}
+
+fn by_ranks(a: &Led, b: &Led) -> Ordering {
+    match a.high.cmp(&b.high) {
+        Ordering::Equal => a.low.cmp(&b.low),
+        order => order,
+    }
+}
+
+fn near(leds: Vec<Led>) -> Result<Vec<Led>, AllocError>
+    ensures { IfOk result (λ v. IsPermutation leds.items v.items) }
+{
+    let mut leds = leds;
+    leds.sort_by(|a, b| by_ranks(a, b))?;
+    Ok(leds)
+}
+
+fn places_of(alloc: Global, leds: &[Led]) -> Result<Vec<usize>, AllocError>
+    ensures { IfOk result (λ v. v.items ≡ map place_of leds.now) }
+{
+    let mut out = Vec::with_capacity(alloc, leds.len())?;
+    for led in leds {
+        out.push(led.place)?;
+    }
+    Ok(out)
+}
+
+/// How many have the ranks of the one before them.
+fn ties(leds: &[Led]) -> usize {
+    let mut count: usize = 0;
+    let mut high = 0;
+    let mut low = 0;
+    for led in leds {
+        if led.high == high && led.low == low {
+            count = count.wrapping_add(1);
+        }
+        high = led.high;
+        low = led.low;
+    }
+    count
+}
+
+/// The same places, nearly in the order of their rows in a container. Where numbers tell few rows apart they stay as they came, in runs that are
+/// in order.
+pub fn near_places(
+    shape: &Projection,
+    rows: &Rows,
+    places: Vec<usize>,
+) -> Result<Vec<usize>, AllocError>
+    ensures { IfOk result (λ v. SameBag places.items v.items) }
+{
+    let alloc = *places.allocator();
+    let order = order_columns(alloc, shape)?;
+    let found = all_led(alloc, rows, places.as_slice(), order.as_slice())?;
+    let rising = near(found)?;
+    if ties(rising.as_slice()) > rising.len() / 4 * 3 {
+        return Ok(places);
+    }
+    places_of(alloc, rising.as_slice())
+}
