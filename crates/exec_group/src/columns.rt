@@ -1,8 +1,11 @@
 //! Aggregates that take the rows at places of columns, one aggregate after another.
 
-ghost use Rattle.std.specs.Prelude.{◌≡◌, ◌+◌, ◌≤◌, true, false, if◌then◌else◌, Some, map, length, IfOk, OnOk};
+ghost use Rattle.std.specs.Prelude.{◌≡◌, ℕ, ◌+◌, ◌≤◌, true, false, if◌then◌else◌, Some, map, length, IfOk, OnOk};
 ghost use Rattle.std.specs.Option.{IfSome};
-ghost use Rattle.col_value.specs.Order.{IsRow};
+ghost use Rattle.std.specs.List.{slice_index_or};
+ghost use Rattle.block_codec.specs.Held.{number_value};
+ghost use Rattle.col_value.specs.Order.{widened, IsRow};
+ghost use Rattle.col_value.specs.declared.value.Value.TheVariants.{Null};
 ghost use Rattle.exec_group.specs.Accumulators.{argument_in, is_bounded_aggregate, taken};
 ghost use Rattle.expr_value.specs.Worths.{wide_of};
 ghost use Rattle.sql_bound.specs.Bounds.{magnitude};
@@ -12,8 +15,8 @@ ghost use Rattle.exec_group.specs.Columns.{row_of, taken_at, AreRowsAt, HasGaine
 use crate::Accumulator;
 use crate::argument::argument_of;
 use crate::cells::{row_at, worth_at};
-use crate::lanes::lane_of;
-use crate::numbers::number_at;
+use crate::lanes::{lane_of, numbers_of};
+use crate::numbers::{lane_number_at, number_at};
 use block_codec::Block;
 use expr_value::Worth;
 use sql_bound::{Aggregate, Expr};
@@ -116,8 +119,34 @@ fn raises_by(n: &mut u64, count: u64) -> bool
     }
 }
 
-/// The sum of the numbers of a lane, which an expression is worth in the rows at places, and their magnitudes added up.
-fn lane_total(
+/// The sum of the numbers of a lane, which an expression is worth in the rows at places, and their magnitudes added up, where both are
+/// numbers of 64 bits.
+fn short_total(
+    e: &Expr,
+    columns: &[Option<Block>],
+    places: &[usize],
+    lane: &[i64],
+) -> Option<(i64, u64)>
+    requires { map Some lane.now ≡ map (λ i. number_in (value_of (of_row (row_of columns.now i)) e.now)) places.now }
+    ensures { IfSome result (λ t. IsTotalOf columns.now e.now places.now t.0 t.1) }
+{
+    let mut sum = 0i64;
+    let mut size = 0u64;
+    for n in lane {
+        let Some(more) = sum.checked_add(*n) else {
+            return None;
+        };
+        let Some(wider) = size.checked_add(n.unsigned_abs()) else {
+            return None;
+        };
+        sum = more;
+        size = wider;
+    }
+    Some((sum, size))
+}
+
+/// The same, however great they are.
+fn wide_total(
     e: &Expr,
     columns: &[Option<Block>],
     places: &[usize],
@@ -141,6 +170,63 @@ fn lane_total(
     Some((sum, size))
 }
 
+/// The same, in 64 bits where these hold it.
+fn lane_total(
+    e: &Expr,
+    columns: &[Option<Block>],
+    places: &[usize],
+    lane: &[i64],
+) -> Option<(i128, u128)>
+    requires { map Some lane.now ≡ map (λ i. number_in (value_of (of_row (row_of columns.now i)) e.now)) places.now }
+    ensures { IfSome result (λ t. IsTotalOf columns.now e.now places.now t.0 t.1) }
+{
+    match short_total(e, columns, places, lane) {
+        Some((sum, size)) => Some((i128::from(sum), u128::from(size))),
+        None => wide_total(e, columns, places, lane),
+    }
+}
+
+/// The same of a column's lane, from its numbers at the places.
+fn column_total(
+    e: &Expr,
+    columns: &[Option<Block>],
+    numbers: &[i64],
+    places: &[usize],
+) -> Option<(i64, u64)>
+    requires { (place : ℕ) → value_of (of_row (row_of columns.now place)) e.now ≡ widened (slice_index_or (map number_value numbers.now) place Null) }
+    ensures { IfSome result (λ t. IsTotalOf columns.now e.now places.now t.0 t.1) }
+{
+    let mut sum = 0i64;
+    let mut size = 0u64;
+    for place in places {
+        let Some(n) = lane_number_at(numbers, *place) else {
+            return None;
+        };
+        let Some(more) = sum.checked_add(n) else {
+            return None;
+        };
+        let Some(wider) = size.checked_add(n.unsigned_abs()) else {
+            return None;
+        };
+        sum = more;
+        size = wider;
+    }
+    Some((sum, size))
+}
+
+/// The same, where the expression is a column whose lane has numbers at the places.
+fn total_in_place(e: &Expr, columns: &[Option<Block>], places: &[usize]) -> Option<(i128, u128)>
+    ensures { IfSome result (λ t. IsTotalOf columns.now e.now places.now t.0 t.1) }
+{
+    let Some(numbers) = numbers_of(e, columns) else {
+        return None;
+    };
+    match column_total(e, columns, numbers, places) {
+        Some((sum, size)) => Some((i128::from(sum), u128::from(size))),
+        None => None,
+    }
+}
+
 /// The same, where all that the expression is worth are numbers of 64 bits.
 fn total_of(
     alloc: Global,
@@ -150,6 +236,9 @@ fn total_of(
 ) -> Result<Option<(i128, u128)>, AllocError>
     ensures { IfOk result (λ o. IfSome o (λ t. IsTotalOf columns.now e.now places.now t.0 t.1)) }
 {
+    if let Some(total) = total_in_place(e, columns, places) {
+        return Ok(Some(total));
+    }
     match lane_of(alloc, e, columns, places)? {
         Some(lane) => Ok(lane_total(e, columns, places, lane.as_slice())),
         None => Ok(None),

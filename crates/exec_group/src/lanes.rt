@@ -6,11 +6,12 @@ ghost use Rattle.std.specs.List.{slice_index_or};
 ghost use Rattle.block_codec.specs.Held.{number_value};
 ghost use Rattle.col_value.specs.Order.{widened};
 ghost use Rattle.col_value.specs.declared.value.Value.TheVariants.{Null};
+ghost use Rattle.col_value.specs.declared.wide.Wide.TheVariants as wide;
 ghost use Rattle.sql_bound.specs.Values.{number_in, of_row, value_of};
 ghost use Rattle.expr_value.specs.Terms.{added, multiplied, term_value};
 ghost use Rattle.exec_group.specs.Columns.{row_of};
 
-use crate::numbers::{lane_number_at, number_at};
+use crate::numbers::{lane_number_at, literal, number_at};
 use block_codec::Block;
 use sql_bound::{BoundTerm, Expr};
 use std::alloc::{AllocError, Global};
@@ -27,7 +28,7 @@ fn repeated(alloc: Global, n: i64, count: usize) -> Result<Vec<i64>, AllocError>
 }
 
 /// The lane of numbers of an expression that is a column held so.
-fn numbers_of<'a>(e: &Expr, columns: &'a [Option<Block>]) -> Option<&'a [i64]>
+pub fn numbers_of<'a>(e: &Expr, columns: &'a [Option<Block>]) -> Option<&'a [i64]>
     ensures { IfSome result (λ ns. (place : ℕ) → value_of (of_row (row_of columns.now place)) e.now ≡ widened (slice_index_or (map number_value ns.now) place Null)) }
 {
     match e {
@@ -142,6 +143,20 @@ fn multiplies_lane(so_far: &mut Vec<i64>, part: &[i64]) -> bool
     true
 }
 
+/// The numbers that an expression is worth in the rows at places, where it is one number in all rows.
+fn constant_lane(
+    alloc: Global,
+    e: &Expr,
+    n: i64,
+    columns: &[Option<Block>],
+    places: &[usize],
+) -> Result<Option<Vec<i64>>, AllocError>
+    requires { (place : ℕ) → value_of (of_row (row_of columns.now place)) e.now ≡ wide.Int n }
+    ensures { IfOk result (λ o. IfSome o (λ v. map Some v.items ≡ map (λ i. number_in (value_of (of_row (row_of columns.now i)) e.now)) places.now)) }
+{
+    Ok(Some(repeated(alloc, n, places.len())?))
+}
+
 /// The numbers that an expression is worth in the rows at places, where all on the way to them are numbers of 64 bits.
 #[cycle(lane)]
 pub fn lane_of(
@@ -155,6 +170,10 @@ pub fn lane_of(
     match e {
         Expr::Sum(terms) => sum_lane(alloc, terms.as_slice(), columns, places),
         Expr::Product(parts) => product_lane(alloc, parts.as_slice(), columns, places),
+        Expr::Lit(value) => match literal(value) {
+            Some(n) => constant_lane(alloc, e, n, columns, places),
+            None => Ok(None),
+        },
         _ => looked_up(alloc, e, columns, places),
     }
 }

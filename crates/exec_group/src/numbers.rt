@@ -26,7 +26,7 @@ fn short(n: i128) -> Option<i64>
 }
 
 /// The number of a literal, if it is one of 64 bits.
-fn literal(value: &Wide) -> Option<i64>
+pub fn literal(value: &Wide) -> Option<i64>
     ensures { IfSome result (λ n. value.now ≡ wide.Int n) }
 {
     match value {

@@ -2,7 +2,7 @@ use Rattle.std.proofs.Common.{◌≡◌, ◌+◌, ◌+ℤ◌, ℤ, of_z, rules, 
 use Rattle.std.specs.Int.{w128}
 use Rattle.exec_group.specs.Columns.{IsTotalOf}
 use Rattle.exec_group.proofs.Spans.{at, lane_more}
-use Rattle.exec_group.proofs.columns.lane_total.Goals as goal
+use Rattle.exec_group.proofs.columns.wide_total.Goals as goal
 
 pub loop-n-preserved : goal.loop-n-preserved
 loop-n-preserved c =
