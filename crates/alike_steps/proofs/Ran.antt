@@ -16,7 +16,7 @@ use Rattle.db_model.specs.State.{State}
 use Rattle.db_model.specs.Step.{Step}
 use Rattle.alike_laws.proofs.Changes.{none_alike, sessions_themselves}
 use Rattle.alike_laws.specs.Reordered.{AreAlikeSessions}
-use Rattle.one_text.specs.Scripts.{IsQuiet}
+use Rattle.one_text.specs.Scripts.{AsksNoMover}
 use Rattle.one_text.proofs.Numbered.{left_before, step_grows}
 use Rattle.alike_steps.specs.Runs.{AlikeRunsGoThrough, AlikeRunsPrintAlike, AlikeTextsGoThrough, AlikeTextsRunAlike, AreAlikeStarts, HaveNumbersLeft}
 use Rattle.alike_steps.specs.Steps.{AlikeStatesStepAlike, IsDetermined, UnrefusedStepsAlike}
@@ -33,18 +33,18 @@ passed setting a text printed why x none passes =
     let still : x ≡ passes.answered = subst (λ (n : ℕ). MoverRuns n passes.answered x) none passes.mover in
     subst (λ (s : State). Step setting.serves a setting.files text printed why s) (sym still) passes.step
 
-texts_grow : (setting : Setting) (texts : List (List ℕ)) (a : State) (printed : List ℕ) (refused : Bool) (x : State) → setting.steps ≡ 0 → All IsQuiet texts → RunTexts setting a texts printed refused x → a.next ≤ x.next
+texts_grow : (setting : Setting) (texts : List (List ℕ)) (a : State) (printed : List ℕ) (refused : Bool) (x : State) → setting.steps ≡ 0 → All AsksNoMover texts → RunTexts setting a texts printed refused x → a.next ≤ x.next
 texts_grow setting [] a printed refused x none quiet (p_is, r_is, is) = let at : x.next ≡ a.next = ap (λ (s : State). s.next) is in omega (arith, at)
 texts_grow setting (text ∷ more) a printed refused x none quiet (first, why, mid, rest, later, passes, ran, p_is, r_is) =
-    let here = step_grows setting.serves a setting.files text first why mid (All-head IsQuiet text more quiet) (passed setting a text first why mid none passes) in
-    let behind = texts_grow setting more mid rest later x none (All-tail IsQuiet text more quiet) ran in
+    let here = step_grows setting.serves a setting.files text first why mid (All-head AsksNoMover text more quiet) (passed setting a text first why mid none passes) in
+    let behind = texts_grow setting more mid rest later x none (All-tail AsksNoMover text more quiet) ran in
     omega (arith, here, behind)
 
 pub texts_alike : AlikeStatesStepAlike → StepsKeepSound → AlikeTextsRunAlike
 texts_alike steps keep setting a b [] p q r s x y none quiet starts left (p_is, r_is, x_is) (q_is, s_is, y_is) = (p_is ∙ sym q_is, r_is ∙ sym s_is, left_alike a b x y x_is y_is starts.alike)
 texts_alike steps keep setting a b (text ∷ more) p q r s x y none quiet starts left (first, why, mid, rest, later, passes, ran, p_is, r_is) (first', why', mid', rest', later', passes', ran', q_is, s_is) =
-    let here = All-head IsQuiet text more quiet in
-    let others : All IsQuiet more = All-tail IsQuiet text more quiet in
+    let here = All-head AsksNoMover text more quiet in
+    let others : All AsksNoMover more = All-tail AsksNoMover text more quiet in
     let step = passed setting a text first why mid none passes in
     let step' = passed setting b text first' why' mid' none passes' in
     let left_mid : are_spent mid ≡ false = left_before mid.next x.next (texts_grow setting more mid rest later x none others ran) left.one in

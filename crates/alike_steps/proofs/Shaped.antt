@@ -16,7 +16,7 @@ use Rattle.db_model.specs.Database.{Shape, Table, has_columns, is_taken, super_n
 use Rattle.db_model.specs.Events.{empty_table, first_shape, is_empty_list, is_not_named, is_of_table, new_shape, projection_created, projection_dropped, put_shape, table_created, table_dropped, with_shape, without_shape}
 use Rattle.db_model.specs.Numbers.{IsDrawn, are_spent, spent_refusal}
 use Rattle.db_model.specs.Refusals.{last_super_refusal, locked, owner, projection_created_refusal, projection_dropped_refusal, projection_refusal_over, table_created_refusal, table_dropped_refusal, unknown_table_refusal}
-use Rattle.db_model.specs.Refusing.{columns_limit, name_limit as own_limit, repeated_behind}
+use Rattle.db_model.specs.Refusing.{columns_limit, repeated_behind}
 use Rattle.db_model.specs.State.{State, own_changes}
 use Rattle.db_model.specs.Views.{columns_found, table_found}
 use Rattle.alike_laws.proofs.Changes.{others_alike}
@@ -42,7 +42,7 @@ abbrev created_by : List ℕ → List Column → Bool → Bool → ℕ → Bool 
 created_by name columns own super tables spent =
     first_of
     (first_of (option_map Refusal.Exists (first_of (cond own (Some name) None) (first_of (cond super (Some (super_name name)) None) (repeated_behind [] columns))))
-    (first_of (first_of (refused_where (nat_le 1024 tables) (Refusal.Limit Which.Tables 1024)) (own_limit name)) (columns_limit columns)))
+    (first_of (first_of (refused_where (nat_le 1024 tables) (Refusal.Limit Which.Tables 1024)) (name_limit name)) (columns_limit columns)))
     (refused_where spent Refusal.NumbersSpent)
 
 -- of a new projection: its table's columns, whether its name is taken, why it is refused for what it is, and whether the numbers are spent

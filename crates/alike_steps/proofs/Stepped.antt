@@ -18,7 +18,7 @@ use Rattle.db_model.specs.Answers.{epoch_line}
 use Rattle.db_model.specs.Database.{Table}
 use Rattle.db_model.specs.Epochs.{last_good, rises}
 use Rattle.db_model.specs.Events.{changes_committed, changes_dropped, column_added, is_of_table, mark_raised, on_table, projection_created, projection_dropped, refresh_started, rows_deleted, rows_loaded, rows_pending, rows_updated, table_created, table_dropped}
-use Rattle.db_model.specs.Leaving.{CallLeaves, CopyLeaves, Leaves, MarkLeaves}
+use Rattle.db_model.specs.Leaving.{CallLeaves, CopyLeaves, StatementLeaves, MarkLeaves}
 use Rattle.db_model.specs.Loading.{Files, Load, Loads}
 use Rattle.db_model.specs.Mover.{MovesAll, RaisesAll, RefreshesAll}
 use Rattle.db_model.specs.Numbers.{are_spent}
@@ -31,7 +31,7 @@ use Rattle.db_model.specs.Step.{Decides, Effect, Reads, RefusesForm}
 use Rattle.db_model.specs.Views.{bound_in, inputs, table_found}
 use Rattle.alike_laws.proofs.Refused.{commit_alike, joining_alike, load_alike, locked_alike, put_alike}
 use Rattle.one_text.specs.OneText.{HasJobs, QueriesHaveOneCause, QueriesHaveOneText}
-use Rattle.one_text.specs.Scripts.{IsQuiet}
+use Rattle.one_text.specs.Scripts.{AsksNoMover}
 use Rattle.one_text.proofs.Numbered.{IsOther, Others, others_read}
 use Rattle.one_text.proofs.OneLoad.{load_once, rows_loaded_once}
 use Rattle.one_text.proofs.OneQuery.{first_none, refusal_same}
@@ -230,7 +230,7 @@ module _ (a b : State) (alike : AreAlikeStates a b) (sound : IsSound a) where
   printed one files (Statement.Session n) p q free first second = first ∙ sym second
   printed one files Statement.Step p q free first second = first ∙ sym second
 
-  left : (files : Files) (s : Statement) (x y : State) → (TheStorageDecides s → ⊥) → Leaves a files s x → Leaves b files s y → AreAlikeStates x y
+  left : (files : Files) (s : Statement) (x y : State) → (TheStorageDecides s → ⊥) → StatementLeaves a files s x → StatementLeaves b files s y → AreAlikeStates x y
   left files (Statement.CreateTable name columns) x y other first second =
       drawn_alike a b (table_created name columns a) (table_created name columns b) x y first second (created_alike a b alike name columns)
   left files (Statement.CreateProjection p) x y other first second = drawn_alike a b (projection_created p a) (projection_created p b) x y first second (shaped_alike a b alike p)
@@ -258,7 +258,7 @@ module _ (a b : State) (alike : AreAlikeStates a b) (sound : IsSound a) where
 
   -- ---- texts
 
-  decided : HaveOneMeaning → (serves : Statement → Bool) (files : Files) (text : List ℕ) (read : Option Statement) (why also : Cause) → are_spent a ≡ are_spent b → IsQuiet text → Reads text read
+  decided : HaveOneMeaning → (serves : Statement → Bool) (files : Files) (text : List ℕ) (read : Option Statement) (why also : Cause) → are_spent a ≡ are_spent b → AsksNoMover text → Reads text read
       → Decides serves a files text read why → Decides serves b files text read also → why ≡ also
   decided one serves files text None why also spent quiet reads first second = decided_once serves a files text None why also reads first second (λ jobs. absurd (quiet.no_jobs jobs))
   decided one serves files text (Some s) why also spent quiet reads first second = by (serves s) first second

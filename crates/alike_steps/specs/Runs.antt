@@ -7,7 +7,7 @@ use Rattle.db_model.specs.Alike.{AreAlikeStates}
 use Rattle.db_model.specs.Numbers.{are_spent}
 use Rattle.db_model.specs.Run.{Run, RunTexts, Setting}
 use Rattle.db_model.specs.Sound.{IsSound}
-use Rattle.one_text.specs.Scripts.{IsQuiet}
+use Rattle.one_text.specs.Scripts.{AsksNoMover}
 use Rattle.alike_steps.specs.Steps.{IsDetermined}
 
 -- two starts of a run that no statement tells apart, of which one is sound
@@ -24,14 +24,14 @@ pub record HaveNumbersLeft (new left : State) : Type 0 where
 abbrev pub AlikeTextsRunAlike : Type 0
 AlikeTextsRunAlike =
     (setting : Setting) (start begin : State) (texts : List (List ℕ)) (printed other : List ℕ) (refused also : Bool) (new left : State)
-    → setting.steps ≡ 0 → All IsQuiet texts → AreAlikeStarts start begin → HaveNumbersLeft new left → RunTexts setting start texts printed refused new → RunTexts setting begin texts other also left
+    → setting.steps ≡ 0 → All AsksNoMover texts → AreAlikeStarts start begin → HaveNumbersLeft new left → RunTexts setting start texts printed refused new → RunTexts setting begin texts other also left
     → (printed ≡ other) × (refused ≡ also) × AreAlikeStates new left
 
 -- Two runs of such a script, with its end, print the same, some statement is refused in both or in none, and they leave alike states.
 abbrev pub AlikeRunsPrintAlike : Type 0
 AlikeRunsPrintAlike =
     (setting : Setting) (start begin : State) (script printed other : List ℕ) (refused also : Bool) (new left : State)
-    → setting.steps ≡ 0 → All IsQuiet (statement_texts script) → AreAlikeStarts start begin → HaveNumbersLeft new left → Run setting start script printed refused new → Run setting begin script other also left
+    → setting.steps ≡ 0 → All AsksNoMover (statement_texts script) → AreAlikeStarts start begin → HaveNumbersLeft new left → Run setting start script printed refused new → Run setting begin script other also left
     → (printed ≡ other) × (refused ≡ also) × AreAlikeStates new left
 
 -- Texts in which functions of several jobs may stand, too, if the storage doesn't decide what they leave: where no statement is refused in

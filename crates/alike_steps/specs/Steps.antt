@@ -12,14 +12,14 @@ use Rattle.db_model.specs.Numbers.{are_spent}
 use Rattle.db_model.specs.Sound.{IsSound}
 use Rattle.db_model.specs.Step.{Step}
 use Rattle.one_text.specs.OneText.{AsksForJobs}
-use Rattle.one_text.specs.Scripts.{IsQuiet}
+use Rattle.one_text.specs.Scripts.{AsksNoMover}
 
 -- Two steps of a text that asks the mover for nothing, over alike states of which one is sound, and whose numbers are spent in both or in
 -- neither: they print the same, are refused for the same cause, if at all, and leave alike states.
 abbrev pub AlikeStatesStepAlike : Type 0
 AlikeStatesStepAlike =
     (serves : Statement → Bool) (a b : State) (files : Files) (text p q : List ℕ) (why also : Option Refusal) (m n : State)
-    → AreAlikeStates a b → IsSound a → IsQuiet text → are_spent a ≡ are_spent b → Step serves a files text p why m → Step serves b files text q also n
+    → AreAlikeStates a b → IsSound a → AsksNoMover text → are_spent a ≡ are_spent b → Step serves a files text p why m → Step serves b files text q also n
     → (p ≡ q) × (why ≡ also) × AreAlikeStates m n
 
 -- a statement of which the storage decides what it leaves: one step of the mover, and jobs of which there are as many as containers ask for

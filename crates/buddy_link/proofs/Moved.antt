@@ -15,7 +15,7 @@ use Rattle.db_laws.proofs.Goods.{good_itself, shapes_apart, shapes_joined, Reach
 use Rattle.sound_laws.specs.Moves.{change_at, reached_in}
 use Rattle.state_laws.proofs.Tables.{map_named}
 use Rattle.store_core.proofs.Placed.{all_change, cut_moved, first_moved, moved_last, sound_moved, MovedAt}
-use Rattle.store_core.specs.Cuts.{IsKept}
+use Rattle.store_core.specs.Cuts.{IsKeptButJob}
 use Rattle.store_core.specs.Moving.{IsKeptOrMoved}
 use Rattle.catch_model.specs.Caught.{columns_of, history, IsCaughtUp}
 use Rattle.catch_laws.proofs.Committed.{whole_history}
@@ -96,7 +96,7 @@ given_still e s still = record { cuts = still.cuts; last = still.last; sessions 
 pub all_still : (e : ℕ) (s new : State) (stopped : Bool) → IsStill e s s → MovesAll s stopped new → IsStill e s new
 all_still e s new stopped still moves = jobs_still (length (behind s.database)) e s (given_up s) new stopped (given_still e s still) moves.jobs
 
-pub kept_still : (e : ℕ) (s new : State) → IsStill e s s → IsKept s new → IsStill e s new
+pub kept_still : (e : ℕ) (s new : State) → IsStill e s s → IsKeptButJob s new → IsStill e s new
 kept_still e s new still (inl same) = subst (IsStill e s) (sym same) still
 kept_still e s new still (inr same) = subst (IsStill e s) (sym same) (given_still e s still)
 

@@ -20,7 +20,7 @@ use Rattle.db_laws.proofs.Goods.{good_itself, shapes_joined, Reaches}
 use Rattle.folder_model.specs.Reopening.{Reopens}
 use Rattle.store_core.proofs.Ended.{all_reach}
 use Rattle.store_core.proofs.Placed.{count_moved, first_moved}
-use Rattle.store_core.specs.Cuts.{IsKept}
+use Rattle.store_core.specs.Cuts.{IsKeptButJob}
 use Rattle.store_core.specs.Moving.{IsKeptOrMoved}
 use Rattle.store_core.specs.Events.{ReopensTo}
 use Rattle.store_core.specs.Running.{Running, IsState}
@@ -191,7 +191,7 @@ stops_moving {D} disk mark last a b s is old new f begun good last_is ahead soun
     begun_still : IsStill a.database.last s s
     begun_still = still_at mark last a b s begun good sound at
 
-    by : (g : LinkFault) → MovesOrStops true g → (IsErrOf (stopped g) link.NumbersSpent → (after : State) × MovesAll s true after × IsState disk is new after) → (IsErrOf (stopped g) link.Memory → (after : State) × IsKept s after × IsState disk is new after) → LeavesBehind (IsState disk is new) mark a b g
+    by : (g : LinkFault) → MovesOrStops true g → (IsErrOf (stopped g) link.NumbersSpent → (after : State) × MovesAll s true after × IsState disk is new after) → (IsErrOf (stopped g) link.Memory → (after : State) × IsKeptButJob s after × IsState disk is new after) → LeavesBehind (IsState disk is new) mark a b g
     by (link.SchemaDiffers name) none spent short = none
     by (link.NotBehind behind ahead) none spent short = none
     by (link.HistoryGone at ahm) none spent short = none

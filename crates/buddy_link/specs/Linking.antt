@@ -13,7 +13,7 @@ use Rattle.db_model.specs.Mover.{MovesAll}
 use Rattle.db_model.specs.Sound.{IsSoundDatabase}
 use Rattle.db_model.specs.State.{State, idle_sessions}
 use Rattle.folder_model.specs.Reopening.{Reopens}
-use Rattle.store_core.specs.Cuts.{IsKept}
+use Rattle.store_core.specs.Cuts.{IsKeptButJob}
 use Rattle.store_core.specs.Moving.{ReopensMoved}
 use Rattle.store_core.specs.Events.{ReopensTo}
 use Rattle.store_core.specs.Running.{Running, IsState}
@@ -155,6 +155,6 @@ pub record GoesOn {D : Type 0} (disk : Ghosts D) (f : ℕ) (is : Running) (now :
 pub record MovesBehind {D T : Type 0} (disk : Ghosts D) (is : Running) (old new : D) (result : Result T LinkFault) (s : State) : Type 0 where
   pub done : OnOk result ((after : State) × MovesAll s false after × IsState disk is new after)
   pub spent : IsErrOf result NumbersSpent → (after : State) × MovesAll s true after × IsState disk is new after
-  pub short : IsErrOf result Memory → (after : State) × IsKept s after × IsState disk is new after
+  pub short : IsErrOf result Memory → (after : State) × IsKeptButJob s after × IsState disk is new after
   pub fault : IfErr result (MovesOrStops true)
   pub any_moment : Leaves disk (ReopensMoved s) old new

@@ -12,7 +12,7 @@ use Rattle.catalog_root.specs.declared.found.Found.TheVariants.{Fresh, Root}
 use Rattle.catalog_root.specs.Root.{data_file, body_file, gate_file, IsRoot, Opens}
 use Rattle.catalog_root.specs.Listed.{IsListed, IsStray, IsUnlisted}
 use Rattle.catalog_root.specs.Crash.{IsLater, IsRooted, IsNew, IsReplaced}
-use Rattle.catalog_root.specs.Quiet.{SameListed, IsQuiet, Quiet, IsSpare, IsUseless}
+use Rattle.catalog_root.specs.Quiet.{SameListed, KeepsRoot, Quiet, IsSpare, IsUseless}
 use Rattle.catalog_root.proofs.Roots.{root_kept}
 
 -- what holds of any result holds of a good one
@@ -51,7 +51,7 @@ listed_stay W R m n v c written removed changed k listed = changed_kept W R m n 
     unlisted (inr (w, other, inr is)) = omega (arith, is)
 
 quiet_image : (W R : ℕ → Type 0) (m n d c : Contents) (root : Found) → ((q : ℕ) → W q → IsSpare root q) → ((q : ℕ) → R q → IsUseless root q)
-    → Changed W R m n → Changed W R d c → IsQuiet m root d → IsQuiet n root c
+    → Changed W R m n → Changed W R d c → KeepsRoot m root d → KeepsRoot n root c
 quiet_image W R m n d c Fresh written removed told changed quiet = record {
   opens = record {
     closed = λ w is. quiet.opens.closed w (sym (same (gate_file w)) ∙ is);
@@ -75,15 +75,15 @@ quiet_moved disk {W} {R} {old} {new} root m written removed moved quiet =
     let (n, told, changed) = moved_told disk m quiet.told_is moved in
     (n, record { told_is = told; every = λ c is. by n changed c (moved.now c is) }, changed)
   where
-    by : (n : Contents) → Changed W R m n → (c : Contents) → LikeOne W R (ImageOf disk old) c → IsQuiet n root c
+    by : (n : Contents) → Changed W R m n → (c : Contents) → LikeOne W R (ImageOf disk old) c → KeepsRoot n root c
     by n told c (d, is, changed) = quiet_image W R m n d c root written removed told changed (quiet.every d is)
 
 -- and a crash at any moment of it leaves the root with its files
 pub quiet_leaves : {D : Type 0} (disk : Ghosts D) {W R : ℕ → Type 0} {old new : D} (root : Found) (m : Contents) → ((q : ℕ) → W q → IsSpare root q) → ((q : ℕ) → R q → IsUseless root q)
-    → Moved disk W R old new → Quiet (disk.holds old) (ImageOf disk old) root m → Leaves disk (IsQuiet m root) old new
+    → Moved disk W R old new → Quiet (disk.holds old) (ImageOf disk old) root m → Leaves disk (KeepsRoot m root) old new
 quiet_leaves disk {W} {R} {old} {new} root m written removed moved quiet = leaves_moved disk {W = W} {R = R} here moved
   where
-    here : (c : Contents) → LikeOne W R (disk.since old (disk.clock old)) c → IsQuiet m root c
+    here : (c : Contents) → LikeOne W R (disk.since old (disk.clock old)) c → KeepsRoot m root c
     here c (d, is, changed) = quiet_image W R m m d c root written removed (λ q other. inl refl) changed (quiet.every d is)
 
 -- after a good commit the disk is quiet on the new root

@@ -12,14 +12,14 @@ abbrev pub SameListed : Contents → Contents → Found → Type 0
 SameListed m c Fresh = Unit {0}
 SameListed m c (Root v catalogue) = (n : ℕ) → IsListed catalogue n → get c (data_file n) ≡ get m (data_file n)
 
-pub record IsQuiet (m : Contents) (root : Found) (c : Contents) : Type 0 where
+pub record KeepsRoot (m : Contents) (root : Found) (c : Contents) : Type 0 where
   pub opens : Opens c root
   pub same : SameListed m c root
 
 -- the disk holds these contents, and each image opens to this root, with its files
 pub record Quiet (told : Option Contents) (image : Contents → Type 0) (root : Found) (m : Contents) : Type 0 where
   pub told_is : told ≡ Some m
-  pub every : (c : Contents) → image c → IsQuiet m root c
+  pub every : (c : Contents) → image c → KeepsRoot m root c
 
 -- a data file that the root doesn't list, which may be written; where nothing was ever stored there is none
 abbrev pub IsSpare : Found → ℕ → Type 0

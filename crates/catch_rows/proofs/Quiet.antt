@@ -7,14 +7,14 @@ use Rattle.std.proofs.lemmas.List.Elements.{All-cons, All-head, All-nil, All-tai
 use Rattle.std.proofs.lemmas.Slice.Zip.{AllZip-long}
 use Rattle.catalog_types.specs.declared.catalogue.Container.{Container}
 use Rattle.del_vector.specs.declared.mark.Mark.{Mark}
-use Rattle.proj_store.specs.Sound.{IsKept, IsSound}
+use Rattle.proj_store.specs.Sound.{MarksItsRows, IsSound}
 use Rattle.stored_rows.specs.Stored.{Beside, Projected}
 
 abbrev pub IsUnmarked : Beside → Type 0
 IsUnmarked b = b.fresh ≡ []
 
 pub within : (p : Projected) (shown : List Container) (i : ℕ) → shown ≡ p.entry.containers → IsSound p.entry p.beside → i < length shown → i < length p.beside
-within p shown i same sound lt = omega (arith, lt, ap length same, AllZip-long IsKept p.entry.containers p.beside sound.kept)
+within p shown i same sound lt = omega (arith, lt, ap length same, AllZip-long MarksItsRows p.entry.containers p.beside sound.kept)
 
 empty : (marks : List Mark) → length marks ≡ 0 → marks ≡ []
 empty [] none = refl
@@ -30,5 +30,5 @@ one_more (b ∷ bs) (suc i) fresh lt is none all =
 
 pub all_of : (p : Projected) (shown : List Container) (i : ℕ) → shown ≡ p.entry.containers → IsSound p.entry p.beside → length shown ≤ i → All IsUnmarked (take i p.beside) → All IsUnmarked p.beside
 all_of p shown i same sound le all =
-    let long : length p.beside ≤ i = omega (arith, le, ap length same, AllZip-long IsKept p.entry.containers p.beside sound.kept) in
+    let long : length p.beside ≤ i = omega (arith, le, ap length same, AllZip-long MarksItsRows p.entry.containers p.beside sound.kept) in
     subst (All IsUnmarked) (take_all i p.beside long) all

@@ -25,7 +25,7 @@ use Rattle.row_matching.specs.Seeing.{IsSource}
 use Rattle.row_matching.proofs.Answered.{IsAt}
 use Rattle.row_matching.proofs.Bags.{OneList, all_at, source_stores}
 use Rattle.row_matching.proofs.Kept.{history_found}
-use Rattle.catch_rows.specs.Sharing.{IsPart, IsQuiet}
+use Rattle.catch_rows.specs.Sharing.{IsPart, HasAllOnDisk}
 
 pub found_of : {X : Type 0} (o : Option X) (P : X → Type 0) → IsSomeAnd o P → (x : X) × (o ≡ Some x) × P x
 found_of None P is = absurd is
@@ -38,7 +38,7 @@ no_marks m (k ∷ ks) [] none vectors = absurd vectors
 no_marks m (k ∷ ks) (b ∷ bs) none (here, more) = ((here, All-head (λ x. x.fresh ≡ []) b bs none), no_marks m ks bs (All-tail (λ x. x.fresh ≡ []) b bs none) more)
 
 -- a projection of which nothing is in memory alone stores what its files hold
-quiet_held : (m : Contents) (p : Projected) (rows : List Stamped) → IsQuiet p → HasVectors m p → Stores m p rows → Holds m p.entry rows
+quiet_held : (m : Contents) (p : Projected) (rows : List Stamped) → HasAllOnDisk p → HasVectors m p → Stores m p rows → Holds m p.entry rows
 quiet_held m p rows quiet vectors stores = stored_held m p rows loaded stores
   where
     loaded : IsLoaded m p
@@ -52,7 +52,7 @@ pub record TellsOf (m : Contents) (mark : ℕ) (places : List (Option ℕ)) (p :
   pub valid : All (λ s. IsRow s.row) (retained mark rows)
 
 pub told_of : OneList → ((m : Contents) (p : Projected) (rows : List Stamped) → Stores m p rows → HasVectors m p) → {D : Type 0} (disk : Ghosts D) (now : D) (s : Seen) (d : Database) (table mark count : ℕ) (places : List (Option ℕ)) (t : kept.Table) (p : Loaded)
-    → IsPart s table t p → length t.columns ≡ count → IsSource count places p.stored → IsQuiet p.stored → Stands disk s now d → d.ahm ≤ mark
+    → IsPart s table t p → length t.columns ≡ count → IsSource count places p.stored → HasAllOnDisk p.stored → Stands disk s now d → d.ahm ≤ mark
     → (m : Contents) × (disk.holds now ≡ Some m) × (u : Table) × (slice_get d.tables table ≡ Some u) × TellsOf m mark places p.stored u.rows
 told_of one vectors disk now s d table mark count places t p part many source quiet stands le =
     let m = stands.files in

@@ -53,7 +53,7 @@ abbrev pub HasNoMarks : Projected → Type 0
 HasNoMarks p = All (λ b. b.fresh ≡ []) p.beside
 
 -- nothing of a projection is in memory alone
-pub record IsQuiet (p : Projected) : Type 0 where
+pub record HasAllOnDisk (p : Projected) : Type 0 where
   pub unsaved : p.unsaved ≡ []
   pub marks : HasNoMarks p
 
@@ -61,8 +61,8 @@ pub record IsQuiet (p : Projected) : Type 0 where
 pub record IsAlike (p q : Projected) : Type 0 where
   pub fresh : q.entry.fresh ≡ true
   pub columns : p.entry.columns ≡ q.entry.columns
-  pub first : IsQuiet p
-  pub second : IsQuiet q
+  pub first : HasAllOnDisk p
+  pub second : HasAllOnDisk q
 
 -- a projection with some containers
 abbrev pub with_containers : List Container → Projection → Projection

@@ -2,7 +2,7 @@
 
 ghost use Rattle.std.specs.Prelude.{◌≡◌, IsTrue, IfSome, IsSomeAnd};
 ghost use Rattle.std.specs.List.{slice_get};
-ghost use Rattle.catch_rows.specs.Sharing.{HasNoMarks, IsAlike, IsQuiet};
+ghost use Rattle.catch_rows.specs.Sharing.{HasNoMarks, IsAlike, HasAllOnDisk};
 
 use catalog_types::ProjColumn;
 use col_value::{Encoding, Value};
@@ -60,7 +60,7 @@ fn has_no_marks(store: &ProjStore) -> bool
 
 /// Whether nothing of a projection is in memory alone.
 fn is_quiet(store: &ProjStore) -> bool
-    ensures { IsTrue result → IsQuiet store.now.stored }
+    ensures { IsTrue result → HasAllOnDisk store.now.stored }
 {
     store.unsaved().is_empty() && has_no_marks(store)
 }

@@ -10,13 +10,13 @@ use Rattle.col_disk.specs.declared.disk.DiskFault.{DiskFault}
 use Rattle.col_disk.specs.declared.disk.DiskFault.TheVariants.{Failed, Memory as no_memory}
 use Rattle.col_disk.specs.declared.did.Did.{Did}
 use Rattle.col_disk.specs.declared.did.Did.TheVariants.{Placed, Wrote, Removed, Kept, Synced}
-use Rattle.col_disk.specs.Dids.{after, replayed, Then, Images, contents_of, ImagesOf, ImagesSince, IsKept}
+use Rattle.col_disk.specs.Dids.{after, replayed, Then, Images, contents_of, ImagesOf, ImagesSince, IsMemDisk}
 use Rattle.col_disk.specs.Done.{replayed_more, images_more, at_last, at_now, since_more, now_shown}
 use Rattle.col_disk.specs.Memory.{Memory, held_by}
 use Rattle.col_disk.proofs.Moving.{insert_elsewhere}
 
 -- one thing more was noted, and there is room for a sync
-pub kept_more : (held now : Contents) (dids : List Did) (did : Did) (dirty : Bool) (len capacity len_now capacity_now : ℕ) → now ≡ after held did → len_now < capacity_now → IsKept held dids dirty len capacity → IsKept now (dids ++ did ∷ []) true len_now capacity_now
+pub kept_more : (held now : Contents) (dids : List Did) (did : Did) (dirty : Bool) (len capacity len_now capacity_now : ℕ) → now ≡ after held did → len_now < capacity_now → IsMemDisk held dids dirty len capacity → IsMemDisk now (dids ++ did ∷ []) true len_now capacity_now
 kept_more held now dids did dirty len capacity len_now capacity_now is room kept = record {
   held_is = is ∙ ap (λ (m : Contents). after m did) kept.held_is ∙ sym (replayed_more empty dids did);
   room = λ _. room;
@@ -24,7 +24,7 @@ kept_more held now dids did dirty len capacity len_now capacity_now is room kept
 }
 
 -- a sync was noted
-pub kept_synced : (held : Contents) (dids : List Did) (dirty : Bool) (len capacity len_now capacity_now : ℕ) → IsKept held dids dirty len capacity → IsKept held (dids ++ Synced ∷ []) false len_now capacity_now
+pub kept_synced : (held : Contents) (dids : List Did) (dirty : Bool) (len capacity len_now capacity_now : ℕ) → IsMemDisk held dids dirty len capacity → IsMemDisk held (dids ++ Synced ∷ []) false len_now capacity_now
 kept_synced held dids dirty len capacity len_now capacity_now kept = record {
   held_is = kept.held_is ∙ sym (replayed_more empty dids Synced);
   room = λ dirty_now. absurd (cc);

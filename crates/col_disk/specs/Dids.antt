@@ -43,7 +43,7 @@ ImagesSince dids t c = (k : ℕ) × (t ≤ k) × (k ≤ length dids) × ImagesOf
 
 -- What a disk in memory keeps: the contents; room for a sync, where one has something to do; and where it has nothing to do, the
 -- contents are the only image.
-pub record IsKept (held : Contents) (dids : List Did) (dirty : Bool) (len capacity : ℕ) : Type 0 where
+pub record IsMemDisk (held : Contents) (dids : List Did) (dirty : Bool) (len capacity : ℕ) : Type 0 where
   pub held_is : held ≡ contents_of dids
   pub room : dirty ≡ true → len < capacity
   pub clean : dirty ≡ false → (c : Contents) → ImagesOf dids c → c ≡ contents_of dids

@@ -39,14 +39,14 @@ pub struct MemDisk {
 
 impl Model for MemDisk {
     ghost use Rattle.col_disk.specs.Memory.{Memory};
-    ghost use Rattle.col_disk.specs.Dids.{IsKept};
+    ghost use Rattle.col_disk.specs.Dids.{IsMemDisk};
     ghost use Rattle.std.specs.Prelude.{vec_len, vec_capacity};
 
     ghost Value = { Memory };
 
     ghost view = { λ d. record { done = d.done.items; changed = d.changed; calls = d.calls; failing = d.failing.items; failing_from = d.failing_from; faults = d.faults } };
 
-    ghost invariant = { λ d. IsKept d.held d.done.items d.dirty (vec_len d.done) (vec_capacity d.done) };
+    ghost invariant = { λ d. IsMemDisk d.held d.done.items d.dirty (vec_len d.done) (vec_capacity d.done) };
 }
 
 impl MemDisk {

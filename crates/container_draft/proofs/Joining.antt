@@ -11,7 +11,7 @@ use Rattle.catalog_types.specs.declared.catalogue.Container.{Container}
 use Rattle.del_vector.specs.declared.mark.Mark.{Mark}
 use Rattle.del_vector.specs.Marks.{epoch_at}
 use Rattle.stored_rows.specs.Stored.{Beside, Projected, mark_in}
-use Rattle.proj_store.specs.Sound.{AreInside, IsKept, IsSound}
+use Rattle.proj_store.specs.Sound.{AreInside, MarksItsRows, IsSound}
 use Rattle.merge_rows.specs.Inputs.{chosen}
 use Rattle.container_draft.specs.Keeping.{beside_of}
 use Rattle.container_draft.specs.Reading.{deletes, deletes_in, deletes_if}
@@ -33,17 +33,17 @@ pub deletes_are : (held fresh : List Mark) (count : ℕ) (found shown out : List
 deletes_are held fresh count found shown out each same is =
     is ∙ ap (λ (ds : List (Option ℕ)). map (λ i. get_or ds i None) (range_with_len 0 count)) same ∙ map_same (λ i. get_or found i None) (mark_in (beside_of held fresh)) each (range_with_len 0 count)
 
-pub held_inside : (o : Option Beside) (k : Container) (held : List Mark) → IsSomeAnd o (λ b. held ≡ b.held) → IsSomeAnd o (IsKept k) → AreInside k held
+pub held_inside : (o : Option Beside) (k : Container) (held : List Mark) → IsSomeAnd o (λ b. held ≡ b.held) → IsSomeAnd o (MarksItsRows k) → AreInside k held
 held_inside None k held is kept = absurd is
 held_inside (Some b) k held is kept = subst (AreInside k) (sym is) kept.held
 
-pub fresh_inside : (o : Option Beside) (k : Container) (fresh : List Mark) → IsSomeAnd o (λ b. fresh ≡ b.fresh) → IsSomeAnd o (IsKept k) → AreInside k fresh
+pub fresh_inside : (o : Option Beside) (k : Container) (fresh : List Mark) → IsSomeAnd o (λ b. fresh ≡ b.fresh) → IsSomeAnd o (MarksItsRows k) → AreInside k fresh
 fresh_inside None k fresh is kept = absurd is
 fresh_inside (Some b) k fresh is kept = subst (AreInside k) (sym is) kept.fresh
 
 -- ---- where they are wanted
 
-pub unwanted : (o : Option Beside) (k : Container) (flag : Bool) (dels : List (Option ℕ)) → IsSomeAnd o (IsKept k) → flag ≡ false → IsSomeAnd o (λ b. dels ≡ dels ++ deletes_if flag b k.rows)
+pub unwanted : (o : Option Beside) (k : Container) (flag : Bool) (dels : List (Option ℕ)) → IsSomeAnd o (MarksItsRows k) → flag ≡ false → IsSomeAnd o (λ b. dels ≡ dels ++ deletes_if flag b k.rows)
 unwanted None k flag dels kept is = absurd kept
 unwanted (Some b) k flag dels kept is = subst (λ (f : Bool). dels ≡ dels ++ deletes_if f b k.rows) (sym is) (sym (append-nil dels))
 
@@ -80,7 +80,7 @@ zip_at R (a ∷ xs) (b ∷ ys) zero x y all lt below = all.0
 zip_at R (a ∷ xs) (b ∷ ys) (suc i) x y all lt below = zip_at R xs ys i x y all.1 (omega (arith, lt)) (omega (arith, below))
 
 both_long : (p : Projected) → IsSound p.entry p.beside → length p.entry.containers ≡ length p.beside
-both_long p sound = sym (AllZip-long IsKept p.entry.containers p.beside sound.kept)
+both_long p sound = sym (AllZip-long MarksItsRows p.entry.containers p.beside sound.kept)
 
 pub beside_within : (p : Projected) (shown : List Container) (i : ℕ) → shown ≡ p.entry.containers → IsSound p.entry p.beside → i < length shown → i < length p.beside
 beside_within p shown i same sound lt = omega (arith, lt, ap length same, both_long p sound)
@@ -88,13 +88,13 @@ beside_within p shown i same sound lt = omega (arith, lt, ap length same, both_l
 abbrev no_beside : Beside
 no_beside = record { held = []; fresh = [] }
 
-pub kept_at : (p : Projected) (shown : List Container) (i : ℕ) (k : Container) → shown ≡ p.entry.containers → IsSound p.entry p.beside → i < length shown → k ≡ get_or shown i k → IsSomeAnd (slice_get p.beside i) (IsKept k)
+pub kept_at : (p : Projected) (shown : List Container) (i : ℕ) (k : Container) → shown ≡ p.entry.containers → IsSound p.entry p.beside → i < length shown → k ≡ get_or shown i k → IsSomeAnd (slice_get p.beside i) (MarksItsRows k)
 kept_at p shown i k same sound lt is =
     let within = beside_within p shown i same sound lt in
     let inside : i < length p.entry.containers = omega (arith, lt, ap length same) in
     let here : k ≡ get_or p.entry.containers i k = subst (λ (xs : List Container). k ≡ get_or xs i k) same is in
-    slice_at (IsKept k) p.beside i no_beside within
-    (subst (λ (x : Container). IsKept x (get_or p.beside i no_beside)) (sym here) (zip_at IsKept p.entry.containers p.beside i k no_beside sound.kept inside within))
+    slice_at (MarksItsRows k) p.beside i no_beside within
+    (subst (λ (x : Container). MarksItsRows x (get_or p.beside i no_beside)) (sym here) (zip_at MarksItsRows p.entry.containers p.beside i k no_beside sound.kept inside within))
 
 take_both : {X Y : Type 0} (i : ℕ) (xs : List X) (ys : List Y) → length xs ≡ length ys → length (take i xs) ≡ length (take i ys)
 take_both zero xs ys same = none xs ys

@@ -2,7 +2,7 @@
 
 ghost use Rattle.std.specs.Prelude.{◌≡◌, ◌<◌, ◌++◌, None, get_or, length, map, IfOk, OnOk, IsSomeAnd};
 ghost use Rattle.std.specs.List.{All, range_with_len, slice_get};
-ghost use Rattle.proj_store.specs.Sound.{IsKept};
+ghost use Rattle.proj_store.specs.Sound.{MarksItsRows};
 ghost use Rattle.stored_rows.specs.Stored.{mark_in};
 ghost use Rattle.merge_rows.specs.Inputs.{chosen};
 ghost use Rattle.container_draft.specs.Keeping.{beside_of};
@@ -58,7 +58,7 @@ fn add_if(
     wanted: bool,
 ) -> Result<(), AllocError>
     requires place { place < length p.now.stored.beside }
-    requires kept { IsSomeAnd (slice_get p.now.stored.beside place) (IsKept container.now) }
+    requires kept { IsSomeAnd (slice_get p.now.stored.beside place) (MarksItsRows container.now) }
     ensures { OnOk result (IsSomeAnd (slice_get p.now.stored.beside place) (λ b. dels.new.items ≡ dels.old.items ++ deletes_if wanted b container.now.rows)) }
 {
     if !wanted {

@@ -16,7 +16,7 @@ use Rattle.db_model.specs.Views.{table_found}
 use Rattle.db_model.specs.Events.{mark_raised, is_of_table, column_added, table_created, projection_created, table_dropped, projection_dropped, rows_pending, rows_deleted, rows_updated, rows_loaded}
 use Rattle.db_model.specs.Loading.{Files}
 use Rattle.db_model.specs.Mover.{MovesAll, RaisesAll, RefreshesAll}
-use Rattle.db_model.specs.Leaving.{Leaves, MarkLeaves, RefusedLeaves, CallLeaves, RefusedCallLeaves, CopyLeaves}
+use Rattle.db_model.specs.Leaving.{StatementLeaves, MarkLeaves, RefusedLeaves, CallLeaves, RefusedCallLeaves, CopyLeaves}
 use Rattle.db_model.specs.Step.{Step, Effect}
 use Rattle.db_model.specs.Run.{Setting, RunTexts, Run, EndsUnless, all_dropped}
 use Rattle.db_laws.proofs.Goods.{IsGood, good_least, good_itself, good_created, good_projected, good_dropped, good_bared, good_committed, good_widened, good_drawn, good_all, good_raises, good_refreshes, good_mover, good_runs}
@@ -54,7 +54,7 @@ called_good n state (Function.Purge table) new raises good = good_raises n (λ s
 called_good n state (Function.Refresh table) new refreshes good = good_refreshes n table state false new refreshes good
 called_good n state Function.StartRefresh new same good = subst (λ (x : State). IsGood n x.database) (sym same) good
 
-left_good : (n : ℕ) (state : State) (files : Files) (s : Statement) (new : State) → Leaves state files s new → IsGood n state.database → IsGood n new.database
+left_good : (n : ℕ) (state : State) (files : Files) (s : Statement) (new : State) → StatementLeaves state files s new → IsGood n state.database → IsGood n new.database
 left_good n state files (Statement.CreateTable name columns) new drawn good = good_drawn n state (table_created name columns state) new drawn (good_created n name columns state good)
 left_good n state files (Statement.CreateProjection p) new drawn good = good_drawn n state (projection_created p state) new drawn (good_projected n p state good)
 left_good n state files (Statement.DropTable name) new drawn good = good_drawn n state (table_dropped name state) new drawn (good_dropped n name state good)

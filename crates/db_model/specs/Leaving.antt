@@ -40,23 +40,23 @@ CallLeaves state (Function.Refresh table) new = RefreshesAll table state false n
 CallLeaves state Function.StartRefresh new = new ≡ refresh_started state
 
 -- what a statement leaves that isn't refused
-abbrev pub Leaves : State → Files → Statement → State → Type 0
-Leaves state files (Statement.CreateTable name columns) new = IsDrawn state (table_created name columns state) new
-Leaves state files (Statement.CreateProjection p) new = IsDrawn state (projection_created p state) new
-Leaves state files (Statement.DropTable name) new = IsDrawn state (table_dropped name state) new
-Leaves state files (Statement.DropProjection name) new = IsDrawn state (projection_dropped name state) new
-Leaves state files (Statement.Insert i) new = new ≡ rows_pending i.table (inserted_rows i) state
-Leaves state files (Statement.Delete d) new = new ≡ on_table d.table (rows_deleted d state) state
-Leaves state files (Statement.Update u) new = new ≡ on_table u.table (rows_updated u state) state
-Leaves state files (Statement.AddColumn a) new = IsDrawn state (column_added a state) new
-Leaves state files (Statement.Copy table file) new = CopyLeaves state (table_found table state.database.tables) (files file) new
-Leaves state files Statement.Commit new = new ≡ changes_committed state
-Leaves state files Statement.Rollback new = new ≡ changes_dropped state
-Leaves state files (Statement.Select at q) new = new ≡ state
-Leaves state files (Statement.Explain q) new = new ≡ state
-Leaves state files (Statement.Call f) new = CallLeaves state f new
-Leaves state files (Statement.Session n) new = new ≡ record state { current = n }
-Leaves state files Statement.Step new = MoverSteps state new
+abbrev pub StatementLeaves : State → Files → Statement → State → Type 0
+StatementLeaves state files (Statement.CreateTable name columns) new = IsDrawn state (table_created name columns state) new
+StatementLeaves state files (Statement.CreateProjection p) new = IsDrawn state (projection_created p state) new
+StatementLeaves state files (Statement.DropTable name) new = IsDrawn state (table_dropped name state) new
+StatementLeaves state files (Statement.DropProjection name) new = IsDrawn state (projection_dropped name state) new
+StatementLeaves state files (Statement.Insert i) new = new ≡ rows_pending i.table (inserted_rows i) state
+StatementLeaves state files (Statement.Delete d) new = new ≡ on_table d.table (rows_deleted d state) state
+StatementLeaves state files (Statement.Update u) new = new ≡ on_table u.table (rows_updated u state) state
+StatementLeaves state files (Statement.AddColumn a) new = IsDrawn state (column_added a state) new
+StatementLeaves state files (Statement.Copy table file) new = CopyLeaves state (table_found table state.database.tables) (files file) new
+StatementLeaves state files Statement.Commit new = new ≡ changes_committed state
+StatementLeaves state files Statement.Rollback new = new ≡ changes_dropped state
+StatementLeaves state files (Statement.Select at q) new = new ≡ state
+StatementLeaves state files (Statement.Explain q) new = new ≡ state
+StatementLeaves state files (Statement.Call f) new = CallLeaves state f new
+StatementLeaves state files (Statement.Session n) new = new ≡ record state { current = n }
+StatementLeaves state files Statement.Step new = MoverSteps state new
 
 -- What a refused statement leaves: nothing changes. Functions with jobs alone keep those that came before the numbers were spent.
 abbrev pub RefusedCallLeaves : State → Function → State → Type 0

@@ -3,7 +3,7 @@ use Rattle.std.specs.Prelude.{ℕ, List, Option, map}
 use Rattle.col_value.specs.declared.value.Value.{Value}
 use Rattle.col_value.specs.declared.column.Column.{Column}
 use Rattle.load_reader.specs.declared.fields.LoadColumn.{LoadColumn}
-use Rattle.load_reader.specs.Load.{Load as FileLoad, Loads as LoadsFile}
+use Rattle.load_reader.specs.Load.{FileLoad, LoadsFile}
 
 -- the bytes of each load file, by its name
 abbrev pub Files : Type 0

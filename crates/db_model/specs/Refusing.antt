@@ -7,6 +7,7 @@ use Rattle.sql_tree.specs.declared.query.At.{At}
 use Rattle.sql_tree.specs.declared.refusal.Refusal.{Refusal}
 use Rattle.sql_tree.specs.declared.refusal.Which.{Which}
 use Rattle.sql_binding.specs.Firsts.{first_of, first_given, refused_where}
+use Rattle.sql_binding.specs.Projections.{name_limit}
 use Rattle.db_model.specs.Database.{Table, is_taken, super_name}
 use Rattle.db_model.specs.State.{State, own_changes, has_changes}
 
@@ -23,12 +24,9 @@ repeated_behind before (c ∷ cs) = if list_any (λ n. bytes_eq n c.name) before
 abbrev pub taken_name : List Table → List ℕ → List Column → Option (List ℕ)
 taken_name tables name columns = first_of (if_taken tables name) (first_of (if_taken tables (super_name name)) (repeated_behind [] columns))
 
--- at most 1,024 tables, 64 columns of a table, 120 bytes of a created name, and a VARCHAR of 1 to 65,000 octets
+-- at most 1,024 tables, 64 columns of a table, 120 bytes of a created name (`name_limit`), and a VARCHAR of 1 to 65,000 octets
 abbrev pub tables_limit : List Table → Option Refusal
 tables_limit tables = refused_where (nat_le 1024 (length tables)) (Refusal.Limit Which.Tables 1024)
-
-abbrev pub name_limit : List ℕ → Option Refusal
-name_limit name = refused_where (nat_lt 120 (length name)) (Refusal.Limit Which.Name 120)
 
 abbrev pub is_wrong_width : ColType → Bool
 is_wrong_width ColType.Integer = false

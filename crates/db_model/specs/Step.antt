@@ -9,7 +9,7 @@ use Rattle.sql_tree.specs.Lines.{refusal_text}
 use Rattle.db_model.specs.State.{State}
 use Rattle.db_model.specs.Loading.{Files}
 use Rattle.db_model.specs.Refusals.{Refuses}
-use Rattle.db_model.specs.Leaving.{Leaves, RefusedLeaves}
+use Rattle.db_model.specs.Leaving.{StatementLeaves, RefusedLeaves}
 use Rattle.db_model.specs.Printing.{Prints}
 
 -- what a text says: the statement that its tokens spell, or none where they spell none
@@ -36,7 +36,7 @@ RefusedTextLeaves old (Some s) new = RefusedLeaves old s new
 -- A refused statement prints its ERROR line, and nothing changes. Any other prints and leaves what it is defined to.
 abbrev pub Effect : State → Files → Option Statement → Option Refusal → List ℕ → State → Type 0
 Effect old files read (Some refusal) printed new = (printed ≡ refusal_text refusal) × RefusedTextLeaves old read new
-Effect old files (Some s) None printed new = Prints old files s printed × Leaves old files s new
+Effect old files (Some s) None printed new = Prints old files s printed × StatementLeaves old files s new
 Effect old files None None printed new = ⊥
 
 -- One statement text in a state, over load files and for the forms that are served: what it prints, whether it was refused, and the new

@@ -7,7 +7,7 @@ use Rattle.catalog_types.specs.declared.catalogue.Container.{Container}
 use Rattle.catalog_types.specs.declared.catalogue.Projection.{Projection}
 use Rattle.del_vector.specs.declared.mark.Mark.{Mark}
 use Rattle.ros_container.specs.Encodings.{written_of}
-use Rattle.proj_store.specs.Sound.{IsKept}
+use Rattle.proj_store.specs.Sound.{MarksItsRows}
 use Rattle.stored_rows.specs.Stored.{Beside, Projected}
 use Rattle.exec_scan.specs.Opened.{HasOpened, Opening}
 use Rattle.exec_scan.specs.Scanning.{HasOpenedAt}
@@ -45,11 +45,11 @@ beside held fresh = record { held = held; fresh = fresh }
 beside_is : (b : Beside) (held fresh : List Mark) → held ≡ b.held → fresh ≡ b.fresh → beside held fresh ≡ b
 beside_is b held fresh first second = ap (λ (v : List Mark). beside v fresh) first ∙ ap (λ (v : List Mark). beside b.held v) second
 
-pub kept_here : (ks : List Container) (bs : List Beside) (i : ℕ) (d : Container) (held fresh : List Mark) → AllZip IsKept ks bs → i < length ks
-    → IsSomeAnd (slice_get bs i) (λ b. held ≡ b.held) → IsSomeAnd (slice_get bs i) (λ b. fresh ≡ b.fresh) → IsKept (get_or ks i d) (beside held fresh)
+pub kept_here : (ks : List Container) (bs : List Beside) (i : ℕ) (d : Container) (held fresh : List Mark) → AllZip MarksItsRows ks bs → i < length ks
+    → IsSomeAnd (slice_get bs i) (λ b. held ≡ b.held) → IsSomeAnd (slice_get bs i) (λ b. fresh ≡ b.fresh) → MarksItsRows (get_or ks i d) (beside held fresh)
 kept_here [] bs i d held fresh all lt first second = absurd (omega (arith, lt))
 kept_here (k ∷ ks) [] i d held fresh all lt first second = absurd all
-kept_here (k ∷ ks) (b ∷ bs) zero d held fresh all lt first second = subst (IsKept k) (sym (beside_is b held fresh first second)) all.0
+kept_here (k ∷ ks) (b ∷ bs) zero d held fresh all lt first second = subst (MarksItsRows k) (sym (beside_is b held fresh first second)) all.0
 kept_here (k ∷ ks) (b ∷ bs) (suc i) d held fresh all lt first second = kept_here ks bs i d held fresh all.1 (omega (arith, lt)) first second
 
 -- what was opened of the container at a place

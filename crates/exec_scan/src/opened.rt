@@ -8,7 +8,7 @@ ghost use Rattle.col_disk.specs.Moved.{Moved, NoName};
 ghost use Rattle.ros_container.specs.Encodings.{written_of};
 ghost use Rattle.ros_container.specs.Held.{BlamesContainer};
 ghost use Rattle.ros_container.specs.Readable.{IsReadable};
-ghost use Rattle.proj_store.specs.Sound.{IsKept};
+ghost use Rattle.proj_store.specs.Sound.{MarksItsRows};
 ghost use Rattle.stored_rows.specs.Stored.{Beside};
 ghost use Rattle.exec_scan.specs.Opened.{IsNeeded, HoldsNeeded, IsOpening, HasOpened};
 ghost use Rattle.exec_scan.specs.Scanning.{AreOwn};
@@ -107,7 +107,7 @@ pub fn open<D: Disk>(
 ) -> Result<Opened, StoreFault>
     requires numbers { IsReadable shape.now.columns entry.now }
     requires own { AreOwn shape.now places.now }
-    requires marks { IsKept entry.now (record { held = held.now; fresh = fresh.now }) }
+    requires marks { MarksItsRows entry.now (record { held = held.now; fresh = fresh.now }) }
     ensures opening { IfOk result (IsOpening entry.now.rows places.now) }
     ensures opened { IfOk result (HasOpened (written_of shape.now) entry.now (length shape.now.columns) (record { held = held.now; fresh = fresh.now }) places.now (D.holds disk.old)) }
     ensures blamed { IfErr result (BlamesContainer (written_of shape.now) entry.now (D.holds disk.old)) }

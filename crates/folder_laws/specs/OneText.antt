@@ -7,7 +7,7 @@ use Rattle.db_model.specs.Alike.{AreAlikeStates}
 use Rattle.db_model.specs.Database.{Database}
 use Rattle.db_model.specs.Run.{Run, Setting}
 use Rattle.db_model.specs.State.{State, opened_with}
-use Rattle.one_text.specs.Scripts.{IsQuiet}
+use Rattle.one_text.specs.Scripts.{AsksNoMover}
 use Rattle.alike_steps.specs.Runs.{HaveNumbersLeft}
 use Rattle.alike_steps.specs.Steps.{IsDetermined}
 use Rattle.folder_model.specs.Reopening.{Reopens}
@@ -25,7 +25,7 @@ pub record IsOpening (m : Contents) (start : State) : Type 0 where
 abbrev pub FoldersRunAlike : Type 0
 FoldersRunAlike =
     (m : Contents) (setting : Setting) (start begin : State) (script printed other : List ℕ) (refused also : Bool) (new left : State)
-    → IsOpening m start → IsOpening m begin → setting.steps ≡ 0 → All IsQuiet (statement_texts script) → HaveNumbersLeft new left
+    → IsOpening m start → IsOpening m begin → setting.steps ≡ 0 → All AsksNoMover (statement_texts script) → HaveNumbersLeft new left
     → Run setting start script printed refused new → Run setting begin script other also left
     → (printed ≡ other) × (refused ≡ also) × AreAlikeStates new left
 

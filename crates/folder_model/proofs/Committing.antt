@@ -15,7 +15,7 @@ use Rattle.catalog_root.specs.declared.found.Found.{Found}
 use Rattle.catalog_root.specs.declared.found.Found.TheVariants.{Fresh, Root}
 use Rattle.catalog_root.specs.Root.{data_file, Opens}
 use Rattle.catalog_root.specs.Crash.{RootNames, IsOld, IsReplaced, OldOrNew}
-use Rattle.catalog_root.specs.Quiet.{IsQuiet, IsSpare, IsUseless}
+use Rattle.catalog_root.specs.Quiet.{KeepsRoot, IsSpare, IsUseless}
 use Rattle.catalog_root.proofs.Quieting.{quiet_moved, quiet_leaves, quiet_replaced, listed_stay}
 use Rattle.db_model.specs.Database.{Database, Table}
 use Rattle.db_model.specs.Epochs.{last_good, cut}
@@ -120,14 +120,14 @@ stands_committed told image version c stores m d are sound drawn replaced = (sta
 
 -- ---- at any moment of a commit
 
-old_quiet : (m x y : Contents) (root : Found) (version : ℕ) → IsQuiet m root y → Opens x root → Changed (RootNames version) NoName y x → IsQuiet m root x
+old_quiet : (m x y : Contents) (root : Found) (version : ℕ) → KeepsRoot m root y → Opens x root → Changed (RootNames version) NoName y x → KeepsRoot m root x
 old_quiet m x y Fresh version quiet opens like = record { opens = opens; same = tt }
 old_quiet m x y (Root v r) version quiet opens like = record {
   opens = opens;
   same = λ k listed. changed_kept (RootNames version) NoName y x (data_file k) (not_root version k) (λ q. q) like ∙ quiet.same k listed;
 }
 
-reopens : (m x : Contents) (c : Catalogue) (stores : List (List Projected)) (d : Database) (root : Found) → AreDatabase m c stores d → IsSoundDatabase d → IsRootOf c root → IsQuiet m root x
+reopens : (m x : Contents) (c : Catalogue) (stores : List (List Projected)) (d : Database) (root : Found) → AreDatabase m c stores d → IsSoundDatabase d → IsRootOf c root → KeepsRoot m root x
     → Reopens x (cut (last_good d) d)
 reopens m x c stores d root are sound is_root quiet =
     let marked = mark_below_good d sound in
@@ -151,7 +151,7 @@ commit_reopens c k stores others told image version d e stands are sound drawn x
 
 -- ---- a commit that was given up
 
-undone_quiet : (m n x y : Contents) (root : Found) (version : ℕ) → Changed (RootNames version) NoName m n → IsQuiet m root y → Opens x root → Changed (RootNames version) NoName y x → IsQuiet n root x
+undone_quiet : (m n x y : Contents) (root : Found) (version : ℕ) → Changed (RootNames version) NoName m n → KeepsRoot m root y → Opens x root → Changed (RootNames version) NoName y x → KeepsRoot n root x
 undone_quiet m n x y Fresh version told quiet opens like = record { opens = opens; same = tt }
 undone_quiet m n x y (Root v r) version told quiet opens like = record {
   opens = opens;
@@ -173,7 +173,7 @@ stands_undone disk {old} {new} version c stores d stands moved each =
       quiet = record { told_is = told; every = λ x is. by n changed x (each x is) };
     }
   where
-    by : (n : Contents) → Changed (RootNames version) NoName stands.files n → (x : Contents) → IsOld stands.root version (ImageOf disk old) x → IsQuiet n stands.root x
+    by : (n : Contents) → Changed (RootNames version) NoName stands.files n → (x : Contents) → IsOld stands.root version (ImageOf disk old) x → KeepsRoot n stands.root x
     by n changed x before = let (y, is, like) = before.like in undone_quiet stands.files n x y stands.root version changed (stands.quiet.every y is) before.opens like
 
 -- whatever a crash leaves while other files are written and removed

@@ -15,7 +15,7 @@ use Rattle.catalog_types.specs.declared.catalogue.Catalogue.{Catalogue}
 use Rattle.catalog_types.specs.Reached.{earlier, table_reached, all_reached, least_lge}
 use Rattle.catalog_root.specs.declared.found.Found.{Found}
 use Rattle.catalog_root.specs.declared.found.Found.TheVariants.{Fresh, Root}
-use Rattle.catalog_root.specs.Quiet.{IsQuiet}
+use Rattle.catalog_root.specs.Quiet.{KeepsRoot}
 use Rattle.db_model.specs.Database.{Database, Table, Shape}
 use Rattle.db_model.specs.Epochs.{moved_shape}
 use Rattle.db_model.specs.Epochs.{all_shapes, least_or, last_good, cut_table, cut}
@@ -132,7 +132,7 @@ nothing m mark (ps ∷ pss) us stand = absurd stand
 
 -- an image reopens to the database cut at the last good epoch
 pub image_reopens : (m x : Contents) (c : Catalogue) (stores : List (List Projected)) (d : Database) (root : Found) → AreDatabase m c stores d → d.ahm ≤ last_good d → IsSoundDatabase (cut (last_good d) d)
-    → IsRootOf c root → IsQuiet m root x → Reopens x (cut (last_good d) d)
+    → IsRootOf c root → KeepsRoot m root x → Reopens x (cut (last_good d) d)
 image_reopens m x c stores d Fresh are marked sound (tables, last, ahm) quiet =
     let bare : d.tables ≡ [] = nothing m c.ahm stores d.tables (subst (λ (ts : List kept.Table). StandForTables m c.ahm ts stores d.tables) tables are.tables) in
     let good : last_good d ≡ 0 = ap (λ (us : List Table). least_or d.last (map (λ s. s.lge) (filter_fresh us))) bare ∙ are.last ∙ last in

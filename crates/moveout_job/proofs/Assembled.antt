@@ -22,7 +22,7 @@ use Rattle.stored_rows.specs.Stored.{Projected}
 use Rattle.ros_container.specs.Readable.{HasDefaultValue, IsOfColumns, IsReadable}
 use Rattle.proj_store.specs.Sound.{HasVectorNumber, IsLoadable}
 use Rattle.container_writer.specs.Writing.{listed, HoldsBag, DataFrom, IsNumbered, AreNumbered}
-use Rattle.moveout_job.specs.OnDisk.{IsBelow, IsDrawn, IsListedBelow, IsRemarked, RemarksEach, MovesOut, moved_to}
+use Rattle.moveout_job.specs.OnDisk.{IsBelow, IsNewNumber, IsListedBelow, IsRemarked, RemarksEach, KeepsStored, moved_to}
 use Rattle.moveout_job.proofs.Renewed.{between, rows_below, rows_join, wider_below}
 
 pub zip_all : {A B : Type 0} (R : A → B → Type 0) (P : A → Type 0) (Q : B → Type 0) → ((x : A) (y : B) → R x y → P x → Q y) → (xs : List A) (ys : List B) → AllZip R xs ys → All P xs → All Q ys
@@ -43,11 +43,11 @@ of_entry last js made shown old new is same = is ∙ ap (moved_to last js made) 
 pub vector_low : (next mid : ℕ) (k j : Container) → IsRemarked next mid k j → HasVectorNumber k → HasVectorNumber j
 vector_low next mid k j is low = by is.marks
   where
-    of : (o : Option ℕ) → IfSome o (IsDrawn next mid) → IfSome o (λ n. n < 2 ^ 62)
+    of : (o : Option ℕ) → IfSome o (IsNewNumber next mid) → IfSome o (λ n. n < 2 ^ 62)
     of None drawn = tt
     of (Some n) drawn = drawn.low
 
-    by : (j.marks ≡ k.marks) ⊎ IfSome j.marks (IsDrawn next mid) → HasVectorNumber j
+    by : (j.marks ≡ k.marks) ⊎ IfSome j.marks (IsNewNumber next mid) → HasVectorNumber j
     by (inl same) = subst (λ (o : Option ℕ). IfSome o (λ n. n < 2 ^ 62)) (sym same) low
     by (inr drawn) = of j.marks drawn
 
@@ -103,11 +103,11 @@ remarked_below next mid k j le is low = record { files = let same = is.base in l
     up None below = tt
     up (Some n) below = omega (arith, below, le)
 
-    of : (o : Option ℕ) → IfSome o (IsDrawn next mid) → IfSome o (λ n. n < mid)
+    of : (o : Option ℕ) → IfSome o (IsNewNumber next mid) → IfSome o (λ n. n < mid)
     of None drawn = tt
     of (Some n) drawn = drawn.upto
 
-    by : (j.marks ≡ k.marks) ⊎ IfSome j.marks (IsDrawn next mid) → IfSome j.marks (λ n. n < mid)
+    by : (j.marks ≡ k.marks) ⊎ IfSome j.marks (IsNewNumber next mid) → IfSome j.marks (λ n. n < mid)
     by (inl same) = subst (λ (o : Option ℕ). IfSome o (λ n. n < mid)) (sym same) (up k.marks low.vector)
     by (inr drawn) = of j.marks drawn
 
@@ -144,7 +144,7 @@ lists_below last next mid after old new js made is le each numbers below =
 
 pub moves_out : {D : Type 0} (disk : Ghosts D) {old mid new : D} (last next after : ℕ) (p : Projected) (entry : Projection) (js : List Container) (made : Option Container) (rows : List Stamped)
     → entry ≡ moved_to last js made p.entry → RemarksEach (written_of p.entry) next after p.entry.containers p.beside js (disk.holds old) (disk.holds mid) → Moved disk (DataFrom after) NoName mid new
-    → ((m : Contents) → disk.holds new ≡ Some m → HoldsBag m (written_of p.entry) (listed made) rows) → rows ≡ p.unsaved → MovesOut next p entry (disk.holds old) (disk.holds new)
+    → ((m : Contents) → disk.holds new ≡ Some m → HoldsBag m (written_of p.entry) (listed made) rows) → rows ≡ p.unsaved → KeepsStored next p entry (disk.holds old) (disk.holds new)
 moves_out disk last next after p entry js made rows is each second bag are m n told left below stored (saved, stores, stored_is) =
     let es = written_of p.entry in
     let (l, told_l, held_l) = each m saved told below stores in

@@ -11,7 +11,7 @@ use Rattle.catalog_types.specs.declared.catalogue.Container.{Container}
 use Rattle.ros_container.specs.Encodings.{Written, written_of}
 use Rattle.del_vector.specs.declared.mark.Mark.{Mark}
 use Rattle.stored_rows.specs.Stored.{Beside, Projected}
-use Rattle.proj_store.specs.Sound.{IsKept, IsSound}
+use Rattle.proj_store.specs.Sound.{MarksItsRows, IsSound}
 use Rattle.container_writer.specs.Writing.{DataFrom}
 use Rattle.merge_rows.specs.Inputs.{others}
 use Rattle.moveout_job.specs.OnDisk.{IsRemarked, Remarks, RemarksIf, RemarksEach, SavesOthers, beside}
@@ -108,7 +108,7 @@ pub others_all : (es : List Written) (next after i : ℕ) (flags : List Bool) (s
     → RemarksEach es next after (others flags (take i p.entry.containers)) (others flags (take i p.beside)) (others flags js) found left → RemarksEach es next after (others flags p.entry.containers) (others flags p.beside) (others flags js) found left
 others_all es next after i flags shown js p found left same sound done each =
     let past : length p.entry.containers ≤ i = omega (arith, done, ap length same) in
-    let also : length p.beside ≤ i = omega (arith, done, ap length same, AllZip-long IsKept p.entry.containers p.beside sound.kept) in
+    let also : length p.beside ≤ i = omega (arith, done, ap length same, AllZip-long MarksItsRows p.entry.containers p.beside sound.kept) in
     subst (λ (ks : List Container). RemarksEach es next after ks (others flags p.beside) (others flags js) found left) (ap (others flags) (take_all i p.entry.containers past))
     (subst (λ (bs : List Beside). RemarksEach es next after (others flags (take i p.entry.containers)) bs (others flags js) found left) (ap (others flags) (take_all i p.beside also)) each)
 

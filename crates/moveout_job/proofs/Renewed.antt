@@ -24,10 +24,10 @@ use Rattle.stored_rows.specs.Held.{HoldsVector, HoldsMarked, HoldsRows, stamped_
 use Rattle.stored_rows.specs.Listed.{vector_file, IsVectorFile, SameFiles}
 use Rattle.stored_rows.specs.Stored.{Beside, Projected, mark_in, StoresRows}
 use Rattle.std.proofs.lemmas.Slice.Zip.{AllZip-long}
-use Rattle.proj_store.specs.Sound.{IsKept, IsSound}
+use Rattle.proj_store.specs.Sound.{MarksItsRows, IsSound}
 use Rattle.stored_rows.proofs.KeptRows.{vector_kept}
 use Rattle.container_writer.specs.Writing.{DataFrom, with_vector, vector_number}
-use Rattle.moveout_job.specs.OnDisk.{IsBelow, IsDrawn, IsRemarked, Remarks, RemarksEach, beside}
+use Rattle.moveout_job.specs.OnDisk.{IsBelow, IsNewNumber, IsRemarked, Remarks, RemarksEach, beside}
 
 -- ---- files that stay
 
@@ -98,7 +98,7 @@ number_below : (next : ℕ) (marks : List Mark) → IfSome (vector_number next m
 number_below next [] = tt
 number_below next (e ∷ marks) = omega arith
 
-number_drawn : (next : ℕ) (marks : List Mark) → next < 2 ^ 61 → IfSome (vector_number next marks) (IsDrawn next (next + 1))
+number_drawn : (next : ℕ) (marks : List Mark) → next < 2 ^ 61 → IfSome (vector_number next marks) (IsNewNumber next (next + 1))
 number_drawn next [] low = tt
 number_drawn next (e ∷ marks) low = record { from = omega arith; upto = omega arith; low = omega (arith, low) }
 
@@ -200,24 +200,24 @@ zip_weaker R S f [] (b ∷ ys) all = absurd all
 zip_weaker R S f (a ∷ xs) [] all = absurd all
 zip_weaker R S f (a ∷ xs) (b ∷ ys) all = (f a b all.0, zip_weaker R S f xs ys all.1)
 
-drawn_wider : (next after low end n : ℕ) → low ≤ next → after ≤ end → IsDrawn next after n → IsDrawn low end n
+drawn_wider : (next after low end n : ℕ) → low ≤ next → after ≤ end → IsNewNumber next after n → IsNewNumber low end n
 drawn_wider next after low end n le lt is = record { from = let from = is.from in omega (arith, from, le); upto = let upto = is.upto in omega (arith, upto, lt); low = is.low }
 
 pub remarked_wider : (next after low end : ℕ) (k j : Container) → low ≤ next → after ≤ end → IsRemarked next after k j → IsRemarked low end k j
 remarked_wider next after low end k j le lt is = record { base = is.base; rows = is.rows; level = is.level; stored = is.stored; marks = by is.marks }
   where
-    of : (o : Option ℕ) → IfSome o (IsDrawn next after) → IfSome o (IsDrawn low end)
+    of : (o : Option ℕ) → IfSome o (IsNewNumber next after) → IfSome o (IsNewNumber low end)
     of None drawn = tt
     of (Some n) drawn = drawn_wider next after low end n le lt drawn
 
-    by : (j.marks ≡ k.marks) ⊎ IfSome j.marks (IsDrawn next after) → (j.marks ≡ k.marks) ⊎ IfSome j.marks (IsDrawn low end)
+    by : (j.marks ≡ k.marks) ⊎ IfSome j.marks (IsNewNumber next after) → (j.marks ≡ k.marks) ⊎ IfSome j.marks (IsNewNumber low end)
     by (inl same) = inl same
     by (inr drawn) = inr (of j.marks drawn)
 
 -- ---- one turn of the loop
 
 pub beside_within : (p : Projected) (shown : List Container) (i : ℕ) → shown ≡ p.entry.containers → IsSound p.entry p.beside → i < length shown → i < length p.beside
-beside_within p shown i same sound lt = omega (arith, lt, ap length same, AllZip-long IsKept p.entry.containers p.beside sound.kept)
+beside_within p shown i same sound lt = omega (arith, lt, ap length same, AllZip-long MarksItsRows p.entry.containers p.beside sound.kept)
 
 pub at_slice : {X : Type 0} (P : X → Type 0) (xs : List X) (i : ℕ) (d : X) → IsSomeAnd (slice_get xs i) P → P (get_or xs i d)
 at_slice P [] i d is = absurd is
@@ -256,6 +256,6 @@ pub each_all : (es : List Written) (next after i : ℕ) (shown js : List Contain
     → RemarksEach es next after (take i p.entry.containers) (take i p.beside) js found left → RemarksEach es next after p.entry.containers p.beside js found left
 each_all es next after i shown js p found left same sound done each =
     let past : length p.entry.containers ≤ i = omega (arith, done, ap length same) in
-    let also : length p.beside ≤ i = omega (arith, done, ap length same, AllZip-long IsKept p.entry.containers p.beside sound.kept) in
+    let also : length p.beside ≤ i = omega (arith, done, ap length same, AllZip-long MarksItsRows p.entry.containers p.beside sound.kept) in
     subst (λ (ks : List Container). RemarksEach es next after ks p.beside js found left) (take_all i p.entry.containers past)
     (subst (λ (bs : List Beside). RemarksEach es next after (take i p.entry.containers) bs js found left) (take_all i p.beside also) each)

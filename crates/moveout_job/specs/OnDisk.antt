@@ -24,7 +24,7 @@ abbrev pub IsListedBelow : ℕ → Projection → Type 0
 IsListedBelow next p = All (IsBelow next) p.containers
 
 -- a number that was drawn, from `next` up to `after`
-pub record IsDrawn (next after n : ℕ) : Type 0 where
+pub record IsNewNumber (next after n : ℕ) : Type 0 where
   pub from : next ≤ n
   pub upto : n < after
   pub low : n < 2 ^ 62
@@ -35,7 +35,7 @@ pub record IsRemarked (next after : ℕ) (old new : Container) : Type 0 where
   pub rows : new.rows ≡ old.rows
   pub level : new.level ≡ old.level
   pub stored : new.stored ≡ old.stored
-  pub marks : (new.marks ≡ old.marks) ⊎ IfSome new.marks (IsDrawn next after)
+  pub marks : (new.marks ≡ old.marks) ⊎ IfSome new.marks (IsNewNumber next after)
 
 -- the entry with these containers and one more behind them, if one was made, which has all rows up to an epoch
 abbrev pub moved_to : ℕ → List Container → Option Container → Projection → Projection
@@ -76,8 +76,8 @@ RemarksEach written next after ks bs js found left =
     → (n : Contents) × (left ≡ Some n) × AreHeld n written after js rows
 
 -- what a projection stored, its new entry holds, in some order
-abbrev pub MovesOut : ℕ → Projected → Projection → Option Contents → Option Contents → Type 0
-MovesOut next p entry found left =
+abbrev pub KeepsStored : ℕ → Projected → Projection → Option Contents → Option Contents → Type 0
+KeepsStored next p entry found left =
     (m n : Contents) → found ≡ Some m → left ≡ Some n → IsListedBelow next p.entry → (stored : List Stamped) → Stores m p stored
     → (held : List Stamped) × Holds n entry held × SameBag stored held
 

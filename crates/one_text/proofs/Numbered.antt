@@ -21,7 +21,7 @@ use Rattle.sql_binding.specs.Projections.{projection_name_refusal}
 use Rattle.db_model.specs.Database.{Database, Table}
 use Rattle.db_model.specs.Epochs.{last_good, rises}
 use Rattle.db_model.specs.Events.{changes_committed, column_added, mark_raised, projection_created, projection_dropped, rows_deleted, rows_loaded, rows_pending, rows_updated, table_created, table_dropped}
-use Rattle.db_model.specs.Leaving.{CallLeaves, CopyLeaves, Leaves, MarkLeaves, RefusedCallLeaves, RefusedLeaves}
+use Rattle.db_model.specs.Leaving.{CallLeaves, CopyLeaves, StatementLeaves, MarkLeaves, RefusedCallLeaves, RefusedLeaves}
 use Rattle.db_model.specs.Loading.{Files, Load}
 use Rattle.db_model.specs.Locks.{holder}
 use Rattle.db_model.specs.Numbers.{IsDrawn, are_spent}
@@ -32,7 +32,7 @@ use Rattle.db_model.specs.State.{Changes, State, committed, has_changes, own_cha
 use Rattle.db_model.specs.Step.{Decides, Effect, Reads, RefusedTextLeaves, RefusesForm, Step}
 use Rattle.db_model.specs.Views.{bound_in, columns_found, inputs, table_found}
 use Rattle.one_text.specs.OneText.{HasJobs}
-use Rattle.one_text.specs.Scripts.{IsQuiet, IsSameButNumbers}
+use Rattle.one_text.specs.Scripts.{AsksNoMover, IsSameButNumbers}
 use Rattle.one_text.proofs.OneLoad.{rows_loaded_once}
 use Rattle.one_text.proofs.OneStep.{OneList, OneReading, decided_once, printed_once, read_once}
 
@@ -64,7 +64,7 @@ abbrev pub Others : Option Statement → Type 0
 Others None = Unit {0}
 Others (Some s) = IsOther s
 
-pub others_read : (text : List ℕ) (read : Option Statement) → IsQuiet text → Reads text read → Others read
+pub others_read : (text : List ℕ) (read : Option Statement) → AsksNoMover text → Reads text read → Others read
 others_read text None quiet reads = tt
 others_read text (Some s) quiet reads = record {
   no_jobs = λ f jobs is. quiet.no_jobs (f, jobs, subst (λ (t : Statement). Spells (symbols_of text) t) is reads);
@@ -243,7 +243,7 @@ call_left a n k p (Function.Purge table) x y quiet first second = absurd (quiet.
 call_left a n k p (Function.Refresh table) x y quiet first second = absurd (quiet.no_jobs (Function.Refresh table) tt refl)
 call_left a n k p Function.StartRefresh x y quiet first second = same_states _ _ x y first second (record { database = refl; sessions = refl; current = refl; asked = refl })
 
-left_same : (a : State) (n k p : ℕ) (files : Files) (s : Statement) (x y : State) → IsOther s → Leaves a files s x → Leaves (renumbered a n k p) files s y → IsSameButNumbers x y
+left_same : (a : State) (n k p : ℕ) (files : Files) (s : Statement) (x y : State) → IsOther s → StatementLeaves a files s x → StatementLeaves (renumbered a n k p) files s y → IsSameButNumbers x y
 left_same a n k p files (Statement.CreateTable name columns) x y quiet first second =
     drawn_same a (renumbered a n k p) (table_created name columns a) (table_created name columns (renumbered a n k p)) x y first second (record { database = refl; sessions = refl; current = refl; asked = refl })
 left_same a n k p files (Statement.CreateProjection q) x y quiet first second =
@@ -342,7 +342,7 @@ call_grows a (Function.Purge table) x quiet is = absurd (quiet.no_jobs (Function
 call_grows a (Function.Refresh table) x quiet is = absurd (quiet.no_jobs (Function.Refresh table) tt refl)
 call_grows a Function.StartRefresh x quiet is = stays a x _ is refl
 
-left_grows : (a : State) (files : Files) (s : Statement) (x : State) → IsOther s → Leaves a files s x → a.next ≤ x.next
+left_grows : (a : State) (files : Files) (s : Statement) (x : State) → IsOther s → StatementLeaves a files s x → a.next ≤ x.next
 left_grows a files (Statement.CreateTable name columns) x quiet is = is.drawn.from
 left_grows a files (Statement.CreateProjection q) x quiet is = is.drawn.from
 left_grows a files (Statement.DropTable name) x quiet is = is.drawn.from
@@ -365,7 +365,7 @@ effect_grows a files read (Some refusal) text x quiet (is, leaves) = stays a x a
 effect_grows a files (Some s) None text x quiet (is, leaves) = left_grows a files s x quiet leaves
 effect_grows a files None None text x quiet is = absurd is
 
-pub step_grows : (serves : Statement → Bool) (a : State) (files : Files) (text printed : List ℕ) (why : Option Refusal) (x : State) → IsQuiet text → Step serves a files text printed why x → a.next ≤ x.next
+pub step_grows : (serves : Statement → Bool) (a : State) (files : Files) (text printed : List ℕ) (why : Option Refusal) (x : State) → AsksNoMover text → Step serves a files text printed why x → a.next ≤ x.next
 step_grows serves a files text printed why x quiet step = effect_grows a files step.read why printed x (others_read text step.read quiet step.reads) step.effect
 
 -- where numbers are left at a later state, they are at an earlier one
@@ -388,7 +388,7 @@ effect_same one a n k p files (Some s) None text other x y quiet (prints, leaves
     (printed_once one a files s text other prints (prints_other a n k p files s other prints_too), left_same a n k p files s x y quiet leaves leaves_too)
 effect_same one a n k p files None None text other x y quiet is also = absurd is
 
-renumbered_step : OneReading → OneList → (serves : Statement → Bool) (a : State) (n k p : ℕ) (files : Files) (text printed other : List ℕ) (why also : Option Refusal) (x y : State) → IsQuiet text
+renumbered_step : OneReading → OneList → (serves : Statement → Bool) (a : State) (n k p : ℕ) (files : Files) (text printed other : List ℕ) (why also : Option Refusal) (x y : State) → AsksNoMover text
     → are_spent (renumbered a n k p) ≡ are_spent a → Step serves a files text printed why x → Step serves (renumbered a n k p) files text other also y → (printed ≡ other) × (why ≡ also) × IsSameButNumbers x y
 renumbered_step reading list serves a n k p files text printed other why also x y quiet spent first second =
     let same : first.read ≡ second.read = read_once reading text first.read second.read first.reads second.reads in
@@ -401,7 +401,7 @@ renumbered_step reading list serves a n k p files text printed other why also x 
     let both = effect_same list a n k p files second.read also printed other x y others here second.effect in
     (both.0, refused, both.1)
 
-pub same_step : OneReading → OneList → (serves : Statement → Bool) (a b : State) (files : Files) (text printed other : List ℕ) (why also : Option Refusal) (x y : State) → IsQuiet text → IsSameButNumbers a b
+pub same_step : OneReading → OneList → (serves : Statement → Bool) (a b : State) (files : Files) (text printed other : List ℕ) (why also : Option Refusal) (x y : State) → AsksNoMover text → IsSameButNumbers a b
     → are_spent x ≡ false → are_spent y ≡ false → Step serves a files text printed why x → Step serves b files text other also y → (printed ≡ other) × (why ≡ also) × IsSameButNumbers x y
 same_step reading list serves a b files text printed other why also x y quiet same left_x left_y first second =
     let left_a : are_spent a ≡ false = left_before a.next x.next (step_grows serves a files text printed why x quiet first) left_x in

@@ -11,7 +11,7 @@ use Rattle.db_model.specs.Numbers.{are_spent}
 use Rattle.db_model.specs.Run.{EndsUnless, Passes, RunTexts, Setting, all_dropped}
 use Rattle.db_model.specs.State.{State}
 use Rattle.db_model.specs.Step.{Step}
-use Rattle.one_text.specs.Scripts.{IsQuiet, IsSameButNumbers, ScriptsHaveOneText}
+use Rattle.one_text.specs.Scripts.{AsksNoMover, IsSameButNumbers, ScriptsHaveOneText}
 use Rattle.one_text.proofs.Numbered.{left_before, same_states, same_step, step_grows}
 use Rattle.one_text.proofs.OneStep.{OneList, OneReading}
 
@@ -21,22 +21,22 @@ passed setting a text printed why x none passes =
     let still : x ≡ passes.answered = subst (λ (n : ℕ). MoverRuns n passes.answered x) none passes.mover in
     subst (λ (s : State). Step setting.serves a setting.files text printed why s) (sym still) passes.step
 
-texts_grow : (setting : Setting) (texts : List (List ℕ)) (a : State) (printed : List ℕ) (refused : Bool) (x : State) → setting.steps ≡ 0 → All IsQuiet texts → RunTexts setting a texts printed refused x → a.next ≤ x.next
+texts_grow : (setting : Setting) (texts : List (List ℕ)) (a : State) (printed : List ℕ) (refused : Bool) (x : State) → setting.steps ≡ 0 → All AsksNoMover texts → RunTexts setting a texts printed refused x → a.next ≤ x.next
 texts_grow setting [] a printed refused x none quiet (p_is, r_is, is) = let at : x.next ≡ a.next = ap (λ (s : State). s.next) is in omega (arith, at)
 texts_grow setting (text ∷ more) a printed refused x none quiet (first, why, mid, rest, later, passes, ran, p_is, r_is) =
-    let here = step_grows setting.serves a setting.files text first why mid (All-head IsQuiet text more quiet) (passed setting a text first why mid none passes) in
-    let behind = texts_grow setting more mid rest later x none (All-tail IsQuiet text more quiet) ran in
+    let here = step_grows setting.serves a setting.files text first why mid (All-head AsksNoMover text more quiet) (passed setting a text first why mid none passes) in
+    let behind = texts_grow setting more mid rest later x none (All-tail AsksNoMover text more quiet) ran in
     omega (arith, here, behind)
 
-texts_same : OneReading → OneList → (setting : Setting) (texts : List (List ℕ)) (a b : State) (p q : List ℕ) (r s : Bool) (x y : State) → setting.steps ≡ 0 → All IsQuiet texts → IsSameButNumbers a b
+texts_same : OneReading → OneList → (setting : Setting) (texts : List (List ℕ)) (a b : State) (p q : List ℕ) (r s : Bool) (x y : State) → setting.steps ≡ 0 → All AsksNoMover texts → IsSameButNumbers a b
     → are_spent x ≡ false → are_spent y ≡ false → RunTexts setting a texts p r x → RunTexts setting b texts q s y → (p ≡ q) × (r ≡ s) × IsSameButNumbers x y
 texts_same reading list setting [] a b p q r s x y none quiet same left_x left_y (p_is, r_is, x_is) (q_is, s_is, y_is) = (p_is ∙ sym q_is, r_is ∙ sym s_is, same_states a b x y x_is y_is same)
 texts_same reading list setting (text ∷ more) a b p q r s x y none quiet same left_x left_y (first, why, mid, rest, later, passes, ran, p_is, r_is) (first', why', mid', rest', later', passes', ran', q_is, s_is) =
-    let others : All IsQuiet more = All-tail IsQuiet text more quiet in
+    let others : All AsksNoMover more = All-tail AsksNoMover text more quiet in
     let left_mid : are_spent mid ≡ false = left_before mid.next x.next (texts_grow setting more mid rest later x none others ran) left_x in
     let left_mid' : are_spent mid' ≡ false = left_before mid'.next y.next (texts_grow setting more mid' rest' later' y none others ran') left_y in
     let here =
-    same_step reading list setting.serves a b setting.files text first first' why why' mid mid' (All-head IsQuiet text more quiet) same left_mid left_mid'
+    same_step reading list setting.serves a b setting.files text first first' why why' mid mid' (All-head AsksNoMover text more quiet) same left_mid left_mid'
     (passed setting a text first why mid none passes) (passed setting b text first' why' mid' none passes') in
     let behind = texts_same reading list setting more mid mid' rest rest' later later' x y none others here.2 left_x left_y ran ran' in
     let texts : first ++ rest ≡ first' ++ rest' = ap (λ (t : List ℕ). t ++ rest) here.0 ∙ ap (λ (t : List ℕ). first' ++ t) behind.0 in

@@ -18,7 +18,7 @@ pub record IsSameButNumbers (a b : State) : Type 0 where
   pub asked : a.asked ≡ b.asked
 
 -- a text that doesn't ask the mover to do anything: neither jobs, nor one step
-pub record IsQuiet (text : List ℕ) : Type 0 where
+pub record AsksNoMover (text : List ℕ) : Type 0 where
   pub no_jobs : AsksForJobs text → ⊥
   pub no_step : Spells (symbols_of text) Statement.Step → ⊥
 
@@ -26,6 +26,6 @@ pub record IsQuiet (text : List ℕ) : Type 0 where
 -- statement is refused in both or in none, and they leave the same database.
 abbrev pub ScriptsHaveOneText : Type 0
 ScriptsHaveOneText =
-    (setting : Setting) (start begin : State) (script printed other : List ℕ) (refused also : Bool) (new left : State) → setting.steps ≡ 0 → All IsQuiet (statement_texts script) → IsSameButNumbers start begin
+    (setting : Setting) (start begin : State) (script printed other : List ℕ) (refused also : Bool) (new left : State) → setting.steps ≡ 0 → All AsksNoMover (statement_texts script) → IsSameButNumbers start begin
     → Run setting start script printed refused new → Run setting begin script other also left → are_spent new ≡ false → are_spent left ≡ false
     → (printed ≡ other) × (refused ≡ also) × (new.database ≡ left.database)

@@ -11,7 +11,7 @@ use Rattle.stored_rows.specs.Stored.{Beside, mark_in}
 use Rattle.wanted_rows.specs.Picked.{Picks}
 use Rattle.proj_store.specs.declared.kept.Kept.{Kept}
 use Rattle.proj_store.specs.Loaded.{beside_of}
-use Rattle.proj_store.specs.Sound.{IsKept}
+use Rattle.proj_store.specs.Sound.{MarksItsRows}
 use Rattle.proj_store.specs.Marking.{PicksIn, PicksEach, ArePlaces}
 use Rattle.proj_store.proofs.SavedRows.{beside_next}
 use Rattle.ros_container.specs.Encodings.{Written}
@@ -82,10 +82,10 @@ places_more ks i k old new places lt k_is new_is was one =
     (subst (λ (r : List (List ℕ)). AllZip ArePlaces (take i ks ++ k ∷ []) r) (sym new_is) (places_push (take i ks) old k places was one))
 
 -- all containers are done
-pub picks_done : (es : List Written) (ks ps : List Container) (kept : List Kept) (each : List (List ℕ)) (need left : Asked → ℕ) (i : ℕ) (found : Option Contents) → ks ≡ ps → AllZip IsKept ps (map beside_of kept) → length ks ≤ i
+pub picks_done : (es : List Written) (ks ps : List Container) (kept : List Kept) (each : List (List ℕ)) (need left : Asked → ℕ) (i : ℕ) (found : Option Contents) → ks ≡ ps → AllZip MarksItsRows ps (map beside_of kept) → length ks ≤ i
     → ((m : Contents) → found ≡ Some m → PicksEach m es (take i ks) (take i (map beside_of kept)) each need left) → (m : Contents) → found ≡ Some m → PicksEach m es ps (map beside_of kept) each need left
 picks_done es ks ps kept each need left i found same all past picks m told =
-    let long : length (map beside_of kept) ≤ i = omega (arith, past, ap length same, AllZip-long IsKept ps (map beside_of kept) all) in
+    let long : length (map beside_of kept) ≤ i = omega (arith, past, ap length same, AllZip-long MarksItsRows ps (map beside_of kept) all) in
     subst (λ (js : List Container). PicksEach m es js (map beside_of kept) each need left) same (picks_all m es ks (map beside_of kept) each need left i past long (picks m told))
 
 pub places_done : (ks ps : List Container) (each : List (List ℕ)) (i : ℕ) → ks ≡ ps → length ks ≤ i → AllZip ArePlaces (take i ks) each → AllZip ArePlaces ps each

@@ -16,7 +16,7 @@ use Rattle.wanted_rows.specs.Picked.{Picks, asked_of, del_at}
 use Rattle.wanted_rows.specs.Taking.{asked_of as asked_in}
 use Rattle.proj_store.specs.declared.kept.Kept.{Kept}
 use Rattle.proj_store.specs.Loaded.{Loaded, beside_of, room_of, projected, seen}
-use Rattle.proj_store.specs.Sound.{IsSound, IsKept}
+use Rattle.proj_store.specs.Sound.{IsSound, MarksItsRows}
 use Rattle.proj_store.specs.Marking.{Places, places, all_marked, PicksEach, Finds, IsPrepared, del_of, ArePlaces, HasRoom, CanMark}
 use Rattle.proj_store.proofs.Picking.{picks_agree}
 use Rattle.proj_store.proofs.Inside.{kept_marked}
@@ -84,7 +84,7 @@ sound_marked epoch entry kept new memory p each slice ps ready view is_ready sam
     let here : AllZip ArePlaces entry.containers each = subst (λ (x : Loaded). AllZip ArePlaces x.stored.entry.containers each) (sym view) theirs in
     record {
       loadable = sound.loadable;
-      kept = subst (AllZip IsKept entry.containers) (sym (is ∙ ap (all_marked epoch (map beside_of kept)) same)) (kept_marked epoch entry.containers (map beside_of kept) each sound.kept here);
+      kept = subst (AllZip MarksItsRows entry.containers) (sym (is ∙ ap (all_marked epoch (map beside_of kept)) same)) (kept_marked epoch entry.containers (map beside_of kept) each sound.kept here);
     }
 
 live_still : (rows more : List Stamped) (p : ℕ) → IsLive rows p → IsLive (rows ++ more) p

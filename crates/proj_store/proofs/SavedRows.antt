@@ -26,7 +26,7 @@ use Rattle.proj_store.specs.declared.kept.Kept.{Kept}
 use Rattle.write_store.specs.Memory.{Memory as InMemory}
 use Rattle.proj_store.specs.Loaded.{Loaded, beside_of, projected, seen}
 use Rattle.ros_container.specs.Readable.{IsReadable}
-use Rattle.proj_store.specs.Sound.{IsKept}
+use Rattle.proj_store.specs.Sound.{MarksItsRows}
 use Rattle.proj_store.specs.Reading.{BlamesLoad, BlamesRows, ReadsContainer, ReadsEach, HasVectors}
 
 -- rows in memory as the container has them
@@ -79,8 +79,8 @@ reads_all m es ks bs i rows past also read =
     subst (λ (js : List Container). ReadsEach m es js bs rows) (take_all i ks past) (subst (λ (cs : List Beside). ReadsEach m es (take i ks) cs rows) (take_all i bs also) read)
 
 -- as many are kept as there are containers
-pub kept_long : (ks : List Container) (kept : List Kept) → AllZip IsKept ks (map beside_of kept) → length kept ≡ length ks
-kept_long ks kept all = sym (length-map kept beside_of) ∙ AllZip-long IsKept ks (map beside_of kept) all
+pub kept_long : (ks : List Container) (kept : List Kept) → AllZip MarksItsRows ks (map beside_of kept) → length kept ≡ length ks
+kept_long ks kept all = sym (length-map kept beside_of) ∙ AllZip-long MarksItsRows ks (map beside_of kept) all
 
 pub zip_at : {A B : Type 0} (R : A → B → Type 0) (xs : List A) (ys : List B) (i : ℕ) (x : A) (y : B) → AllZip R xs ys → i < length xs → R (get_or xs i x) (get_or ys i y)
 zip_at R [] ys i x y all lt = absurd (omega (arith, lt))
@@ -88,12 +88,12 @@ zip_at R (a ∷ xs) [] i x y all lt = absurd all
 zip_at R (a ∷ xs) (b ∷ ys) zero x y all lt = all.0
 zip_at R (a ∷ xs) (b ∷ ys) (suc i) x y all lt = zip_at R xs ys i x y all.1 (omega (arith, lt))
 
-pub kept_at : (ks : List Container) (kept : List Kept) (i : ℕ) (k : Container) (one : Kept) → AllZip IsKept ks (map beside_of kept) → i < length ks → k ≡ get_or ks i k → one ≡ get_or kept i one → IsKept k (beside_of one)
+pub kept_at : (ks : List Container) (kept : List Kept) (i : ℕ) (k : Container) (one : Kept) → AllZip MarksItsRows ks (map beside_of kept) → i < length ks → k ≡ get_or ks i k → one ≡ get_or kept i one → MarksItsRows k (beside_of one)
 kept_at ks kept i k one all lt k_is one_is =
     let in_kept : i < length kept = omega (arith, lt, kept_long ks kept all) in
-    subst (λ (x : Container). IsKept x (beside_of one)) (sym k_is)
-    (subst (λ (b : Beside). IsKept (get_or ks i k) b) (get_or-map beside_of kept i one (beside_of one) in_kept ∙ ap beside_of (sym one_is))
-    (zip_at IsKept ks (map beside_of kept) i k (beside_of one) all lt))
+    subst (λ (x : Container). MarksItsRows x (beside_of one)) (sym k_is)
+    (subst (λ (b : Beside). MarksItsRows (get_or ks i k) b) (get_or-map beside_of kept i one (beside_of one) in_kept ∙ ap beside_of (sym one_is))
+    (zip_at MarksItsRows ks (map beside_of kept) i k (beside_of one) all lt))
 
 -- with the delete vectors of the disk these are the stored rows
 pub stores_each : (m : Contents) (es : List Written) (ks : List Container) (bs : List Beside) (rows : List Stamped) → AllZip (λ k b. HoldsVector m k b.held) ks bs → ReadsEach m es ks bs rows → StoresRows m es ks bs rows
@@ -118,20 +118,20 @@ blames_rows p ks i k holds Memory same lt is blames = tt
 blames_rows p ks i k holds (Damaged q) same lt is blames = subst (λ (js : List Container). Any (λ k. BlamesContainer (written_of p) k holds (Damaged q)) js) same (i, k, lt, sym is, blames)
 
 -- the same of an entry's containers as a slice
-pub reads_done : (es : List Written) (ks ps : List Container) (kept : List Kept) (i : ℕ) (rows : List Stamped) (found : Option Contents) → ks ≡ ps → AllZip IsKept ps (map beside_of kept) → length ks ≤ i
+pub reads_done : (es : List Written) (ks ps : List Container) (kept : List Kept) (i : ℕ) (rows : List Stamped) (found : Option Contents) → ks ≡ ps → AllZip MarksItsRows ps (map beside_of kept) → length ks ≤ i
     → ((m : Contents) → found ≡ Some m → ReadsEach m es (take i ks) (take i (map beside_of kept)) rows) → (m : Contents) → found ≡ Some m → ReadsEach m es ps (map beside_of kept) rows
 reads_done es ks ps kept i rows found same all past read m told =
-    let long : length (map beside_of kept) ≤ i = omega (arith, past, ap length same, AllZip-long IsKept ps (map beside_of kept) all) in
+    let long : length (map beside_of kept) ≤ i = omega (arith, past, ap length same, AllZip-long MarksItsRows ps (map beside_of kept) all) in
     subst (λ (js : List Container). ReadsEach m es js (map beside_of kept) rows) same (reads_all m es ks (map beside_of kept) i rows past long (read m told))
 
-pub kept_within : (ks ps : List Container) (kept : List Kept) (i : ℕ) → ks ≡ ps → AllZip IsKept ps (map beside_of kept) → i < length ks → i < length kept
+pub kept_within : (ks ps : List Container) (kept : List Kept) (i : ℕ) → ks ≡ ps → AllZip MarksItsRows ps (map beside_of kept) → i < length ks → i < length kept
 kept_within ks ps kept i same all lt = omega (arith, lt, ap length same, kept_long ps kept all)
 
 pub files_at : (cs : List ProjColumn) (ks ps : List Container) (i : ℕ) (k : Container) → ks ≡ ps → All (IsReadable cs) ps → i < length ks → k ≡ get_or ks i k → IsReadable cs k
 files_at cs ks ps i k same all lt is = subst (IsReadable cs) (sym is) (subst (All (IsReadable cs)) (sym same) all i k lt)
 
-pub kept_here : (ks ps : List Container) (kept : List Kept) (i : ℕ) (k : Container) (one : Kept) → ks ≡ ps → AllZip IsKept ps (map beside_of kept) → i < length ks → k ≡ get_or ks i k → one ≡ get_or kept i one → IsKept k (beside_of one)
-kept_here ks ps kept i k one same all lt k_is one_is = kept_at ks kept i k one (subst (λ (js : List Container). AllZip IsKept js (map beside_of kept)) (sym same) all) lt k_is one_is
+pub kept_here : (ks ps : List Container) (kept : List Kept) (i : ℕ) (k : Container) (one : Kept) → ks ≡ ps → AllZip MarksItsRows ps (map beside_of kept) → i < length ks → k ≡ get_or ks i k → one ≡ get_or kept i one → MarksItsRows k (beside_of one)
+kept_here ks ps kept i k one same all lt k_is one_is = kept_at ks kept i k one (subst (λ (js : List Container). AllZip MarksItsRows js (map beside_of kept)) (sym same) all) lt k_is one_is
 
 pub blames_here : (p : Projection) (ks : List Container) (i : ℕ) (k : Container) (now found : Option Contents) (fault : StoreFault) → ks ≡ p.containers → i < length ks → k ≡ get_or ks i k → now ≡ found
     → BlamesContainer (written_of p) k now fault → BlamesRows p found fault

@@ -21,11 +21,11 @@ pub record IsLoadable (p : Projection) : Type 0 where
 abbrev pub AreInside : Container → List Mark → Type 0
 AreInside k marks = All (λ e. e.position < k.rows) marks
 
-pub record IsKept (k : Container) (b : Beside) : Type 0 where
+pub record MarksItsRows (k : Container) (b : Beside) : Type 0 where
   pub held : AreInside k b.held
   pub fresh : AreInside k b.fresh
 
 -- for each container what is kept of it
 pub record IsSound (p : Projection) (beside : List Beside) : Type 0 where
   pub loadable : IsLoadable p
-  pub kept : AllZip IsKept p.containers beside
+  pub kept : AllZip MarksItsRows p.containers beside

@@ -7,7 +7,7 @@ ghost use Rattle.del_vector.specs.Marks.{epoch_at};
 ghost use Rattle.stored_rows.specs.Stored.{mark_in};
 ghost use Rattle.proj_store.specs.Blocks.{in_list};
 ghost use Rattle.proj_store.specs.Loaded.{beside_of};
-ghost use Rattle.proj_store.specs.Sound.{IsKept};
+ghost use Rattle.proj_store.specs.Sound.{MarksItsRows};
 
 use crate::kept::Kept;
 use catalog_types::Container;
@@ -99,7 +99,7 @@ pub(crate) fn kept_deletes(
     container: &Container,
     kept: &Kept,
 ) -> Result<Vec<Option<u64>>, AllocError>
-    requires { IsKept container.now (beside_of kept.now) }
+    requires { MarksItsRows container.now (beside_of kept.now) }
     ensures { IfOk result (λ v. (i : ℕ) → in_list v.items i ≡ mark_in (beside_of kept.now) i) }
 {
     let (held, fresh) = (kept.held.marks(), kept.fresh.as_slice());

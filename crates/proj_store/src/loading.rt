@@ -7,7 +7,7 @@ ghost use Rattle.common_laws.specs.Maps.{Contents};
 ghost use Rattle.col_disk.specs.Moved.{Looks, Moved, NoName};
 ghost use Rattle.stored_rows.specs.Stored.{IsUnmarked};
 ghost use Rattle.proj_store.specs.Loaded.{beside_of};
-ghost use Rattle.proj_store.specs.Sound.{IsKept, HasVectorNumber};
+ghost use Rattle.proj_store.specs.Sound.{MarksItsRows, HasVectorNumber};
 ghost use Rattle.proj_store.specs.Reading.{BlamesLoad};
 
 use crate::kept::Kept;
@@ -23,7 +23,7 @@ pub fn load_each<D: Disk>(
 ) -> Result<Vec<Kept>, StoreFault>
     requires { All HasVectorNumber containers.now }
     ensures found { IfOk result (λ v. (m : Contents) → D.holds disk.old ≡ Some m → AllZip (IsUnmarked m) containers.now (map beside_of v.items)) }
-    ensures inside { IfOk result (λ v. AllZip IsKept containers.now (map beside_of v.items)) }
+    ensures inside { IfOk result (λ v. AllZip MarksItsRows containers.now (map beside_of v.items)) }
     ensures blamed { IfErr result (BlamesLoad containers.now (D.holds disk.old)) }
     ensures looks { Looks ⟦<D as Disk>⟧ disk.old disk.new }
     ensures cause { HasCause StoreFault.Disk (D.faults disk.old) (D.faults disk.new) result }

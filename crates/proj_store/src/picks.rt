@@ -14,7 +14,7 @@ ghost use Rattle.wanted_rows.specs.Wanted.{asked_in, need_in, IsNext};
 ghost use Rattle.wanted_rows.specs.Picked.{Picks, PicksFrom, TriesSome};
 ghost use Rattle.proj_store.specs.Blocks.{HasIndexes, PicksOn, in_list};
 ghost use Rattle.proj_store.specs.Loaded.{beside_of};
-ghost use Rattle.proj_store.specs.Sound.{IsKept, IsSound};
+ghost use Rattle.proj_store.specs.Sound.{MarksItsRows, IsSound};
 ghost use Rattle.ros_container.specs.Readable.{IsReadable};
 ghost use Rattle.proj_store.specs.Reading.{BlamesRows};
 ghost use Rattle.proj_store.specs.Marking.{PicksIn, PicksEach, ArePlaces};
@@ -180,7 +180,7 @@ fn pick_read<D: Disk>(
     wants: &mut Wants,
 ) -> Result<List<usize>, StoreFault>
     requires numbers { IsReadable entry.now.columns container.now }
-    requires kept { IsKept container.now (beside_of kept.now) }
+    requires kept { MarksItsRows container.now (beside_of kept.now) }
     ensures found { IfOk result (λ places. (m : Contents) → D.holds disk.old ≡ Some m → PicksIn m (written_of entry.now) container.now (beside_of kept.now) places (need_in wants.old) (need_in wants.new)) }
     ensures inside { IfOk result (ArePlaces container.now) }
     ensures fewer { IfOk result (λ places. (q : ARow) → need_in wants.new q ≤ need_in wants.old q) }
@@ -224,7 +224,7 @@ fn pick_in<D: Disk>(
     wants: &mut Wants,
 ) -> Result<List<usize>, StoreFault>
     requires numbers { IsReadable entry.now.columns container.now }
-    requires kept { IsKept container.now (beside_of kept.now) }
+    requires kept { MarksItsRows container.now (beside_of kept.now) }
     ensures found { IfOk result (λ places. (m : Contents) → D.holds disk.old ≡ Some m → PicksIn m (written_of entry.now) container.now (beside_of kept.now) places (need_in wants.old) (need_in wants.new)) }
     ensures inside { IfOk result (ArePlaces container.now) }
     ensures fewer { IfOk result (λ places. (q : ARow) → need_in wants.new q ≤ need_in wants.old q) }
@@ -251,7 +251,7 @@ fn pick_more<D: Disk>(
     each: &mut Vec<List<usize>>,
 ) -> Result<(), StoreFault>
     requires numbers { IsReadable entry.now.columns container.now }
-    requires kept { IsKept container.now (beside_of kept.now) }
+    requires kept { MarksItsRows container.now (beside_of kept.now) }
     ensures more { OnOk result ((places : List ℕ) × (each.new.items ≡ each.old.items ++ places ∷ []) × ArePlaces container.now places × ((m : Contents) → D.holds disk.old ≡ Some m → PicksIn m (written_of entry.now) container.now (beside_of kept.now) places (need_in wants.old) (need_in wants.new))) }
     ensures blamed { IfErr result (BlamesContainer (written_of entry.now) container.now (D.holds disk.old)) }
     ensures kept { D.holds disk.new ≡ D.holds disk.old }

@@ -10,7 +10,7 @@ ghost use Rattle.stored_rows.specs.Stored.{mark_in};
 ghost use Rattle.write_store.specs.Memory.{stamp};
 ghost use Rattle.wanted_rows.specs.Picked.{asked_of};
 ghost use Rattle.proj_store.specs.Loaded.{beside_of};
-ghost use Rattle.proj_store.specs.Sound.{IsKept, IsSound};
+ghost use Rattle.proj_store.specs.Sound.{MarksItsRows, IsSound};
 ghost use Rattle.ros_container.specs.Readable.{IsReadable};
 ghost use Rattle.proj_store.specs.Reading.{BlamesRows, ReadsContainer, ReadsEach};
 
@@ -30,7 +30,7 @@ pub fn read_rows<D: Disk>(
     kept: &Kept,
 ) -> Result<Vec<Held>, StoreFault>
     requires numbers { IsReadable entry.now.columns container.now }
-    requires kept { IsKept container.now (beside_of kept.now) }
+    requires kept { MarksItsRows container.now (beside_of kept.now) }
     ensures found { IfOk result (λ v. (m : Contents) → D.holds disk.old ≡ Some m → ReadsContainer m (written_of entry.now) container.now (mark_in (beside_of kept.now)) v.items) }
     ensures long { IfOk result (λ v. length (asked_of v.items) ≡ container.now.rows) }
     ensures blamed { IfErr result (BlamesContainer (written_of entry.now) container.now (D.holds disk.old)) }

@@ -9,7 +9,7 @@ use Rattle.col_value.specs.declared.row.Stamped.{Stamped}
 use Rattle.row_history.specs.History.{is_retained}
 use Rattle.del_vector.specs.declared.mark.Mark.{Mark}
 use Rattle.stored_rows.specs.Stored.{Beside, Projected}
-use Rattle.proj_store.specs.Sound.{IsKept, IsSound}
+use Rattle.proj_store.specs.Sound.{MarksItsRows, IsSound}
 use Rattle.catalog_types.specs.declared.catalogue.Container.{Container}
 use Rattle.write_store.specs.Memory.{stamp}
 use Rattle.write_store.specs.declared.held.Held.{Held}
@@ -35,7 +35,7 @@ late_at mark i bs held fresh lt held_is fresh_is all =
 
 pub late_all : (mark i : ℕ) (shown : List Container) (p : Projected) → shown ≡ p.entry.containers → IsSound p.entry p.beside → length shown ≤ i → All (AreLate mark) (take i p.beside) → All (AreLate mark) p.beside
 late_all mark i shown p same sound done all =
-    let past : length p.beside ≤ i = omega (arith, done, ap length same, AllZip-long IsKept p.entry.containers p.beside sound.kept) in
+    let past : length p.beside ≤ i = omega (arith, done, ap length same, AllZip-long MarksItsRows p.entry.containers p.beside sound.kept) in
     subst (All (AreLate mark)) (take_all i p.beside past) all
 
 unmapped : (mark : ℕ) (rows : List Held) → All (λ s. is_retained mark s ≡ true) (map stamp rows) → All (λ h. is_retained mark (stamp h) ≡ true) rows

@@ -20,7 +20,7 @@ use Rattle.ros_container.specs.Encodings.{Written, written_of}
 use Rattle.del_vector.specs.declared.mark.Mark.{Mark}
 use Rattle.stored_rows.specs.Stored.{Beside, Projected, mark_in}
 use Rattle.stored_rows.proofs.KeptRows.{vector_kept}
-use Rattle.proj_store.specs.Sound.{HasVectorNumber, IsKept, IsLoadable, IsSound}
+use Rattle.proj_store.specs.Sound.{HasVectorNumber, MarksItsRows, IsLoadable, IsSound}
 use Rattle.ros_container.specs.Readable.{IsReadable}
 use Rattle.container_writer.specs.Writing.{listed, DataFrom}
 use Rattle.container_cut.specs.Listed as cut
@@ -79,17 +79,17 @@ pub purges_all : (mark : ℕ) (es : List Written) (next after i : ℕ) (shown js
     → PurgesEach mark es next after (take i p.entry.containers) (take i p.beside) js found left → PurgesEach mark es next after p.entry.containers p.beside js found left
 purges_all mark es next after i shown js p found left same sound done each =
     let past : length p.entry.containers ≤ i = omega (arith, done, ap length same) in
-    let also : length p.beside ≤ i = omega (arith, done, ap length same, AllZip-long IsKept p.entry.containers p.beside sound.kept) in
+    let also : length p.beside ≤ i = omega (arith, done, ap length same, AllZip-long MarksItsRows p.entry.containers p.beside sound.kept) in
     subst (λ (ks : List Container). PurgesEach mark es next after ks p.beside js found left) (take_all i p.entry.containers past)
     (subst (λ (bs : List Beside). PurgesEach mark es next after (take i p.entry.containers) bs js found left) (take_all i p.beside also) each)
 
 -- ---- what is kept of a container
 
-pub kept_at : (ks : List Container) (bs : List Beside) (i : ℕ) (k : Container) (held fresh : List Mark) → AllZip IsKept ks bs → i < length ks → k ≡ get_or ks i k → IsSomeAnd (slice_get bs i) (λ b. held ≡ b.held) → IsSomeAnd (slice_get bs i) (λ b. fresh ≡ b.fresh)
-    → IsKept k (beside held fresh)
+pub kept_at : (ks : List Container) (bs : List Beside) (i : ℕ) (k : Container) (held fresh : List Mark) → AllZip MarksItsRows ks bs → i < length ks → k ≡ get_or ks i k → IsSomeAnd (slice_get bs i) (λ b. held ≡ b.held) → IsSomeAnd (slice_get bs i) (λ b. fresh ≡ b.fresh)
+    → MarksItsRows k (beside held fresh)
 kept_at [] bs i k held fresh zipped lt is held_is fresh_is = absurd (omega (arith, lt))
 kept_at (x ∷ ks) [] i k held fresh zipped lt is held_is fresh_is = absurd zipped
-kept_at (x ∷ ks) (b ∷ bs) zero k held fresh zipped lt is held_is fresh_is = subst (λ (y : Container). IsKept y (beside held fresh)) (sym is) (subst (IsKept x) (sym (ap₂ beside held_is fresh_is)) zipped.0)
+kept_at (x ∷ ks) (b ∷ bs) zero k held fresh zipped lt is held_is fresh_is = subst (λ (y : Container). MarksItsRows y (beside held fresh)) (sym is) (subst (MarksItsRows x) (sym (ap₂ beside held_is fresh_is)) zipped.0)
 kept_at (x ∷ ks) (b ∷ bs) (suc i) k held fresh zipped lt is held_is fresh_is = kept_at ks bs i k held fresh zipped.1 (omega (arith, lt)) is held_is fresh_is
 
 pub at_place : (P : Container → Type 0) (ks : List Container) (i : ℕ) (k : Container) → i < length ks → k ≡ get_or ks i k → All P ks → P k

@@ -30,5 +30,5 @@ pub record Tells {D : Type 0} (disk : Ghosts D) (files : Files) (text : List ℕ
   pub settles : Settles disk is now mid
 
 -- all that is committed is in the folder
-abbrev pub IsKept : Running → Type 0
-IsKept is = is.seen.catalogue.last ≤ least_lge is.seen.catalogue
+abbrev pub IsAllOnDisk : Running → Type 0
+IsAllOnDisk is = is.seen.catalogue.last ≤ least_lge is.seen.catalogue

@@ -5,7 +5,7 @@ ghost use Rattle.vert_cli.specs.Loading.{Files as LoadFiles};
 ghost use Rattle.vert_cli.specs.State.{State};
 ghost use Rattle.vert_cli.specs.Running.{IsState};
 ghost use Rattle.vert_cli.specs.Statements.{refusal_in};
-ghost use Rattle.shell_run.specs.Answers.{Executes, IsKept, Settles, Tells};
+ghost use Rattle.shell_run.specs.Answers.{Executes, IsAllOnDisk, Settles, Tells};
 
 use col_disk::Disk;
 use col_io::{Files, MemSink, Sink};
@@ -69,7 +69,7 @@ fn execute<F: Files, D: Disk>(
 
 /// Whether all that is committed is in the folder.
 fn is_kept(session: &Session) -> bool
-    ensures { IsTrue result → IsKept session.now.running }
+    ensures { IsTrue result → IsAllOnDisk session.now.running }
 {
     let schema = session.schema();
     schema.last <= schema.last_good
@@ -78,7 +78,7 @@ fn is_kept(session: &Session) -> bool
 /// Steps of the mover, until all that is committed is in the folder. Answers whether it is: where the numbers of files are spent, nothing can be moved.
 fn settle<D: Disk>(alloc: Global, session: &mut Session, disk: &mut D) -> Result<bool, RunFault>
     ensures settles { (state : State) → session.old.halted ≡ false → IsState ⟦<D as Disk>⟧ session.old.running disk.old state → OnOk result (Settles ⟦<D as Disk>⟧ session.new.running disk.new state) }
-    ensures kept { IfOk result (λ kept. IsTrue kept → IsKept session.new.running) }
+    ensures kept { IfOk result (λ kept. IsTrue kept → IsAllOnDisk session.new.running) }
     ensures live { session.old.halted ≡ false → OnOk result (session.new.halted ≡ false) }
 {
     for _ in 0..MOST_STEPS {
@@ -104,7 +104,7 @@ pub fn answer<F: Files, D: Disk>(
 ) -> Result<Told, RunFault>
     ensures tells { (there : LoadFiles) (state : State) → F.content files.old ≡ Some there → session.old.halted ≡ false → IsState ⟦<D as Disk>⟧ session.old.running disk.old state
         → IfOk result (λ told. Tells ⟦<D as Disk>⟧ there text.now session.new.running disk.new state told.text.items told.refusal) }
-    ensures kept { IfOk result (λ told. IsTrue told.kept → IsKept session.new.running) }
+    ensures kept { IfOk result (λ told. IsTrue told.kept → IsAllOnDisk session.new.running) }
     ensures live { OnOk result (session.new.halted ≡ false) }
 {
     let (text, refusal) = match execute(alloc, session, text, files, disk) {

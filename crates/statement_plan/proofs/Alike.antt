@@ -21,8 +21,7 @@ use Rattle.sql_tree.specs.declared.statement.Statement.{Statement}
 use Rattle.sql_tree.specs.declared.statement.Update.{Update}
 use Rattle.sql_binding.specs.Firsts.{first_of, refused_where}
 use Rattle.sql_binding.specs.Changes.{delete_refusal, update_refusal}
-use Rattle.sql_binding.specs.Projections.{projection_form_refusal, projection_name_refusal}
-use Rattle.sql_binding.specs.Projections as binding
+use Rattle.sql_binding.specs.Projections.{name_limit, projection_form_refusal, projection_name_refusal}
 use Rattle.sql_binding.specs.Additions.{addition_refusal, default_refusal}
 use Rattle.sql_binding.specs.Inserts.{insert_refusal, stored_refusal}
 use Rattle.sql_binding.specs.Queries.{bound_query, query_refusal}
@@ -32,7 +31,7 @@ use Rattle.db_model.specs.Epochs.{all_shapes, last_good, least_or}
 use Rattle.db_model.specs.Loading.{Load}
 use Rattle.db_model.specs.Locks.{changes_on, excludes, holder}
 use Rattle.db_model.specs.Numbers.{spent_refusal}
-use Rattle.db_model.specs.Refusing.{column_limit, columns_limit, commit_refusal, create_limit, create_refusal, epoch_refusal, if_taken, name_limit, repeated_behind, taken_name}
+use Rattle.db_model.specs.Refusing.{column_limit, columns_limit, commit_refusal, create_limit, create_refusal, epoch_refusal, if_taken, repeated_behind, taken_name}
 use Rattle.db_model.specs.Refusals.{column_added_refusal, joining_limit, last_super_refusal, load_refusal, locked, mark_refusal, owner, projection_created_refusal, projection_dropped_refusal, projection_refusal_over, query_refusal_in, raise_refusal, rows_deleted_refusal, rows_inserted_refusal, table_created_refusal, table_dropped_refusal, unknown_table_refusal}
 use Rattle.db_model.specs.Views.{bound_in, columns_found, table_found}
 use Rattle.alike_laws.proofs.Refused.{commit_alike, joining_alike, load_alike, locked_alike}
@@ -220,7 +219,7 @@ said_from f each name n (b ∷ bs) (t ∷ ts) z =
 form_same : (p : NewProjection) (n : ℕ) (b t : Table) → IsBareTable b t → projection_refusal_over p b ≡ projection_refusal_over p t
 form_same p n b t is =
     ap₂ (λ (cs : List Column) (ss : List Shape). first_of (projection_form_refusal cs p)
-    (first_of (refused_where (nat_le 16 (length ss)) (Refusal.Limit Which.Projections 16)) (binding.name_limit p.name)))
+    (first_of (refused_where (nat_le 16 (length ss)) (Refusal.Limit Which.Projections 16)) (name_limit p.name)))
     is.columns is.shapes
 
 shaped_same : (bare state : State) (p : NewProjection) → IsBare bare state → projection_created_refusal bare p ≡ projection_created_refusal state p

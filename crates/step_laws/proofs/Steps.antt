@@ -7,7 +7,7 @@ use Rattle.sql_tree.specs.declared.statement.Function.{Function}
 use Rattle.sql_tree.specs.declared.statement.Statement.{Statement}
 use Rattle.db_model.specs.Epochs.{last_good, rises}
 use Rattle.db_model.specs.Events.{column_added, is_of_table, mark_raised, projection_created, projection_dropped, table_created, table_dropped}
-use Rattle.db_model.specs.Leaving.{CallLeaves, MarkLeaves, Leaves, RefusedCallLeaves, RefusedLeaves}
+use Rattle.db_model.specs.Leaving.{CallLeaves, MarkLeaves, StatementLeaves, RefusedCallLeaves, RefusedLeaves}
 use Rattle.db_model.specs.Loading.{Files}
 use Rattle.db_model.specs.Mover.{MovesAll, RaisesAll, RefreshesAll}
 use Rattle.db_model.specs.Refusals.{CallRefuses, Refuses}
@@ -46,7 +46,7 @@ called state (Function.Purge table) new free raises is = all_raised (λ s. is_of
 called state (Function.Refresh table) new free refreshes is = all_refreshed table false state new refreshes is
 called state Function.StartRefresh new free same is = subst IsSound (sym same) (started_state state is)
 
-answered : LoadsFit → (state : State) (files : Files) (s : Statement) (new : State) → NamesASession s → Refuses state files s None → Leaves state files s new → IsSound state → IsSound new
+answered : LoadsFit → (state : State) (files : Files) (s : Statement) (new : State) → NamesASession s → Refuses state files s None → StatementLeaves state files s new → IsSound state → IsSound new
 answered fit state files (Statement.CreateTable name columns) new named free drawn is = drawn_sound state (table_created name columns state) new drawn (created_state state name columns (sym free) is)
 answered fit state files (Statement.CreateProjection p) new named free drawn is = drawn_sound state (projection_created p state) new drawn (shaped_state state p (sym free) is)
 answered fit state files (Statement.DropTable name) new named free drawn is = drawn_sound state (table_dropped name state) new drawn (dropped_state state name (sym free) is)

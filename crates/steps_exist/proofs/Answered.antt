@@ -16,7 +16,7 @@ use Rattle.db_model.specs.Answers.{epoch_line, insert_line, listing_text}
 use Rattle.db_model.specs.Database.{Shape, Table}
 use Rattle.db_model.specs.Epochs.{last_good, rises}
 use Rattle.db_model.specs.Events.{changes_committed, changes_dropped, column_added, deleted_count, is_of_table, mark_raised, on_table, projection_created, projection_dropped, refresh_started, rows_deleted, rows_loaded, rows_pending, rows_updated, table_created, table_dropped, updated_old}
-use Rattle.db_model.specs.Leaving.{CopyLeaves, Leaves, MarkLeaves, RefusedLeaves}
+use Rattle.db_model.specs.Leaving.{CopyLeaves, StatementLeaves, MarkLeaves, RefusedLeaves}
 use Rattle.db_model.specs.Loading.{Files, Load, Loads}
 use Rattle.db_model.specs.Mover.{given_up, MovesAll, RaisesAll, RefreshesAll}
 use Rattle.db_model.specs.Printing.{commit_text, copy_text, counted_line, explain_text, on_found, CopyPrints, Prints}
@@ -41,7 +41,7 @@ pub record Answer (old : State) (files : Files) (s : Statement) : Type 0 where
 
 -- one that leaves all as it was where it is refused
 told : (old : State) (files : Files) (s : Statement) (why : Option Refusal) → Refuses old files s why → RefusedLeaves old s old
-    → (printed : List ℕ) → Prints old files s printed → (new : State) → Leaves old files s new → Answer old files s
+    → (printed : List ℕ) → Prints old files s printed → (new : State) → StatementLeaves old files s new → Answer old files s
 told old files s None refuses stays printed prints new leaves = record { refusal = None; printed = printed; new = new; refuses = refuses; effect = (prints, leaves) }
 told old files s (Some r) refuses stays printed prints new leaves = record { refusal = Some r; printed = refusal_text r; new = old; refuses = refuses; effect = (refl, stays) }
 

@@ -14,7 +14,7 @@ use Rattle.catalog_root.specs.declared.found.Found.TheVariants.{Fresh, Root}
 use Rattle.catalog_root.specs.Root.{data_file, Opens}
 use Rattle.catalog_root.specs.Crash.{RootNames, IsLater, IsRooted, IsOld, IsNew, IsReplaced, OldOrNew}
 use Rattle.catalog_root.specs.Listed.{IsListed, IsUnlisted}
-use Rattle.catalog_root.specs.Quiet.{SameListed, IsQuiet, Quiet}
+use Rattle.catalog_root.specs.Quiet.{SameListed, KeepsRoot, Quiet}
 use Rattle.catalog_root.proofs.Quieting.{quiet_rooted, quiet_replaced, quiet_moved, quiet_leaves, listed_stay}
 use Rattle.store_commit.specs.Replacing.{IsSettled, Replaces}
 use Rattle.store_commit.proofs.Settled.{failed}
@@ -48,20 +48,20 @@ replaced_nothing disk {now} m was version c f quiet = record {
 }
 
 -- an image at a moment of the commit
-old_image : (m x y : Contents) (was : Found) (version : ℕ) → IsQuiet m was y → Opens x was → Changed (RootNames version) NoName y x → IsQuiet m was x
+old_image : (m x y : Contents) (was : Found) (version : ℕ) → KeepsRoot m was y → Opens x was → Changed (RootNames version) NoName y x → KeepsRoot m was x
 old_image m x y Fresh version quiet opens like = record { opens = opens; same = tt }
 old_image m x y (Root v r) version quiet opens like = record { opens = opens; same = λ k listed. data_same version y x k like ∙ quiet.same k listed }
 
-new_image : (m x : Contents) (version : ℕ) (c : Catalogue) → IsNew version c m x → IsQuiet m (Root version c) x
+new_image : (m x : Contents) (version : ℕ) (c : Catalogue) → IsNew version c m x → KeepsRoot m (Root version c) x
 new_image m x version c new = record { opens = new.written.root; same = λ k listed. data_same version m x k new.like }
 
 at_moment : {D : Type 0} (disk : Ghosts D) {now : D} (m : Contents) (was : Found) (version : ℕ) (c : Catalogue) → Quiet (disk.holds now) (ImageOf disk now) was m
-    → (x : Contents) → OldOrNew was version c (ImageOf disk now) m x → IsQuiet m was x ⊎ IsQuiet m (Root version c) x
+    → (x : Contents) → OldOrNew was version c (ImageOf disk now) m x → KeepsRoot m was x ⊎ KeepsRoot m (Root version c) x
 at_moment disk m was version c quiet x (inl old) = let (y, is, like) = old.like in inl (old_image m x y was version (quiet.every y is) old.opens like)
 at_moment disk m was version c quiet x (inr new) = inr (new_image m x version c new)
 
 -- the commit gave no answer
-undone_image : (m n x y : Contents) (was : Found) (version : ℕ) → Changed (RootNames version) NoName m n → IsQuiet m was y → Opens x was → Changed (RootNames version) NoName y x → IsQuiet n was x
+undone_image : (m n x y : Contents) (was : Found) (version : ℕ) → Changed (RootNames version) NoName m n → KeepsRoot m was y → Opens x was → Changed (RootNames version) NoName y x → KeepsRoot n was x
 undone_image m n x y Fresh version told quiet opens like = record { opens = opens; same = tt }
 undone_image m n x y (Root v r) version told quiet opens like = record { opens = opens; same = λ k listed. data_same version y x k like ∙ quiet.same k listed ∙ sym (data_same version m n k told) }
 
@@ -77,7 +77,7 @@ replaced_not disk {old} {new} m was version c f quiet moment memory moved = reco
   any_moment = leaves_wider disk (λ x is. at_moment disk m was version c quiet x is) moment;
 }
   where
-    by : (n : Contents) → Changed (RootNames version) NoName m n → (x : Contents) → IsOld was version (ImageOf disk old) x → IsQuiet n was x
+    by : (n : Contents) → Changed (RootNames version) NoName m n → (x : Contents) → IsOld was version (ImageOf disk old) x → KeepsRoot n was x
     by n changed x before = let (y, is, like) = before.like in undone_image m n x y was version changed (quiet.every y is) before.opens like
 
 -- the commit is done, and then other files went
@@ -95,7 +95,7 @@ replaced_then {D} disk {old} {mid} {new} m was version c result quiet moment rep
     there : (n : Contents) × Quiet (disk.holds mid) (ImageOf disk mid) (Root version c) n × IsNew version c m n
     there = quiet_replaced (disk.holds mid) (ImageOf disk mid) version c m replaced
 
-    from : (x : Contents) → IsQuiet there.0 (Root version c) x → IsQuiet m (Root version c) x
+    from : (x : Contents) → KeepsRoot there.0 (Root version c) x → KeepsRoot m (Root version c) x
     from x is = record { opens = is.opens; same = λ k listed. is.same k listed ∙ data_same version m there.0 k there.2.like }
 
     settled : IsSettled disk m (Root version c) new

@@ -35,7 +35,7 @@ use Rattle.state_laws.proofs.Events.{own_is_sound}
 use Rattle.alike_laws.proofs.Changes.{Alike, changes_turned, deletes_alike, pending_alike}
 use Rattle.alike_laws.proofs.Permutes.{seen_permuted}
 use Rattle.alike_laws.proofs.Sound.{session_alike}
-use Rattle.store_query.specs.Reading.{item_rows, rows_of, source_rows, AreOver, IsKept, CanRead}
+use Rattle.store_query.specs.Reading.{item_rows, rows_of, source_rows, AreOver, IsKeptEpoch, CanRead}
 use Rattle.store_core.specs.Running.{Running, IsState}
 use Rattle.store_core.specs.Sessions.{own_of}
 use Rattle.store_core.specs.Asking.{IsAsked}
@@ -46,7 +46,7 @@ use Rattle.store_core.proofs.Sessions.{own_alike}
 not_below : (n m : ℕ) → nat_lt n m ≡ false → m ≤ n
 not_below n m is = grind (arith, nat_tests)
 
-pub epoch_kept : (d : Database) (at : At) → epoch_refusal d.ahm d.last at ≡ None → IsKept d at
+pub epoch_kept : (d : Database) (at : At) → epoch_refusal d.ahm d.last at ≡ None → IsKeptEpoch d at
 epoch_kept d At.View is = tt
 epoch_kept d At.Latest is = tt
 epoch_kept d (At.Epoch n) is = old (nat_lt n d.ahm) refl is

@@ -20,5 +20,5 @@ CutBeforeOrAfter state After x =
     ReopensFrom (last_good state.database) state x ⊎ ((new : State) × After new × ReopensFrom (last_good state.database) new x)
 
 -- where memory was short: nothing changed, but that the mover's job may be dropped
-abbrev pub IsKept : State → State → Type 0
-IsKept old new = (new ≡ old) ⊎ (new ≡ given_up old)
+abbrev pub IsKeptButJob : State → State → Type 0
+IsKeptButJob old new = (new ≡ old) ⊎ (new ≡ given_up old)

@@ -14,7 +14,7 @@ use Rattle.db_model.specs.Mover.{MovesAll}
 use Rattle.folder_model.specs.Projections.{shape_of}
 use Rattle.table_store.specs.Drawing.{DrawsEntry}
 use Rattle.col_disk.specs.Faults.{IsUnblamed}
-use Rattle.store_core.specs.Cuts.{ReopensFrom, IsKept}
+use Rattle.store_core.specs.Cuts.{ReopensFrom, IsKeptButJob}
 use Rattle.store_core.specs.Events.{ReopensTo}
 use Rattle.store_core.specs.Running.{Running, IsState}
 
@@ -26,7 +26,7 @@ pub record MovedBehind (old new : Catalogue) : Type 0 where
 
 -- a state as it was, or behind a moveout of all
 abbrev pub IsKeptOrMoved : State → State → Type 0
-IsKeptOrMoved old new = IsKept old new ⊎ MovesAll old false new
+IsKeptOrMoved old new = IsKeptButJob old new ⊎ MovesAll old false new
 
 -- a folder reopens to the database of such a state, cut at its last good epoch
 abbrev pub ReopensMoved : State → Contents → Type 0
@@ -37,7 +37,7 @@ ReopensMoved state x = (mid : State) × IsKeptOrMoved state mid × ReopensTo mid
 -- earlier than the last good one before it; and to which one, the state says: the one before, or the one behind all moveouts.
 pub record MovesAllOf {D : Type 0} (disk : Ghosts D) (is : Running) (old new : D) (result : Result Bool StoreFault) (state : State) : Type 0 where
   pub done : IfOk result (λ stopped. (after : State) × MovesAll state stopped after × IsState disk is new after)
-  pub undone : IsErrOf result Memory → (after : State) × IsKept state after × IsState disk is new after
+  pub undone : IsErrOf result Memory → (after : State) × IsKeptButJob state after × IsState disk is new after
   pub unblamed : IfErr result IsUnblamed
   pub any_moment : Leaves disk (ReopensFrom (last_good state.database) state) old new
   pub by_moves : Leaves disk (ReopensMoved state) old new

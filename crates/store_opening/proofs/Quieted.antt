@@ -11,7 +11,7 @@ use Rattle.catalog_root.specs.declared.found.Found.{Found}
 use Rattle.catalog_root.specs.declared.found.Found.TheVariants.{Fresh, Root}
 use Rattle.catalog_root.specs.Root.{IsFresh, IsRoot, Opens}
 use Rattle.catalog_root.specs.Listed.{IsUnlisted}
-use Rattle.catalog_root.specs.Quiet.{IsQuiet}
+use Rattle.catalog_root.specs.Quiet.{KeepsRoot}
 use Rattle.catalog_root.proofs.Roots.{one_root, not_fresh}
 use Rattle.catalog_root.proofs.Quieting.{quiet_moved, quiet_leaves, quiet_settled, listed_stay}
 use Rattle.db_model.specs.Database.{Database, empty_database}
@@ -26,7 +26,7 @@ use Rattle.store_commit.specs.Seen.{Seen, Stands, seen}
 use Rattle.store_opening.specs.Opening.{IsQuietFor}
 
 -- by the files that the root lists the folder reopens to the database
-pub quiet_reopens : (m x : Contents) (v : ℕ) (c : Catalogue) (d : Database) → IsCutOf m c d → IsSoundDatabase d → IsQuiet m (Root v c) x → Reopens x d
+pub quiet_reopens : (m x : Contents) (v : ℕ) (c : Catalogue) (d : Database) → IsCutOf m c d → IsSoundDatabase d → KeepsRoot m (Root v c) x → Reopens x d
 quiet_reopens m x v c d is sound quiet = record {
   root = Root v c;
   opens = quiet.opens;

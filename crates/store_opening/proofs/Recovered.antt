@@ -12,7 +12,7 @@ use Rattle.catalog_types.specs.Reached.{least_lge}
 use Rattle.catalog_root.specs.declared.found.Found.{Found}
 use Rattle.catalog_root.specs.declared.found.Found.TheVariants.{Root}
 use Rattle.catalog_root.specs.Crash.{IsLater}
-use Rattle.catalog_root.specs.Quiet.{IsQuiet, Quiet, IsSpare, IsUseless}
+use Rattle.catalog_root.specs.Quiet.{KeepsRoot, Quiet, IsSpare, IsUseless}
 use Rattle.catalog_root.proofs.Quieting.{quiet_moved, quiet_leaves}
 use Rattle.db_model.specs.Database.{Database}
 use Rattle.db_model.specs.Sound.{IsSoundDatabase}
@@ -116,7 +116,7 @@ replaced_leaves : {D : Type 0} (disk : Ghosts D) {mid again new : D} (law : CutR
     → IsCutBeside disk mid v c r d m n → Replaces disk n (Root v c) version r again new result → Leaves disk (λ x. Reopens x d) again new
 replaced_leaves disk {mid} {again} {new} law v version c r d m n result valid beside replaces = leaves_wider disk either replaces.any_moment
   where
-    either : (x : Contents) → IsQuiet n (Root v c) x ⊎ IsQuiet n (Root version r) x → Reopens x d
+    either : (x : Contents) → KeepsRoot n (Root v c) x ⊎ KeepsRoot n (Root version r) x → Reopens x d
     either x (inl is) = quiet_reopens n x v c d beside.quiet.is_cut beside.quiet.sound is
     either x (inr is) = quiet_reopens n x version r d (law m n c r d beside.cut (mark_reached c valid) beside.before) beside.quiet.sound is
 

@@ -31,7 +31,7 @@ use Rattle.query_cover.specs.Seen.{placed, value_at, AreSeen, ArePlaces}
 use Rattle.sql_bound.specs.Used.{blanked, is_used}
 use Rattle.query_cover.proofs.Placed.{placed_seen}
 use Rattle.store_query.specs.Lessening.{cleared, deletes_of, value_kept, IsLess}
-use Rattle.store_query.specs.Reading.{epoch_of, pending_of, rows_of, IsKept}
+use Rattle.store_query.specs.Reading.{epoch_of, pending_of, rows_of, IsKeptEpoch}
 use Rattle.store_query.proofs.Lessens.{all_of_bag, without_less}
 use Rattle.store_query.proofs.Served.{all_at}
 
@@ -79,13 +79,13 @@ no_deletes = []
 abbrev pub rows_asked : List Asked → Rows
 rows_asked deletes = map (λ a. a.row) deletes
 
-pub rows_split : (at : At) (d : Database) (changes : List Changes) (t : Table) → IsKept d at → rows_of at d changes t ≡ without (rows_asked (gone_in at changes t)) (visible (epoch_of at d.last) t.rows) ++ pending_in at changes t
+pub rows_split : (at : At) (d : Database) (changes : List Changes) (t : Table) → IsKeptEpoch d at → rows_of at d changes t ≡ without (rows_asked (gone_in at changes t)) (visible (epoch_of at d.last) t.rows) ++ pending_in at changes t
 unfolding pending_in gone_in
 rows_split At.View d changes t kept = refl
 rows_split At.Latest d changes t kept = sym (append-nil (visible d.last t.rows))
 rows_split (At.Epoch n) d changes t (first, last) = ap (λ (e : ℕ). visible e t.rows) (sym (min-eq_left last)) ∙ sym (append-nil (visible (min n d.last) t.rows))
 
-pub mark_before : (at : At) (d : Database) → IsSoundDatabase d → IsKept d at → d.ahm ≤ epoch_of at d.last
+pub mark_before : (at : At) (d : Database) → IsSoundDatabase d → IsKeptEpoch d at → d.ahm ≤ epoch_of at d.last
 mark_before At.View d sound kept = sound.mark
 mark_before At.Latest d sound kept = sound.mark
 mark_before (At.Epoch n) d sound (first, last) = omega (arith, first, last)

@@ -41,24 +41,24 @@ AreOver first tables [] = Unit {0}
 AreOver first tables (f ∷ fs) = (f.first ≡ first) × IsOver tables f × AreOver (first + f.columns) tables fs
 
 -- an epoch that is asked for is closed, and not before the ancient history mark
-abbrev pub IsKept : Database → At → Type 0
-IsKept d At.View = Unit {0}
-IsKept d At.Latest = Unit {0}
-IsKept d (At.Epoch n) = (d.ahm ≤ n) × (n ≤ d.last)
+abbrev pub IsKeptEpoch : Database → At → Type 0
+IsKeptEpoch d At.View = Unit {0}
+IsKeptEpoch d At.Latest = Unit {0}
+IsKeptEpoch d (At.Epoch n) = (d.ahm ≤ n) × (n ≤ d.last)
 
 -- The store stands over the disk for a database; the query is over its tables, and what it asks for is kept; and the session's changes are
 -- sound.
 pub record CanRead {D : Type 0} (disk : Ghosts D) (s : Seen) (now : D) (changes : List Changes) (at : At) (q : BoundQuery) (d : Database) : Type 0 where
   pub stands : Stands disk s now d
   pub over : AreOver 0 d.tables q.sources
-  pub epoch : IsKept d at
+  pub epoch : IsKeptEpoch d at
   pub session : IsSoundSession d changes
 
 -- the same of the files of a disk, whatever the query
 pub record IsRead (m : Contents) (s : Seen) (changes : List Changes) (at : At) (d : Database) : Type 0 where
   pub are : AreDatabase m s.catalogue s.stores d
   pub sound : IsSoundDatabase d
-  pub epoch : IsKept d at
+  pub epoch : IsKeptEpoch d at
   pub session : IsSoundSession d changes
 
 -- the epoch up to which rows are read: for one that isn't closed the newest

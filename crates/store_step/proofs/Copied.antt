@@ -25,7 +25,7 @@ use Rattle.db_model.specs.Epochs.{last_good}
 use Rattle.db_model.specs.Events.{rows_loaded, rows_pending}
 use Rattle.db_model.specs.Loading.{load_column, Files, Load, Loads}
 use Rattle.load_reader.specs.declared.fields.LoadColumn.{LoadColumn}
-use Rattle.load_reader.specs.Load.{Load as FileLoad, Loads as FileLoads}
+use Rattle.load_reader.specs.Load.{FileLoad, LoadsFile}
 use Rattle.col_value.specs.Order.{IsRow}
 use Rattle.db_model.specs.Printing.{copy_text, CopyPrints}
 use Rattle.db_model.specs.Refusals.{is_large_file, load_refusal, locked, CopyRefuses, FileRefuses, LoadRefuses, Refuses, UnlockedRefuses}
@@ -131,13 +131,13 @@ columns_in r state name place tables columns all at read same = by (slice_get ts
         (e, there, told ∙ ap (map load_column) (sym same_columns))
 
 -- the rows that are read are rows of a table
-pub rows_in : (tables : List kept.Table) (place : ℕ) (columns : List LoadColumn) (bytes : List ℕ) (rows : List (List Value)) → IsSomeAnd (slice_get tables place) (λ t. columns ≡ map load_column t.columns) → FileLoads columns bytes (FileLoad.Rows rows)
+pub rows_in : (tables : List kept.Table) (place : ℕ) (columns : List LoadColumn) (bytes : List ℕ) (rows : List (List Value)) → IsSomeAnd (slice_get tables place) (λ t. columns ≡ map load_column t.columns) → LoadsFile columns bytes (FileLoad.Rows rows)
     → ((cs : List Column) (bs : List ℕ) (rs : List (List Value)) → Loads cs bs (Load.Rows rs) → All IsRow rs) → All IsRow rows
 rows_in tables place columns bytes rows is loads law = by (slice_get tables place) is
   where
     by : (o : Option kept.Table) → IsSomeAnd o (λ t. columns ≡ map load_column t.columns) → All IsRow rows
     by None told = absurd told
-    by (Some t) told = law t.columns bytes rows (subst (λ (cs : List LoadColumn). FileLoads cs bytes (FileLoad.Rows rows)) told loads)
+    by (Some t) told = law t.columns bytes rows (subst (λ (cs : List LoadColumn). LoadsFile cs bytes (FileLoad.Rows rows)) told loads)
 
 some_too : (o p : Option (ℕ × Table)) (place : ℕ) → option_map (λ (e : ℕ × Table). e.0) o ≡ Some place → option_map with_columns o ≡ option_map with_columns p → (e : ℕ × Table) × (p ≡ Some e)
 some_too None p place is same = absurd (cc)

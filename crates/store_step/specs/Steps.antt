@@ -14,7 +14,7 @@ use Rattle.db_model.specs.Mover.{MovesAll, MoverSteps}
 use Rattle.db_model.specs.Step.{Step}
 use Rattle.db_model.specs.Run.{all_dropped}
 use Rattle.store_core.specs.Running.{Running, IsState}
-use Rattle.store_core.specs.Cuts.{CutBeforeOrAfter, IsKept}
+use Rattle.store_core.specs.Cuts.{CutBeforeOrAfter, IsKeptButJob}
 use Rattle.store_step.specs.declared.answer.Answer.{Answer}
 use Rattle.store_step.specs.declared.answer.StepFault.{StepFault}
 use Rattle.store_step.specs.declared.answer.StepFault.TheVariants as step
@@ -71,6 +71,6 @@ EndedAs state new = (stopped : Bool) × MovesAll (all_dropped state) stopped new
 -- any.
 pub record Ends {D : Type 0} (disk : Ghosts D) (is : Running) (old new : D) (result : Result (Unit {0}) StoreFault) (state : State) : Type 0 where
   pub done : OnOk result ((after : State) × EndedAs state after × IsState disk is new after)
-  pub undone : IsErrOf result store.Memory → (after : State) × IsKept (all_dropped state) after × IsState disk is new after
+  pub undone : IsErrOf result store.Memory → (after : State) × IsKeptButJob (all_dropped state) after × IsState disk is new after
   pub unblamed : IfErr result IsUnblamedStore
   pub any_moment : Leaves disk (CutBeforeOrAfter state (EndedAs state)) old new

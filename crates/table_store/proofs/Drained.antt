@@ -25,7 +25,7 @@ use Rattle.folder_model.specs.Projections.{shape_of}
 use Rattle.folder_model.specs.Tables.{AreDatabase, StandForTables}
 use Rattle.folder_model.proofs.Committing.{database_moved}
 use Rattle.folder_model.proofs.ListedFiles.{tables_same}
-use Rattle.moveout_job.specs.OnDisk.{IsListedBelow, IsMovedOut, MovesOut}
+use Rattle.moveout_job.specs.OnDisk.{IsListedBelow, IsMovedOut, KeepsStored}
 use Rattle.proj_store.specs.Loaded.{Loaded}
 use Rattle.sound_laws.specs.Moves.{change_at, moved_at}
 use Rattle.sound_laws.proofs.Moved.{moved_sound}
@@ -197,7 +197,7 @@ still_are disk root last stores m d valid told moved are =
 
 pub goes_moved : ReadIsStored → {D : Type 0} (disk : Ghosts D) {old new : D} (s : Seen) (draft next : Draft) (i j after : ℕ) (p : Projected) (entry : Projection) (store : Loaded)
     → IsDraft s i j draft → AtPlace s.stores i j (λ q. p ≡ q) → is_behind s.catalogue.last (shape_of p.entry) ≡ true → p.entry.fresh ≡ true
-    → IsMovedOut s.catalogue.last draft.root.next after p.entry entry → MovesOut draft.root.next p entry (disk.holds old) (disk.holds new)
+    → IsMovedOut s.catalogue.last draft.root.next after p.entry entry → KeepsStored draft.root.next p entry (disk.holds old) (disk.holds new)
     → ((m : Contents) → disk.holds new ≡ Some m → IsLoaded m store.stored) → store.stored.entry ≡ entry → Moves disk (DataFrom draft.root.next) NoName old new
     → next.root ≡ with_entry_at s.catalogue.last after i j entry draft.root → next.moved.items ≡ draft.moved.items ++ (record { table = i; place = j; store = store }) ∷ []
     → GoesOn s draft next (disk.holds old) (disk.holds new)

@@ -26,7 +26,7 @@ use Rattle.stored_rows.specs.Stored.{Beside, Projected, Stores, IsUnmarked, IsLo
 use Rattle.folder_model.specs.Projections.{shape_of, ordinals, HasHistory, IsBare, HasRows}
 use Rattle.folder_model.specs.Tables.{StandsForTable, StandForTables, AreDatabase}
 use Rattle.container_writer.specs.Writing.{AreNumbered}
-use Rattle.moveout_job.specs.OnDisk.{IsBelow, IsListedBelow, IsMovedOut, MovesOut}
+use Rattle.moveout_job.specs.OnDisk.{IsBelow, IsListedBelow, IsMovedOut, KeepsStored}
 use Rattle.proj_store.specs.Loaded.{Loaded}
 use Rattle.sound_laws.specs.Moves.{change_at, reached_in, moved_at}
 use Rattle.table_store.specs.Held.{projections_of}
@@ -279,7 +279,7 @@ fresh_place tables i j ps is fresh =
     omega (arith, below, ap length same, length-map ps (λ p. p.stored))
 
 pub rewritten : (last : ℕ) (root c : Catalogue) (tables : List (List Loaded)) (i j version : ℕ) (ps : List Loaded) (p : Loaded) (new : Projected) (entry copy : Projection) (found mid left : Option Contents)
-    → i < length tables → ps ≡ get_or tables i ps → j < length ps → p ≡ get_or ps j p → IsMovedOut last root.next version p.stored.entry entry → MovesOut root.next p.stored entry found mid
+    → i < length tables → ps ≡ get_or tables i ps → j < length ps → p ≡ get_or ps j p → IsMovedOut last root.next version p.stored.entry entry → KeepsStored root.next p.stored entry found mid
     → copy ≡ entry → new.entry ≡ copy → ((m : Contents) → mid ≡ Some m → IsLoaded m new) → left ≡ mid → c ≡ with_entry_at last version i j entry root
     → IsRewritten last root (map projections_of tables) i j version c new found left
 rewritten last root c tables i j version ps p new entry copy found mid left lt ps_are below p_is moved moves copied new_is loaded same catalogue =
@@ -290,7 +290,7 @@ rewritten last root c tables i j version ps p new entry copy found mid left lt p
     (record {
       entry = subst (IsMovedOut last root.next version p.stored.entry) (sym is) moved;
       catalogue = catalogue ∙ ap (λ (e : Projection). with_entry_at last version i j e root) (sym is);
-      rows = subst (λ (o : Option Contents). MovesOut root.next p.stored new.entry found o) (sym same) (subst (λ (e : Projection). MovesOut root.next p.stored e found mid) (sym is) moves);
+      rows = subst (λ (o : Option Contents). KeepsStored root.next p.stored new.entry found o) (sym same) (subst (λ (e : Projection). KeepsStored root.next p.stored e found mid) (sym is) moves);
       loaded = λ n told. loaded n (sym same ∙ told);
       drawn = drawn_later last root.next version p.stored.entry entry moved;
     }))

@@ -29,7 +29,7 @@ use Rattle.stored_rows.specs.Stored.{Beside, Projected, StoresRows, Stores}
 use Rattle.proj_store.specs.Loaded.{Loaded}
 use Rattle.proj_store.specs.Reading.{BlamesLoad, BlamesRows}
 use Rattle.container_writer.specs.Writing.{DataFrom}
-use Rattle.moveout_job.specs.OnDisk.{IsListedBelow, MovesOut}
+use Rattle.moveout_job.specs.OnDisk.{IsListedBelow, KeepsStored}
 use Rattle.db_model.specs.Database.{Database, Table}
 use Rattle.folder_model.specs.Projections.{HasHistory, HasRows}
 use Rattle.folder_model.specs.Tables.{StandForTables}
@@ -148,7 +148,7 @@ there {X} (y ∷ xs) zero x P lt is p = subst P (sym is) p
 there (y ∷ xs) (suc i) x P lt is p = there xs i x P (omega (arith, lt)) is p
 
 pub moved_unblamed : (m n : Contents) (root : Catalogue) (tables : List (List Loaded)) (i j : ℕ) (ps : List Loaded) (p : Loaded) (entry copy : Projection) (old mid new : Option Contents) (f : StoreFault) → IsHeld root tables
-    → IsFreshAt (map projections_of tables) i j → ps ≡ get_or tables i ps → p ≡ get_or ps j p → MovesOut root.next p.stored entry old mid → copy ≡ entry → BlamesLoad copy.containers mid f → new ≡ mid
+    → IsFreshAt (map projections_of tables) i j → ps ≡ get_or tables i ps → p ≡ get_or ps j p → KeepsStored root.next p.stored entry old mid → copy ≡ entry → BlamesLoad copy.containers mid f → new ≡ mid
     → old ≡ Some m → new ≡ Some n → All (All (IsReadable m)) (map projections_of tables) → IsUnblamed f
 moved_unblamed m n root tables i j ps p entry copy old mid new f held fresh ps_are p_is moves copied blames same was now all =
     let lt : i < length tables = fresh_table tables i j fresh in
@@ -166,7 +166,7 @@ moved_unblamed m n root tables i j ps p entry copy old mid new f held fresh ps_a
     load_unblamed n mid copy left f told (subst (λ (e : Projection). Holds n e left) (sym copied) holds) blames
 
 -- the same of a projection by itself
-pub written_unblamed : (m n : Contents) (next : ℕ) (p : Projected) (entry copy : Projection) (old mid new : Option Contents) (f : StoreFault) → p.entry.fresh ≡ true → IsListedBelow next p.entry → MovesOut next p entry old mid → copy ≡ entry
+pub written_unblamed : (m n : Contents) (next : ℕ) (p : Projected) (entry copy : Projection) (old mid new : Option Contents) (f : StoreFault) → p.entry.fresh ≡ true → IsListedBelow next p.entry → KeepsStored next p entry old mid → copy ≡ entry
     → BlamesLoad copy.containers mid f → new ≡ mid → old ≡ Some m → new ≡ Some n → IsReadable m p → IsUnblamed f
 written_unblamed m n next p entry copy old mid new f fresh below moves copied blames same was now readable =
     let (rows, stores) = on_true p.entry.fresh {P = (rows : List Stamped) × Stores m p rows} readable fresh in

@@ -3,7 +3,7 @@ use Rattle.std.specs.Prelude.{ℕ, ◌≡◌, ◌≤◌, ◌+◌, true, List, Op
 use Rattle.std.specs.List.{slice_get}
 use Rattle.common_laws.specs.Maps.{Contents}
 use Rattle.stored_rows.specs.Stored.{Projected, IsLoaded}
-use Rattle.moveout_job.specs.OnDisk.{IsMovedOut, MovesOut}
+use Rattle.moveout_job.specs.OnDisk.{IsMovedOut, KeepsStored}
 use Rattle.catalog_types.specs.declared.catalogue.Projection.{Projection}
 use Rattle.catalog_types.specs.declared.catalogue.Table as kept
 use Rattle.catalog_types.specs.declared.catalogue.Catalogue.{Catalogue}
@@ -26,7 +26,7 @@ IsFreshAt stores i j = IsSomeAnd (slice_get stores i) (λ ps. IsSomeAnd (slice_g
 pub record IsRewrittenFrom (last : ℕ) (root : Catalogue) (i j version : ℕ) (c : Catalogue) (old new : Projected) (found left : Option Contents) : Type 0 where
   pub entry : IsMovedOut last root.next version old.entry new.entry
   pub catalogue : c ≡ with_entry_at last version i j new.entry root
-  pub rows : MovesOut root.next old new.entry found left
+  pub rows : KeepsStored root.next old new.entry found left
   pub loaded : (n : Contents) → left ≡ Some n → IsLoaded n new
   pub drawn : root.next ≤ version
 

@@ -12,7 +12,7 @@ ghost use Rattle.db_model.specs.Database.{Database, is_behind};
 ghost use Rattle.db_model.specs.Sound.{IsSoundDatabase};
 ghost use Rattle.folder_model.specs.Projections.{shape_of};
 ghost use Rattle.folder_model.specs.Tables.{AreDatabase};
-ghost use Rattle.moveout_job.specs.OnDisk.{IsListedBelow, IsMovedOut, MovesOut};
+ghost use Rattle.moveout_job.specs.OnDisk.{IsListedBelow, IsMovedOut, KeepsStored};
 ghost use Rattle.stored_rows.specs.Stored.{IsLoaded};
 ghost use Rattle.table_store.specs.Draining.{put_all, GoesOn, IsDraft, IsDraftOf, IsPlaced};
 ghost use Rattle.table_store.specs.Faults.{IsReadable};
@@ -67,7 +67,7 @@ fn write_out<D: Disk>(
     next: u64,
 ) -> Result<Written, StoreFault>
     ensures entry { IfOk result (λ w. IsMovedOut last next w.next store.now.stored.entry w.entry) }
-    ensures rows { IfOk result (λ w. MovesOut next store.now.stored w.entry (D.holds disk.old) (D.holds disk.new)) }
+    ensures rows { IfOk result (λ w. KeepsStored next store.now.stored w.entry (D.holds disk.old) (D.holds disk.new)) }
     ensures loaded { IfOk result (λ w. (m : Contents) → D.holds disk.new ≡ Some m → IsLoaded m w.store.stored) }
     ensures same { IfOk result (λ w. w.store.stored.entry ≡ w.entry) }
     ensures upto { IfOk result (λ w. w.next ≤ next + 2 * (length store.now.stored.entry.columns + 1) + 1 + length store.now.stored.entry.containers) }

@@ -11,7 +11,7 @@ use Rattle.sql_tree.specs.declared.refusal.Refusal.{Refusal}
 use Rattle.db_model.specs.Run.{Setting, Passes, RunTexts, all_dropped, EndsUnless}
 use Rattle.store_step.specs.Running.{Running, IsState}
 use Rattle.store_step.specs.Events.{ReopensTo}
-use Rattle.store_step.specs.Cuts.{CutBeforeOrAfter, IsKept}
+use Rattle.store_step.specs.Cuts.{CutBeforeOrAfter, IsKeptButJob}
 use Rattle.store_step.specs.Forms.{is_served}
 use Rattle.store_step.specs.Steps.{EndedAs, IsKeptIn, SaysCopy, SteppedTo, TextMayLeave}
 use Rattle.vert_cli.specs.declared.faults.RunFault.{RunFault}
@@ -92,7 +92,7 @@ abbrev pub StopsInEnd : {D : Type 0} → Ghosts D → State → D → Option (Li
 StopsInEnd disk state now before after RunFault.Sink = ⊥
 StopsInEnd disk state now before after RunFault.Disk = (after ≡ before) × LeavesNow disk (CutBeforeOrAfter state (EndedAs state)) now
 StopsInEnd disk state now before after (RunFault.Damaged name) = ⊥
-StopsInEnd disk state now before after RunFault.Memory = StopsUnanswered disk IsKept (all_dropped state) now before after
+StopsInEnd disk state now before after RunFault.Memory = StopsUnanswered disk IsKeptButJob (all_dropped state) now before after
 StopsInEnd disk state now before after RunFault.Read = ⊥
 StopsInEnd disk state now before after RunFault.Halted = ⊥
 

@@ -6,7 +6,7 @@ use Rattle.std.proofs.lemmas.Result.{IfErr-weaker, IfOk-weaker}
 use Rattle.col_disk.proofs.Moving.{moved_none}
 use Rattle.catalog_types.specs.declared.catalogue.Container.{Container}
 use Rattle.catalog_types.specs.declared.catalogue.Projection.{Projection}
-use Rattle.proj_store.specs.Sound.{IsKept}
+use Rattle.proj_store.specs.Sound.{MarksItsRows}
 use Rattle.ros_container.specs.Encodings.{written_of}
 use Rattle.ros_container.specs.Held.{BlamesContainer}
 use Rattle.exec_scan.specs.Opened.{IsOpening}
@@ -14,15 +14,15 @@ use Rattle.exec_scan.proofs.Handed.{beside, kept_here, opened_at, some_at, zip_l
 use Rattle.exec_scan.proofs.scan.at_hand.Goals as goal
 
 pub vector-requires : goal.vector-requires
-vector-requires g c = subst (λ n. c.args.container < n) (zip_long IsKept c.args.store.now.stored.entry.containers c.args.store.now.stored.beside c.entry-shape.ensures.sound.kept) c.requires.there
+vector-requires g c = subst (λ n. c.args.container < n) (zip_long MarksItsRows c.args.store.now.stored.entry.containers c.args.store.now.stored.beside c.entry-shape.ensures.sound.kept) c.requires.there
 
 pub fresh_marks-requires : goal.fresh_marks-requires
-fresh_marks-requires g c = subst (λ n. c.args.container < n) (zip_long IsKept c.args.store.now.stored.entry.containers c.args.store.now.stored.beside c.entry-shape.ensures.sound.kept) c.requires.there
+fresh_marks-requires g c = subst (λ n. c.args.container < n) (zip_long MarksItsRows c.args.store.now.stored.entry.containers c.args.store.now.stored.beside c.entry-shape.ensures.sound.kept) c.requires.there
 
 pub open-requires-clause-marks : goal.open-requires-clause-marks
 open-requires-clause-marks g c =
     let are : c.as_slice.result.now ≡ c.args.store.now.stored.entry.containers = c.as_slice.ensures ∙ ap (λ (p : Projection). p.containers) c.entry-shape.ensures.entry in
-    subst (λ (ks : List Container). IsKept (get_or ks c.args.container blank) (beside c.vector.result.now c.fresh_marks.result.now)) (sym are)
+    subst (λ (ks : List Container). MarksItsRows (get_or ks c.args.container blank) (beside c.vector.result.now c.fresh_marks.result.now)) (sym are)
     (kept_here c.args.store.now.stored.entry.containers c.args.store.now.stored.beside c.args.container blank c.vector.result.now c.fresh_marks.result.now c.entry-shape.ensures.sound.kept c.requires.there c.vector.ensures c.fresh_marks.ensures)
 
 pub returns-in-Some-clause-moved : goal.returns-in-Some-clause-moved

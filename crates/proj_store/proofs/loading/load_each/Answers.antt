@@ -1,7 +1,7 @@
 use Rattle.std.proofs.Common.{◌∙◌}
 use Rattle.col_disk.proofs.Moving.{looks_join}
 use Rattle.stored_rows.specs.Stored.{IsUnmarked}
-use Rattle.proj_store.specs.Sound.{IsKept}
+use Rattle.proj_store.specs.Sound.{MarksItsRows}
 use Rattle.proj_store.proofs.Zips.{kept_more, none_inside}
 use Rattle.proj_store.proofs.SavedRows.{item, item_is, blames_load_here}
 use Rattle.proj_store.proofs.loading.load_each.Goals as goal
@@ -21,7 +21,7 @@ loop-container-preserved g c =
       found = λ m told.
           kept_more (IsUnmarked m) ks i (item ks i) c.loop-container.kept.items c.push.new.self.items _ c.loop-container-test.true is c.in-Ok-push.ensures.items (c.loop-container.invariant.found m told)
           (c.in-Ok.ensures.found m (c.loop-container.invariant.looks.contents ∙ told), c.new-fresh.ensures.items);
-      inside = kept_more IsKept ks i (item ks i) c.loop-container.kept.items c.push.new.self.items _ c.loop-container-test.true is c.in-Ok-push.ensures.items c.loop-container.invariant.inside
+      inside = kept_more MarksItsRows ks i (item ks i) c.loop-container.kept.items c.push.new.self.items _ c.loop-container-test.true is c.in-Ok-push.ensures.items c.loop-container.invariant.inside
           (record { held = c.in-Ok.ensures.within; fresh = none_inside (item ks i) c.new-fresh.result.items c.new-fresh.ensures.items });
       looks = looks_join g.D.Disk c.loop-container.invariant.looks c.read.ensures.looks;
     }

@@ -12,7 +12,7 @@ use Rattle.container_writer.specs.Writing.{listed}
 use Rattle.container_cut.specs.Blamed.{BlamesOne}
 use Rattle.moveout_job.specs.OnDisk.{beside}
 use Rattle.moveout_job.proofs.Renewed.{beside_within, later_data}
-use Rattle.proj_store.specs.Sound.{HasVectorNumber, IsKept}
+use Rattle.proj_store.specs.Sound.{HasVectorNumber, MarksItsRows}
 use Rattle.purge_job.specs.Purging.{CanLoad, PurgesOne}
 use Rattle.purge_job.proofs.Turns.{at_place, blamed_before, fewer_more, kept_at, loads_more, numbers_more, purges_all, purges_none, turn}
 use Rattle.purge_job.proofs.each.purge_each.Goals as goal
@@ -61,7 +61,7 @@ pub purge_container-requires-clause-held : goal.purge_container-requires-clause-
 purge_container-requires-clause-held g c =
     let p = c.args.p.now.stored in
     let shown : c.as_slice-containers.result.now ≡ p.entry.containers = search rules in
-    let is : IsKept (get_or c.as_slice-containers.result.now c.loop-i.i blank) (beside c.vector-held.result.now c.fresh_marks-fresh.result.now) =
+    let is : MarksItsRows (get_or c.as_slice-containers.result.now c.loop-i.i blank) (beside c.vector-held.result.now c.fresh_marks-fresh.result.now) =
     kept_at c.as_slice-containers.result.now p.beside c.loop-i.i (get_or c.as_slice-containers.result.now c.loop-i.i blank) c.vector-held.result.now c.fresh_marks-fresh.result.now (rw shown c.entry-shape.ensures.sound.kept) c.loop-i-test.true
     (get_or_default c.as_slice-containers.result.now c.loop-i.i blank (get_or c.as_slice-containers.result.now c.loop-i.i blank) c.loop-i-test.true) c.vector-held.ensures c.fresh_marks-fresh.ensures in
     is.held
@@ -70,7 +70,7 @@ pub purge_container-requires-clause-fresh : goal.purge_container-requires-clause
 purge_container-requires-clause-fresh g c =
     let p = c.args.p.now.stored in
     let shown : c.as_slice-containers.result.now ≡ p.entry.containers = search rules in
-    let is : IsKept (get_or c.as_slice-containers.result.now c.loop-i.i blank) (beside c.vector-held.result.now c.fresh_marks-fresh.result.now) =
+    let is : MarksItsRows (get_or c.as_slice-containers.result.now c.loop-i.i blank) (beside c.vector-held.result.now c.fresh_marks-fresh.result.now) =
     kept_at c.as_slice-containers.result.now p.beside c.loop-i.i (get_or c.as_slice-containers.result.now c.loop-i.i blank) c.vector-held.result.now c.fresh_marks-fresh.result.now (rw shown c.entry-shape.ensures.sound.kept) c.loop-i-test.true
     (get_or_default c.as_slice-containers.result.now c.loop-i.i blank (get_or c.as_slice-containers.result.now c.loop-i.i blank) c.loop-i-test.true) c.vector-held.ensures c.fresh_marks-fresh.ensures in
     is.fresh

@@ -2,7 +2,7 @@ use Rattle.std.proofs.Common.{◌∙◌, ◌<◌, List, length, refl, subst, sym
 use Rattle.std.specs.Prelude.{Some}
 use Rattle.catalog_types.specs.declared.catalogue.Table as kept
 use Rattle.load_reader.specs.declared.fields.LoadColumn.{LoadColumn}
-use Rattle.load_reader.specs.Load.{Load as FileLoad, Loads as FileLoads}
+use Rattle.load_reader.specs.Load.{FileLoad, LoadsFile}
 use Rattle.sql_tree.specs.declared.refusal.Refusal.{Refusal}
 use Rattle.sql_tree.specs.declared.statement.Statement.{Statement}
 use Rattle.db_model.specs.Loading.{Load}
@@ -23,7 +23,7 @@ load_rows-requires g c =
     let columns = c.in-Ok.columns.items in
     let rows = c.in-Ok-read.rows.items in
     rows_in c.tables.result.now c.args.place columns c.args.bytes.now rows c.in-Ok.ensures
-    (subst (λ (cs : List LoadColumn). FileLoads cs c.args.bytes.now (FileLoad.Rows rows)) c.as_slice.ensures.value c.in-Ok-read.ensures.rows) c.loaded_rows_fit.ensures.rows
+    (subst (λ (cs : List LoadColumn). LoadsFile cs c.args.bytes.now (FileLoad.Rows rows)) c.as_slice.ensures.value c.in-Ok-read.ensures.rows) c.loaded_rows_fit.ensures.rows
 
 pub returns-in-Ok-read-clause-answers : goal.returns-in-Ok-read-clause-answers
 returns-in-Ok-read-clause-answers g c = λ files file state here free held small.
@@ -34,7 +34,7 @@ returns-in-Ok-read-clause-answers g c = λ files file state here free held small
     let same = c.rows_decide_nothing_here.ensures.columns (frame_of r) state table (c.frames_are_of_the_state.ensures.bare c.args.disk.now r state here) in
     let (e, found, columns) = columns_in r state table c.args.place c.tables.result.now c.in-Ok.columns.items c.tables.ensures c.requires c.in-Ok.ensures same in
     c.load_rows.ensures.answers files file bytes e state here (record { found = found; free = free; held = held; small = small })
-    (subst (λ (cs : List LoadColumn). FileLoads cs bytes (FileLoad.Rows rows)) (c.as_slice.ensures.value ∙ columns) c.in-Ok-read.ensures.rows)
+    (subst (λ (cs : List LoadColumn). LoadsFile cs bytes (FileLoad.Rows rows)) (c.as_slice.ensures.value ∙ columns) c.in-Ok-read.ensures.rows)
 
 pub returns-in-Err-Bad-clause-answers : goal.returns-in-Err-Bad-clause-answers
 returns-in-Err-Bad-clause-answers g c = λ files file state here free held small.
@@ -46,8 +46,8 @@ returns-in-Err-Bad-clause-answers g c = λ files file state here free held small
     let s = Statement.Copy table file in
     let same = c.rows_decide_nothing_here.ensures.columns (frame_of r) state table (c.frames_are_of_the_state.ensures.bare c.args.disk.now r state here) in
     let (e, found, columns) = columns_in r state table c.args.place c.tables.result.now c.in-Ok.columns.items c.tables.ensures c.requires c.in-Ok.ensures same in
-    let bad : FileLoads c.as_slice.result.now bytes (FileLoad.BadRecord line field) = rw c.in-Err-Bad.field-0-is at c.in-Err-Bad.ensures.fault in
-    let wrong = subst (λ (cs : List LoadColumn). FileLoads cs bytes (FileLoad.BadRecord line field)) (c.as_slice.ensures.value ∙ columns) bad in
+    let bad : LoadsFile c.as_slice.result.now bytes (FileLoad.BadRecord line field) = rw c.in-Err-Bad.field-0-is at c.in-Err-Bad.ensures.fault in
+    let wrong = subst (λ (cs : List LoadColumn). LoadsFile cs bytes (FileLoad.BadRecord line field)) (c.as_slice.ensures.value ∙ columns) bad in
     memory_answers g.D.Disk files s s r c.args.disk.now c.refused.result c.in_memory.result state refl c.in_memory.ensures here.sound.database (c.every_image_reopens.ensures r.seen.catalogue r.seen.stores c.args.disk.now state.database here.database)
     (refused_holds g.D.Disk files s r c.args.disk.now (Refusal.BadLoadLine line field) c.refused.result state c.refused.ensures
     (decided_load state files table file bytes e (Load.Wrong line field) (Some (Refusal.BadLoadLine line field)) (record { found = found; free = free; held = held; small = small }) wrong refl) here)

@@ -2,12 +2,12 @@ use Rattle.std.proofs.Common.{sym, subst}
 use Rattle.std.specs.Prelude.{Option}
 use Rattle.common_laws.specs.Maps.{Contents}
 use Rattle.col_disk.proofs.Moving.{moved_join, moved_read}
-use Rattle.moveout_job.specs.OnDisk.{MovesOut}
+use Rattle.moveout_job.specs.OnDisk.{KeepsStored}
 use Rattle.table_store.proofs.Unblamed.{written_unblamed}
 use Rattle.table_store.proofs.draining.write_out.Goals as goal
 
 pub returns-in-Ok-load-clause-rows : goal.returns-in-Ok-load-clause-rows
-returns-in-Ok-load-clause-rows g c = subst (λ (o : Option Contents). MovesOut c.args.next c.args.store.now.stored c.in-Ok.out.entry (g.D.Disk.holds c.args.disk.now) o) (sym c.load.ensures.looks.contents) c.in-Ok.ensures.held
+returns-in-Ok-load-clause-rows g c = subst (λ (o : Option Contents). KeepsStored c.args.next c.args.store.now.stored c.in-Ok.out.entry (g.D.Disk.holds c.args.disk.now) o) (sym c.load.ensures.looks.contents) c.in-Ok.ensures.held
 
 pub returns-in-Ok-load-clause-moved : goal.returns-in-Ok-load-clause-moved
 returns-in-Ok-load-clause-moved g c = moved_join g.D.Disk c.moveout.ensures.moved (moved_read g.D.Disk c.load.ensures.looks)

@@ -2,13 +2,13 @@ use Rattle.std.specs.Vec.{vec_len, vec_capacity}
 use Rattle.std.proofs.Common.{◌≡◌, ◌++◌, ◌∷◌, [], true, List, refl, sym, ◌∙◌, ap, subst, arith}
 use Rattle.col_disk.specs.declared.did.Did.{Did}
 use Rattle.col_disk.specs.declared.did.Did.TheVariants.{Placed, Wrote, Removed, Kept, Synced}
-use Rattle.col_disk.specs.Dids.{IsKept}
+use Rattle.col_disk.specs.Dids.{IsMemDisk}
 use Rattle.col_disk.proofs.Keeping.{kept_more}
 use Rattle.col_disk.proofs.memory.MemDisk.keep.Goals as goal
 
 pub invariant_of-self-2 : goal.invariant_of-self-2
 invariant_of-self-2 c =
     let items : c.push_reserved.new.self.items ≡ c.self.inside.done.items ++ Kept c.args.name ∷ [] = c.push_reserved.ensures.items ∙ ap (λ (ds : List Did). ds ++ Kept c.args.name ∷ []) c.in_ok-reserve.ensures.items in
-    subst (λ (ds : List Did). IsKept c.self.inside.held ds true (vec_len c.push_reserved.new.self) (vec_capacity c.push_reserved.new.self)) (sym items)
+    subst (λ (ds : List Did). IsMemDisk c.self.inside.held ds true (vec_len c.push_reserved.new.self) (vec_capacity c.push_reserved.new.self)) (sym items)
     (kept_more c.self.inside.held c.self.inside.held c.self.inside.done.items (Kept c.args.name) c.self.inside.dirty (vec_len c.self.inside.done) (vec_capacity c.self.inside.done) (vec_len c.push_reserved.new.self) (vec_capacity c.push_reserved.new.self) refl
     (omega (arith, c.in_ok-reserve.ensures.ok, c.push_reserved.ensures.len, c.push_reserved.ensures.capacity)) c.self.invariant)

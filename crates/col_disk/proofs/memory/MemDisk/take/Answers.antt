@@ -2,7 +2,7 @@ use Rattle.std.specs.Vec.{vec_len, vec_capacity}
 use Rattle.std.proofs.Common.{◌≡◌, ◌++◌, ◌∷◌, [], true, List, refl, sym, ◌∙◌, ap, subst, arith}
 use Rattle.col_disk.specs.declared.did.Did.{Did}
 use Rattle.col_disk.specs.declared.did.Did.TheVariants.{Placed, Wrote, Removed, Kept, Synced}
-use Rattle.col_disk.specs.Dids.{IsKept, contents_of}
+use Rattle.col_disk.specs.Dids.{IsMemDisk, contents_of}
 use Rattle.col_disk.specs.Done.{replayed_more}
 use Rattle.col_disk.specs.Memory.{Memory, held_by}
 use Rattle.std.specs.FinMap.{empty, remove}
@@ -12,7 +12,7 @@ use Rattle.col_disk.proofs.memory.MemDisk.take.Goals as goal
 pub invariant_of-self-2 : goal.invariant_of-self-2
 invariant_of-self-2 c =
     let items : c.push_reserved.new.self.items ≡ c.self.inside.done.items ++ Removed c.args.name ∷ [] = c.push_reserved.ensures.items ∙ ap (λ (ds : List Did). ds ++ Removed c.args.name ∷ []) c.in_ok-reserve.ensures.items in
-    subst (λ (ds : List Did). IsKept c.take.new.self ds true (vec_len c.push_reserved.new.self) (vec_capacity c.push_reserved.new.self)) (sym items)
+    subst (λ (ds : List Did). IsMemDisk c.take.new.self ds true (vec_len c.push_reserved.new.self) (vec_capacity c.push_reserved.new.self)) (sym items)
     (kept_more c.self.inside.held c.take.new.self c.self.inside.done.items (Removed c.args.name) c.self.inside.dirty (vec_len c.self.inside.done) (vec_capacity c.self.inside.done) (vec_len c.push_reserved.new.self) (vec_capacity c.push_reserved.new.self) c.take.ensures
     (omega (arith, c.in_ok-reserve.ensures.ok, c.push_reserved.ensures.len, c.push_reserved.ensures.capacity)) c.self.invariant)
 
