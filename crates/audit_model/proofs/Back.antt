@@ -29,7 +29,7 @@ use Rattle.folder_model.specs.Reopening.{IsTableAt, IsCutOf, ReopensBy, Reopens}
 use Rattle.audit_model.specs.Listed.{Place, file, files, files_in, parts, place, places, places_in, places_of, IsSpelled}
 use Rattle.audit_model.specs.Pairs.{in_columns, is_other, pair, pairs_with, places_among, super_of, is_super, IsSamePair}
 use Rattle.audit_model.specs.Rows.{judged, IsGood, IsGoodPlace, IsGoodRow}
-use Rattle.audit_model.specs.Verdicts.{Passes}
+use Rattle.audit_model.specs.Verdicts.{PassesAudit}
 use Rattle.audit_model.proofs.Building.{parts_there}
 use Rattle.audit_model.proofs.Columns.{has, rows_again}
 use Rattle.audit_model.proofs.Good.{good_in}
@@ -126,7 +126,7 @@ files_spelled m c rows = all_flat (IsSpelled m) files_in (places c) (λ k e lt. 
     one : (x : Place) → IsGoodPlace m c x → All (IsSpelled m) (files_in x)
     one x (here, held, good) = All-map (IsSpelled m) (file x.projection x.container) (parts x.container) (parts_there m x.projection x.container here held)
 
-pub cut_passes : (m : Contents) (c : Catalogue) (d : Database) → IsValid c → IsCutOf m c d → All (IsSoundTable d) d.tables → Passes m c
+pub cut_passes : (m : Contents) (c : Catalogue) (d : Database) → IsValid c → IsCutOf m c d → All (IsSoundTable d) d.tables → PassesAudit m c
 cut_passes m c d valid is sound =
     let good = tables_good m c d c.tables d.tables valid.tables is.tables sound in
     let rows = all_flat (IsGoodPlace m c) places_of c.tables (λ k e lt. (good k e lt).rows) in
@@ -144,5 +144,5 @@ cut_by_root m v c d root reopens = by reopens.root reopens.opens reopens.is_cut
     by Fresh opens is = absurd (not_fresh m v c root opens)
     by (Root w r) opens is = subst (λ (x : Catalogue). IsCutOf m x d) (sym (one_root m v w c r root opens).1) is
 
-pub reopening_passes : (m : Contents) (v : ℕ) (c : Catalogue) (d : Database) → IsRoot m v c → Reopens m d → Passes m c
+pub reopening_passes : (m : Contents) (v : ℕ) (c : Catalogue) (d : Database) → IsRoot m v c → Reopens m d → PassesAudit m c
 reopening_passes m v c d root reopens = cut_passes m c d root.valid (cut_by_root m v c d root reopens) reopens.sound.tables

@@ -37,7 +37,7 @@ use Rattle.folder_model.specs.Reopening.{IsTableAt, Reopens}
 use Rattle.audit_model.specs.Listed.{place, places_in, places_of}
 use Rattle.audit_model.specs.Pairs.{in_columns, is_other, is_super, pair, pairs_with, place_in, super_of, IsSamePair}
 use Rattle.audit_model.specs.Rows.{judged, IsGood, IsGoodPlace, IsGoodRow}
-use Rattle.audit_model.specs.Verdicts.{Passes}
+use Rattle.audit_model.specs.Verdicts.{PassesAudit}
 use Rattle.audit_model.proofs.Columns.{has, rows_themselves, rows_whole}
 use Rattle.audit_model.proofs.Epochs.{judged_epochs, rows_late}
 use Rattle.audit_model.proofs.Good.{fits_whole, good_long}
@@ -257,7 +257,7 @@ all_made m c (t ∷ ts) all =
       sound = λ d last mark. All-cons (sound.IsSoundTable d) here.table rest.tables (here.sound d last mark) (rest.sound d last mark);
     }
 
-pub passing_reopens : HeldOnce → (m : Contents) (v : ℕ) (c : Catalogue) → IsRoot m v c → Passes m c → (d : db.Database) × Reopens m d × (d.last ≡ least_lge c) × (d.ahm ≡ c.ahm)
+pub passing_reopens : HeldOnce → (m : Contents) (v : ℕ) (c : Catalogue) → IsRoot m v c → PassesAudit m c → (d : db.Database) × Reopens m d × (d.last ≡ least_lge c) × (d.ahm ≡ c.ahm)
 passing_reopens once m v c root passes =
     let rows = all_parts (IsGoodPlace m c) places_of c.tables passes.rows in
     let same = all_parts (IsSamePair m c) (λ t. pairs_with t (super_of t)) c.tables passes.pairs in

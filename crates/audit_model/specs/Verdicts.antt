@@ -16,7 +16,7 @@ use Rattle.audit_model.specs.declared.verdict.Verdict.TheVariants.{Yes, File as 
 
 -- The folder of a catalogue passes: each listed file is its spelling, each stored row that is judged is good, and of each table the
 -- projections that are up to date hold the rows of its super projection of least name, in their columns.
-pub record Passes (m : Contents) (c : Catalogue) : Type 0 where
+pub record PassesAudit (m : Contents) (c : Catalogue) : Type 0 where
   pub files : All (IsSpelled m) (files c)
   pub rows : All (IsGoodPlace m c) (places c)
   pub pairs : All (IsSamePair m c) (pairs c)
@@ -58,7 +58,7 @@ pub record IsFirstPair (m : Contents) (c : Catalogue) (table first second : List
 
 -- the verdict on the folder of a catalogue: files come before rows, and rows before pairs
 abbrev pub IsVerdictOf : Contents → Catalogue → Verdict → Type 0
-IsVerdictOf m c (Yes last ahm) = Passes m c × (last ≡ least_lge c) × (ahm ≡ c.ahm)
+IsVerdictOf m c (Yes last ahm) = PassesAudit m c × (last ≡ least_lge c) × (ahm ≡ c.ahm)
 IsVerdictOf m c (Damaged name) = IsFirstFile m c name
 IsVerdictOf m c (BadRow table projection base pos) = IsFirstRow m c table projection base pos
 IsVerdictOf m c (Differ table first second first_count second_count row) = IsFirstPair m c table first second first_count second_count row

@@ -6,14 +6,14 @@ ghost use Rattle.catalog_types.specs.declared.catalogue.Catalogue.{Catalogue};
 ghost use Rattle.catalog_root.specs.Root.{IsRoot};
 ghost use Rattle.db_model.specs.Database.{Database};
 ghost use Rattle.folder_model.specs.Reopening.{Reopens};
-ghost use Rattle.audit_model.specs.Verdicts.{Passes, IsVerdict, IsYes};
+ghost use Rattle.audit_model.specs.Verdicts.{PassesAudit, IsVerdict, IsYes};
 ghost use Rattle.audit_model.specs.declared.verdict.Verdict.{Verdict as AVerdict};
 
 use stored_rows::one_list_of_rows;
 
 /// The folder of a catalogue passes exactly where it reopens to some database.
 pub fn a_folder_passes_where_it_reopens()
-    ensures { (m : Contents) (v : ℕ) (c : Catalogue) → IsRoot m v c → Passes m c ↔ ((d : Database) × Reopens m d) }
+    ensures { (m : Contents) (v : ℕ) (c : Catalogue) → IsRoot m v c → PassesAudit m c ↔ ((d : Database) × Reopens m d) }
 {
     one_list_of_rows();
 }

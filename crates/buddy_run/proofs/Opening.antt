@@ -9,7 +9,7 @@ use Rattle.db_model.specs.State.{opened_with}
 use Rattle.folder_model.specs.Reopening.{Reopens}
 use Rattle.store_core.specs.Running.{Running, IsState}
 use Rattle.store_opening.specs.Opening.{IsStill}
-use Rattle.buddy_run.specs.Ends.{IsOnTheWay, IsOpened, IsStillOrCut, ReopensEither}
+use Rattle.buddy_run.specs.Ends.{LinkIsOnTheWay, IsOpened, IsStillOrCut, ReopensEither}
 use Rattle.buddy_run.proofs.Following.{read_leaves}
 use Rattle.buddy_run.proofs.Opened.{opened_good}
 
@@ -18,10 +18,10 @@ opened_is m d next parts reopens = record { idle = refl; good = opened_good m d 
 
 -- ---- what a crash leaves
 
-pub opening_leaves : {D : Type 0} (disk : Ghosts D) {old new : D} (a b : Database) → Leaves disk (IsStill disk old a) old new → Leaves disk (IsOnTheWay disk old a b) old new
+pub opening_leaves : {D : Type 0} (disk : Ghosts D) {old new : D} (a b : Database) → Leaves disk (IsStill disk old a) old new → Leaves disk (LinkIsOnTheWay disk old a b) old new
 opening_leaves disk a b leaves = leaves_wider disk (λ x still. inl still) leaves
 
-pub way_leaves : {D : Type 0} (disk : Ghosts D) {old mid new : D} (a b : Database) → Leaves disk (IsStill disk old a) old mid → Leaves disk (ReopensEither a b) mid new → Leaves disk (IsOnTheWay disk old a b) old new
+pub way_leaves : {D : Type 0} (disk : Ghosts D) {old mid new : D} (a b : Database) → Leaves disk (IsStill disk old a) old mid → Leaves disk (ReopensEither a b) mid new → Leaves disk (LinkIsOnTheWay disk old a b) old new
 way_leaves disk {old} {mid} {new} a b before after = leaves_join disk {mid = mid} (leaves_wider disk (λ x still. inl still) before) (leaves_wider disk (λ x either. inr either) after)
 
 pub still_leaves : {D : Type 0} (disk : Ghosts D) {old new : D} (b : Database) → Leaves disk (IsStill disk old b) old new → Leaves disk (IsStillOrCut disk old b) old new

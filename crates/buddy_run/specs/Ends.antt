@@ -42,8 +42,8 @@ pub record IsOpened (a : State) : Type 0 where
 
 -- What a crash leaves of the folder behind at any moment: what it would have left before the opening had synced, or it reopens to what it was, cut at its newest epoch, or
 -- to a database that has caught up.
-abbrev pub IsOnTheWay : {D : Type 0} → Ghosts D → D → Database → Database → Contents → Type 0
-IsOnTheWay disk old a b x = IsStill disk old a x ⊎ ReopensEither a b x
+abbrev pub LinkIsOnTheWay : {D : Type 0} → Ghosts D → D → Database → Database → Contents → Type 0
+LinkIsOnTheWay disk old a b x = IsStill disk old a x ⊎ ReopensEither a b x
 
 -- What a crash leaves of the folder ahead at any moment: what it would have left before the opening had synced, or it reopens to what it was, or to that cut at its newest
 -- epoch.

@@ -13,7 +13,7 @@ ghost use Rattle.store_opening.specs.Opening.{IsStill};
 ghost use Rattle.buddy_run.specs.declared.status.LinkStatus.TheVariants.{Usage as usage, SinkFault as sink_fault, DiskFault as disk_fault};
 ghost use Rattle.catch_files.specs.Parting.{IsShort};
 ghost use Rattle.catch_text.specs.Lines as lines;
-ghost use Rattle.buddy_run.specs.Ends.{BringsUp, IsOnTheWay, IsOpened, IsSinkStop, IsStillOrCut, LinkEnds, ReopensEither, StopsBy, IsToldBy, StopEnds, IsDiskFault};
+ghost use Rattle.buddy_run.specs.Ends.{BringsUp, LinkIsOnTheWay, IsOpened, IsSinkStop, IsStillOrCut, LinkEnds, ReopensEither, StopsBy, IsToldBy, StopEnds, IsDiskFault};
 
 use crate::status::LinkStatus;
 use buddy_link::{Link, LinkFault};
@@ -102,7 +102,7 @@ fn bring_up<A: Disk, B: Disk>(
     ahead: &mut B,
 ) -> Result<Brought, LinkFault>
     ensures brings { (m n : Contents) (a b : Database) → A.holds behind.old ≡ Some m → Reopens m a → B.holds ahead.old ≡ Some n → Reopens n b → BringsUp ⟦<A as Disk>⟧ behind.new a b result }
-    ensures any_moment { (m n : Contents) (a b : Database) → A.holds behind.old ≡ Some m → Reopens m a → B.holds ahead.old ≡ Some n → Reopens n b → Leaves ⟦<A as Disk>⟧ (IsOnTheWay ⟦<A as Disk>⟧ behind.old a b) behind.old behind.new }
+    ensures any_moment { (m n : Contents) (a b : Database) → A.holds behind.old ≡ Some m → Reopens m a → B.holds ahead.old ≡ Some n → Reopens n b → Leaves ⟦<A as Disk>⟧ (LinkIsOnTheWay ⟦<A as Disk>⟧ behind.old a b) behind.old behind.new }
     ensures ahead_stays { (n : Contents) (b : Database) → B.holds ahead.old ≡ Some n → Reopens n b → Leaves ⟦<B as Disk>⟧ (IsStillOrCut ⟦<B as Disk>⟧ ahead.old b) ahead.old ahead.new }
     ensures behind_cause { HasCause LinkFault.BehindDisk (A.faults behind.old) (A.faults behind.new) result }
     ensures ahead_cause { HasCause LinkFault.AheadDisk (B.faults ahead.old) (B.faults ahead.new) result }
@@ -179,7 +179,7 @@ pub fn link<S: Sink, A: Disk, B: Disk>(
     ensures usage { result ≡ usage → length words.now ≢ 3 }
     ensures idle { length words.now ≢ 3 → (result ≡ usage) × (behind.new ≡ behind.old) × (ahead.new ≡ ahead.old) × (out.new ≡ out.old) }
     ensures ends { (m n : Contents) (a b : Database) → length words.now ≡ 3 → A.holds behind.old ≡ Some m → Reopens m a → B.holds ahead.old ≡ Some n → Reopens n b → LinkEnds result ⟦<A as Disk>⟧ behind.new a b (S.taken out.old) (S.taken out.new) }
-    ensures any_moment { (m n : Contents) (a b : Database) → A.holds behind.old ≡ Some m → Reopens m a → B.holds ahead.old ≡ Some n → Reopens n b → Leaves ⟦<A as Disk>⟧ (IsOnTheWay ⟦<A as Disk>⟧ behind.old a b) behind.old behind.new }
+    ensures any_moment { (m n : Contents) (a b : Database) → A.holds behind.old ≡ Some m → Reopens m a → B.holds ahead.old ≡ Some n → Reopens n b → Leaves ⟦<A as Disk>⟧ (LinkIsOnTheWay ⟦<A as Disk>⟧ behind.old a b) behind.old behind.new }
     ensures ahead_stays { (n : Contents) (b : Database) → B.holds ahead.old ≡ Some n → Reopens n b → Leaves ⟦<B as Disk>⟧ (IsStillOrCut ⟦<B as Disk>⟧ ahead.old b) ahead.old ahead.new }
     ensures sink { result ≡ sink_fault → Rose (S.faults out.old) (S.faults out.new) }
     ensures fault { result ≡ disk_fault → Rose (A.faults behind.old) (A.faults behind.new) ⊎ Rose (B.faults ahead.old) (B.faults ahead.new) }

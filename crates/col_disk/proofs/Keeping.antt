@@ -5,7 +5,7 @@ use Rattle.std.proofs.lemmas.List.{length-append}
 use Rattle.std.specs.FinMap.{empty, insert, remove, get}
 use Rattle.common_laws.specs.Maps.{Contents}
 use Rattle.col_disk.specs.Calls.{Elsewhere, GoneOrKept, Keeps, Writes, Removes}
-use Rattle.col_disk.specs.Crashes.{Image, Passes}
+use Rattle.col_disk.specs.Crashes.{Image, TimePasses}
 use Rattle.col_disk.specs.declared.disk.DiskFault.{DiskFault}
 use Rattle.col_disk.specs.declared.disk.DiskFault.TheVariants.{Failed, Memory as no_memory}
 use Rattle.col_disk.specs.declared.did.Did.{Did}

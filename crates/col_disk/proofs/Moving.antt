@@ -12,7 +12,7 @@ use Rattle.col_disk.specs.declared.disk.Disk.{Ghosts}
 use Rattle.col_disk.specs.declared.disk.DiskFault.{DiskFault}
 use Rattle.col_disk.specs.declared.disk.DiskFault.TheVariants.{Failed, Memory}
 use Rattle.col_disk.specs.Calls.{Stepped, Elsewhere, GoneOrKept, WriteLeaves, RemoveLeaves, Keeps, Writes, Removes}
-use Rattle.col_disk.specs.Crashes.{Image, Passes, StepLeaves}
+use Rattle.col_disk.specs.Crashes.{Image, TimePasses, StepLeaves}
 use Rattle.col_disk.specs.Moved.{Changed, Moved, Looks, LikeOne, Leaves, NoName, Among, Either}
 use Rattle.std.proofs.lemmas.List.Elements.{Contains-append_left, Contains-append_right}
 
@@ -184,7 +184,7 @@ after_step W R step before now (Err Memory) h none c is = like_itself W R before
 
 -- a call that changes these names, seen by its contents, its images and its time
 moved_step : {D : Type 0} (disk : Ghosts D) (W R : ℕ → Type 0) (old new : D) → Stepped (Changed W R) (disk.holds old) (disk.holds new) → disk.faults old ≤ disk.faults new
-    → ((c : Contents) → disk.since new (disk.clock new) c → LikeOne W R (disk.since old (disk.clock old)) c) → Passes disk.since disk.clock old new → Moved disk W R old new
+    → ((c : Contents) → disk.since new (disk.clock new) c → LikeOne W R (disk.since old (disk.clock old)) c) → TimePasses disk.since disk.clock old new → Moved disk W R old new
 moved_step disk W R old new contents counted now time = record {
   contents = contents;
   counted = counted;

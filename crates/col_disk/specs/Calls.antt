@@ -5,7 +5,7 @@ use Rattle.std.specs.Option.{option_map}
 use Rattle.std.specs.FinMap.{get, insert, remove}
 use Rattle.std.specs.declared.alloc.Global.{Global}
 use Rattle.common_laws.specs.Maps.{Contents}
-use Rattle.col_disk.specs.Crashes.{Image, Passes, NoneCame, StepLeaves, Remembers}
+use Rattle.col_disk.specs.Crashes.{Image, TimePasses, NoneCame, StepLeaves, Remembers}
 use Rattle.col_disk.specs.declared.disk.DiskFault.{DiskFault}
 use Rattle.col_disk.specs.declared.disk.DiskFault.TheVariants.{Failed, Memory}
 
@@ -35,7 +35,7 @@ pub record Keeps {D : Type 0} (holds : D → Option Contents) (faults : D → �
   pub contents : holds new ≡ holds old
   pub counted : faults old ≤ faults new
   pub images : NoneCame (Image since clock old) (Image since clock new)
-  pub time : Passes since clock old new
+  pub time : TimePasses since clock old new
   pub remembered : changed new ≡ changed old
 
 -- a step of the contents where they are told; those that aren't stay untold
@@ -71,7 +71,7 @@ pub record Writes {D : Type 0} (holds : D → Option Contents) (faults : D → �
   pub contents : WriteLeaves name bytes (holds old) (holds new) result
   pub counted : faults old ≤ faults new
   pub images : StepLeaves (Elsewhere name) (Image since clock old) (Image since clock new) result
-  pub time : Passes since clock old new
+  pub time : TimePasses since clock old new
   pub remembered : Remembers (changed old) (changed new) result
 
 -- a call that removes
@@ -80,5 +80,5 @@ pub record Removes {D : Type 0} (holds : D → Option Contents) (faults : D → 
   pub contents : RemoveLeaves name (holds old) (holds new) result
   pub counted : faults old ≤ faults new
   pub images : StepLeaves (GoneOrKept name) (Image since clock old) (Image since clock new) result
-  pub time : Passes since clock old new
+  pub time : TimePasses since clock old new
   pub remembered : Remembers (changed old) (changed new) result

@@ -9,7 +9,7 @@ abbrev pub Image : {D : Type 0} → (D → ℕ → Contents → Type 0) → (D �
 Image since clock disk c = since disk (clock disk) c
 
 -- Time goes on: what a crash since an earlier moment may have left it might have left before, or may leave now.
-pub record Passes {D : Type 0} (since : D → ℕ → Contents → Type 0) (clock : D → ℕ) (old new : D) : Type 0 where
+pub record TimePasses {D : Type 0} (since : D → ℕ → Contents → Type 0) (clock : D → ℕ) (old new : D) : Type 0 where
   pub later : clock old ≤ clock new
   pub each : (t : ℕ) (c : Contents) → t ≤ clock old → since new t c → since old t c ⊎ Image since clock new c
 

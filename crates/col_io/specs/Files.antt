@@ -13,10 +13,10 @@ Finds (Some held) max (Whole bytes) = (bytes.items ≡ held) × (length held ≤
 Finds (Some held) max TooLong = max < length held
 
 -- whatever the name has, no more than `max` bytes come back
-abbrev pub IsWithin : ℕ → Got → Type 0
-IsWithin max Absent = Unit {0}
-IsWithin max (Whole bytes) = vec_len bytes ≤ max
-IsWithin max TooLong = Unit {0}
+abbrev pub HasAtMost : ℕ → Got → Type 0
+HasAtMost max Absent = Unit {0}
+HasAtMost max (Whole bytes) = vec_len bytes ≤ max
+HasAtMost max TooLong = Unit {0}
 
 -- what a map that may be told has at a name
 abbrev pub bytes_at : Option (List ℕ → Option (List ℕ)) → List ℕ → Option (Option (List ℕ))

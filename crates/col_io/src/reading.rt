@@ -1,6 +1,6 @@
 ghost use Rattle.std.specs.Prelude.{◌≡◌, IfOk, IfSome};
 ghost use Rattle.common_laws.specs.Causes.{HasCause};
-ghost use Rattle.col_io.specs.Files.{Finds, IsWithin};
+ghost use Rattle.col_io.specs.Files.{Finds, HasAtMost};
 
 use std::alloc::Global;
 use thiserror::Error;
@@ -42,7 +42,7 @@ pub trait Files {
     /// exactly the bytes there. No read changes what they tell.
     fn read(&mut self, alloc: Global, name: &str, max: usize) -> Result<Got, FilesFault>
         ensures found { IfOk result (λ got. IfSome (content self.old) (λ map. Finds (map name.now) max got)) }
-        ensures within { IfOk result (IsWithin max) }
+        ensures within { IfOk result (HasAtMost max) }
         ensures same { content self.new ≡ content self.old }
         ensures cause { HasCause FilesFault.Failed (faults self.old) (faults self.new) result };
 }

@@ -1,5 +1,5 @@
 ghost use Rattle.std.specs.Prelude.{◌≡◌, None, IfOk, IsTrue, ◌↔◌};
-ghost use Rattle.col_io.specs.Files.{IsWithin};
+ghost use Rattle.col_io.specs.Files.{HasAtMost};
 
 use crate::reading::{Files, FilesFault, Got};
 use std::alloc::{AllocError, Global};
@@ -53,7 +53,7 @@ fn fault_of(error: &Error) -> FilesFault {
 
 // What an open file holds: it reads at most `max` bytes and one more.
 fn read_within<F: Read + Drop>(alloc: Global, file: F, max: usize) -> Result<Got, FilesFault>
-    ensures { IfOk result (IsWithin max) }
+    ensures { IfOk result (HasAtMost max) }
 {
     let mut bytes = Vec::new(alloc);
     let limit = (max as u64).saturating_add(1);
@@ -71,7 +71,7 @@ fn read_path<R: std::rt::Files>(
     name: &str,
     max: usize,
 ) -> Result<Got, FilesFault>
-    ensures { IfOk result (IsWithin max) }
+    ensures { IfOk result (HasAtMost max) }
 {
     match std::fs::open(rt, name) {
         Ok(file) => read_within(alloc, file, max),

@@ -13,5 +13,5 @@ IsDamageInTable m q t = Any (IsDamageIn m q) t.projections
 abbrev pub BlamesProjections : List Projection → Option Contents → StoreFault → Type 0
 BlamesProjections ps holds fault = Blames (λ m q. Any (IsDamageIn m q) ps) holds fault
 
-abbrev pub BlamesTables : List Table → Option Contents → StoreFault → Type 0
-BlamesTables ts holds fault = Blames (λ m q. Any (IsDamageInTable m q) ts) holds fault
+abbrev pub BlamesInTables : List Table → Option Contents → StoreFault → Type 0
+BlamesInTables ts holds fault = Blames (λ m q. Any (IsDamageInTable m q) ts) holds fault

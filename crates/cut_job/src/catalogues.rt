@@ -10,7 +10,7 @@ ghost use Rattle.container_writer.specs.Writing.{DataFrom};
 ghost use Rattle.cut_job.specs.Listed.{IsTableBelow, HasLoadable, table_count};
 ghost use Rattle.container_cut.specs.Cutting.{Between};
 ghost use Rattle.cut_job.specs.Cutting.{CutsTable, CutsTables, CutsCatalogue};
-ghost use Rattle.cut_job.specs.Blamed.{BlamesProjections, BlamesTables};
+ghost use Rattle.cut_job.specs.Blamed.{BlamesProjections, BlamesInTables};
 
 use crate::projections::{CutProjections, cut_projections};
 use catalog_types::{Catalogue, Projection, Table};
@@ -110,7 +110,7 @@ fn cut_tables<D: Disk>(
     ensures next { IfOk result (λ r. (next ≤ r.next) × (r.next ≤ 2 ^ 62)) }
     ensures loadable { IfOk result (λ r. All HasLoadable r.tables.items) }
     ensures few { IfOk result (λ r. r.next ≤ next + sum_by table_count tables.now) }
-    ensures blamed { IfErr result (BlamesTables tables.now (D.holds disk.old)) }
+    ensures blamed { IfErr result (BlamesInTables tables.now (D.holds disk.old)) }
     ensures moved { Moved ⟦<D as Disk>⟧ (DataFrom next) NoName disk.old disk.new }
     ensures cause { HasCause StoreFault.Disk (D.faults disk.old) (D.faults disk.new) result }
 {
@@ -145,7 +145,7 @@ pub fn cut_catalogue<D: Disk>(
     ensures next { IfOk result (λ r. c.now.next ≤ r.next) }
     ensures few { IfOk result (λ r. r.next ≤ c.now.next + store_count c.now) }
     ensures loadable { IfOk result (λ r. All HasLoadable r.tables) }
-    ensures blamed { IfErr result (BlamesTables c.now.tables (D.holds disk.old)) }
+    ensures blamed { IfErr result (BlamesInTables c.now.tables (D.holds disk.old)) }
     ensures moved { Moved ⟦<D as Disk>⟧ (DataFrom c.now.next) NoName disk.old disk.new }
     ensures cause { HasCause StoreFault.Disk (D.faults disk.old) (D.faults disk.new) result }
 {

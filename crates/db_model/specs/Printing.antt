@@ -28,11 +28,11 @@ abbrev pub counted_line : List ℕ → ℕ → List ℕ
 counted_line word n = word ++ (decimal n ++ codes "\n")
 
 -- the list that a query prints: its output rows in the printed order, up to its limit
-abbrev pub IsListed : State → At → Query → List (List Wide) → Type 0
-IsListed state at q listed = IsPrinted (bound_in state q).order q.limit (output (bound_in state q) (inputs at state q)) listed
+abbrev pub IsListing : State → At → Query → List (List Wide) → Type 0
+IsListing state at q listed = IsPrinted (bound_in state q).order q.limit (output (bound_in state q) (inputs at state q)) listed
 
 abbrev pub ListingPrints : State → At → Query → List ℕ → Type 0
-ListingPrints state at q text = (listed : List (List Wide)) × IsListed state at q listed × (text ≡ listing_text listed)
+ListingPrints state at q text = (listed : List (List Wide)) × IsListing state at q listed × (text ≡ listing_text listed)
 
 -- `SCAN item projection` for a FROM item
 abbrev pub scan_line : BoundQuery → Source × (FromItem × (ℕ × Table)) → List ℕ

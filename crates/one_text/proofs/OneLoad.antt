@@ -14,7 +14,7 @@ use Rattle.col_value.specs.declared.value.Value.TheVariants as value
 use Rattle.col_value.proofs.Characters.{one_text}
 use Rattle.load_reader.specs.declared.fields.LoadColumn.{LoadColumn}
 use Rattle.load_reader.specs.Fields.{IsAnyCase, IsRowOf, IsWrongAt, Says, SaysIn, SaysTruth}
-use Rattle.load_reader.specs.Load.{HasRows, IsFirstBad}
+use Rattle.load_reader.specs.Load.{ReadsRows, IsFirstBad}
 use Rattle.load_reader.specs.Records.{piped}
 use Rattle.db_model.specs.Loading.{Load, Loads, load_column}
 
@@ -107,7 +107,7 @@ wrong_once (c ∷ columns) (f ∷ fields) i j (inr (v, later, says, more, here))
 
 -- ---- what all records are
 
-rows_once : (columns : List LoadColumn) (records : List Fields) (rs qs : List (List Value)) → HasRows columns records rs → HasRows columns records qs → rs ≡ qs
+rows_once : (columns : List LoadColumn) (records : List Fields) (rs qs : List (List Value)) → ReadsRows columns records rs → ReadsRows columns records qs → rs ≡ qs
 rows_once columns [] [] [] first second = refl
 rows_once columns [] [] (q ∷ qs) first second = absurd second
 rows_once columns [] (r ∷ rs) qs first second = absurd first
@@ -118,7 +118,7 @@ rows_once columns (f ∷ records) (r ∷ rs) (q ∷ qs) (row, more) (also, later
 
 -- the records before the first wrong one are rows, so it is the first of any reading
 bad_once : (columns : List LoadColumn) (front bs : List Fields) (a b : Fields) (more later : List Fields) (rs qs : List (List Value)) (i j : ℕ) → front ++ a ∷ more ≡ bs ++ b ∷ later
-    → HasRows columns front rs → HasRows columns bs qs → IsWrongAt columns a i → IsWrongAt columns b j → (length front ≡ length bs) × (i ≡ j)
+    → ReadsRows columns front rs → ReadsRows columns bs qs → IsWrongAt columns a i → IsWrongAt columns b j → (length front ≡ length bs) × (i ≡ j)
 bad_once columns [] [] a b more later rs qs i j same first second wrong also =
     let here : a ≡ b = cc in
     (refl, wrong_once columns b i j (subst (λ (x : Fields). IsWrongAt columns x i) here wrong) also)
@@ -138,27 +138,27 @@ bad_once columns (c ∷ front) (d ∷ bs) a b more later (r ∷ rs) (q ∷ qs) i
     (ap suc behind.0, behind.1)
 
 -- where all records are rows none is the first wrong one
-rows_not_bad : (columns : List LoadColumn) (bs : List Fields) (b : Fields) (later : List Fields) (rs qs : List (List Value)) (j : ℕ) → HasRows columns (bs ++ b ∷ later) rs → HasRows columns bs qs → IsWrongAt columns b j → ⊥
+rows_not_bad : (columns : List LoadColumn) (bs : List Fields) (b : Fields) (later : List Fields) (rs qs : List (List Value)) (j : ℕ) → ReadsRows columns (bs ++ b ∷ later) rs → ReadsRows columns bs qs → IsWrongAt columns b j → ⊥
 rows_not_bad columns [] b later [] qs j first second wrong = first
 rows_not_bad columns [] b later (r ∷ rs) qs j (row, first) second wrong = row_not_wrong columns b r j row wrong
 rows_not_bad columns (c ∷ bs) b later [] qs j first second wrong = first
 rows_not_bad columns (c ∷ bs) b later (r ∷ rs) [] j first second wrong = second
 rows_not_bad columns (c ∷ bs) b later (r ∷ rs) (q ∷ qs) j (row, first) (other, second) wrong = rows_not_bad columns bs b later rs qs j first second wrong
 
-rows_or_bad : (columns : List LoadColumn) (records : List Fields) (rs : List (List Value)) (line field : ℕ) → HasRows columns records rs → IsFirstBad columns records line field → ⊥
+rows_or_bad : (columns : List LoadColumn) (records : List Fields) (rs : List (List Value)) (line field : ℕ) → ReadsRows columns records rs → IsFirstBad columns records line field → ⊥
 rows_or_bad columns records rs line field all (before, wrong, later, rows, split, first, at, line_is) =
-    rows_not_bad columns before wrong later rs rows field (subst (λ (x : List Fields). HasRows columns x rs) split all) first at
+    rows_not_bad columns before wrong later rs rows field (subst (λ (x : List Fields). ReadsRows columns x rs) split all) first at
 
 pub load_once : (columns : List Column) (bytes : List ℕ) (a b : Load) → Loads columns bytes a → Loads columns bytes b → a ≡ b
 load_once columns bytes (Load.Rows rs) (Load.Rows qs) (records, are, first) (others, also, second) =
     let same : records ≡ others = records_once piped st.StartRecord (strip_bom bytes) records others are also in
-    ap (λ (x : List (List Value)). Load.Rows x) (rows_once (map load_column columns) others rs qs (subst (λ (x : List Fields). HasRows (map load_column columns) x rs) same first) second)
+    ap (λ (x : List (List Value)). Load.Rows x) (rows_once (map load_column columns) others rs qs (subst (λ (x : List Fields). ReadsRows (map load_column columns) x rs) same first) second)
 load_once columns bytes (Load.Rows rs) (Load.Wrong line field) (records, are, first) (others, also, second) =
     let same : records ≡ others = records_once piped st.StartRecord (strip_bom bytes) records others are also in
-    absurd (rows_or_bad (map load_column columns) others rs line field (subst (λ (x : List Fields). HasRows (map load_column columns) x rs) same first) second)
+    absurd (rows_or_bad (map load_column columns) others rs line field (subst (λ (x : List Fields). ReadsRows (map load_column columns) x rs) same first) second)
 load_once columns bytes (Load.Wrong line field) (Load.Rows qs) (others, also, second) (records, are, first) =
     let same : records ≡ others = records_once piped st.StartRecord (strip_bom bytes) records others are also in
-    absurd (rows_or_bad (map load_column columns) others qs line field (subst (λ (x : List Fields). HasRows (map load_column columns) x qs) same first) second)
+    absurd (rows_or_bad (map load_column columns) others qs line field (subst (λ (x : List Fields). ReadsRows (map load_column columns) x qs) same first) second)
 load_once columns bytes (Load.Wrong line field) (Load.Wrong row place) (records, are, (before, wrong, later, rows, split, first, at, line_is)) (others, also, (front, bad, behind, good, cut, second, there, row_is)) =
     let same : records ≡ others = records_once piped st.StartRecord (strip_bom bytes) records others are also in
     let both = bad_once (map load_column columns) before front wrong bad later behind rows good field place (sym split ∙ same ∙ cut) first second at there in
@@ -167,4 +167,4 @@ load_once columns bytes (Load.Wrong line field) (Load.Wrong row place) (records,
 pub rows_loaded_once : (columns : List Column) (bytes : List ℕ) (rs qs : List (List Value)) → Loads columns bytes (Load.Rows rs) → Loads columns bytes (Load.Rows qs) → rs ≡ qs
 rows_loaded_once columns bytes rs qs (records, are, first) (others, also, second) =
     let same : records ≡ others = records_once piped st.StartRecord (strip_bom bytes) records others are also in
-    rows_once (map load_column columns) others rs qs (subst (λ (x : List Fields). HasRows (map load_column columns) x rs) same first) second
+    rows_once (map load_column columns) others rs qs (subst (λ (x : List Fields). ReadsRows (map load_column columns) x rs) same first) second

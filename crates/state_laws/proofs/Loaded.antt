@@ -7,7 +7,7 @@ use Rattle.col_value.specs.declared.kinds.ColType.{ColType}
 use Rattle.col_value.specs.declared.column.Column.{Column}
 use Rattle.col_value.specs.Order.{IsValue, IsRow}
 use Rattle.load_reader.specs.Fields.{Says, SaysIn, IsRowOf}
-use Rattle.load_reader.specs.Load.{HasRows}
+use Rattle.load_reader.specs.Load.{ReadsRows}
 use Rattle.db_model.specs.Loading.{Load, Loads, load_column}
 use Rattle.db_model.specs.Sound.{TextFits, ValueFits, RowFits}
 
@@ -42,7 +42,7 @@ row_stands (c ∷ columns) (f ∷ fields) row (v, rest, says, behind, same) =
 row_fits : (columns : List Column) (fields : List (List ℕ)) (row : List Value) → IsRowOf (map load_column columns) fields row → RowFits columns row
 row_fits columns fields row is = let stands = row_stands columns fields row is in record { values = stands.1; each = stands.0 }
 
-rows_fit : (columns : List Column) (records : List (List (List ℕ))) (rows : List (List Value)) → HasRows (map load_column columns) records rows → All (RowFits columns) rows
+rows_fit : (columns : List Column) (records : List (List (List ℕ))) (rows : List (List Value)) → ReadsRows (map load_column columns) records rows → All (RowFits columns) rows
 rows_fit columns [] [] has = All-nil (RowFits columns)
 rows_fit columns [] (row ∷ rows) has = absurd has
 rows_fit columns (r ∷ records) [] has = absurd has

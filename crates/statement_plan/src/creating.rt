@@ -4,6 +4,7 @@ ghost use Rattle.std.specs.Prelude.{◌≡◌, [], IfErr, IfOk};
 ghost use Rattle.std.specs.Option.{option_copied};
 ghost use Rattle.db_model.specs.Database.{super_name};
 ghost use Rattle.db_model.specs.Refusing as rule;
+ghost use Rattle.sql_binding.specs.Projections as binding;
 ghost use Rattle.db_model.specs.Refusals.{table_created_refusal};
 ghost use Rattle.name_binder.specs.Refusing.{RefusesBy};
 ghost use Rattle.sql_tree.specs.declared.statement.Statement.{Statement};
@@ -63,7 +64,7 @@ fn taken_name(
 }
 
 fn name_limit(name: &Name) -> Option<Refusal>
-    ensures { result ≡ rule.name_limit name.now }
+    ensures { result ≡ binding.name_limit name.now }
 {
     if name.as_slice().len() > 120 {
         Some(Refusal::Limit(Which::Name, 120))

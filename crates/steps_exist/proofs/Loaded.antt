@@ -24,7 +24,7 @@ use Rattle.col_value.specs.Order.{IsValue}
 use Rattle.col_value.proofs.Characters.{says_or_not}
 use Rattle.load_reader.specs.declared.fields.LoadColumn.{LoadColumn}
 use Rattle.load_reader.specs.Fields.{IsAnyCase, IsRowOf, IsWrongAt, Says, SaysIn, SaysText, SaysTruth}
-use Rattle.load_reader.specs.Load.{HasRows, IsFirstBad}
+use Rattle.load_reader.specs.Load.{ReadsRows, IsFirstBad}
 use Rattle.load_reader.specs.Records.{piped}
 use Rattle.db_model.specs.Loading.{Load, Loads, load_column}
 use Rattle.steps_exist.proofs.Sums.{Decided, decided_as, both_decided, less_decided}
@@ -191,7 +191,7 @@ row_or_wrong (c ∷ columns) [] = inr (1, refl)
 row_or_wrong (c ∷ columns) (f ∷ fields) = one_field c columns f fields (says_decided c f) (row_or_wrong columns fields)
 
 abbrev RowsOrBad : List LoadColumn → List Fields → Type 0
-RowsOrBad columns records = ((rows : List (List Value)) × HasRows columns records rows) ⊎ ((line : ℕ) × (field : ℕ) × IsFirstBad columns records line field)
+RowsOrBad columns records = ((rows : List (List Value)) × ReadsRows columns records rows) ⊎ ((line : ℕ) × (field : ℕ) × IsFirstBad columns records line field)
 
 one_record : (columns : List LoadColumn) (fields : Fields) (records : List Fields) → RowOrWrong columns fields → RowsOrBad columns records → RowsOrBad columns (fields ∷ records)
 one_record columns fields records (inl (row, is)) (inl (rows, all)) = inl (row ∷ rows, (is, all))

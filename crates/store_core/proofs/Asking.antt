@@ -29,7 +29,7 @@ use Rattle.db_model.specs.Database.{Database, Table}
 use Rattle.db_model.specs.State.{State, Changes, own_changes, pending_deletes, pending_rows}
 use Rattle.db_model.specs.Views.{bound_in, inputs, source_tables}
 use Rattle.db_model.specs.Refusing.{epoch_refusal}
-use Rattle.db_model.specs.Printing.{IsListed}
+use Rattle.db_model.specs.Printing.{IsListing}
 use Rattle.db_model.specs.Sound.{IsSoundSession}
 use Rattle.state_laws.proofs.Events.{own_is_sound}
 use Rattle.alike_laws.proofs.Changes.{Alike, changes_turned, deletes_alike, pending_alike}
@@ -116,7 +116,7 @@ printed_permuted b l rows others listed same printed = record {
   front = printed.front;
 }
 
-pub listed_so : (state : State) (at : At) (q : Query) (b : BoundQuery) (rows : List (List (List Value))) (listed : List (List Wide)) → b ≡ bound_in state q → ArePermuted rows (inputs at state q) → IsPrinted b.order b.limit (output b rows) listed → IsListed state at q listed
+pub listed_so : (state : State) (at : At) (q : Query) (b : BoundQuery) (rows : List (List (List Value))) (listed : List (List Wide)) → b ≡ bound_in state q → ArePermuted rows (inputs at state q) → IsPrinted b.order b.limit (output b rows) listed → IsListing state at q listed
 listed_so state at q b rows listed tree same printed =
     subst (λ (l : Option ℕ). IsPrinted (bound_in state q).order l (output (bound_in state q) (inputs at state q)) listed) (limit_is state q)
     (subst (λ (t : BoundQuery). IsPrinted t.order t.limit (output t (inputs at state q)) listed) tree (printed_permuted b b.limit rows (inputs at state q) listed same printed))

@@ -13,7 +13,7 @@ ghost use Rattle.db_model.specs.Database.{Database};
 ghost use Rattle.db_model.specs.State.{State, opened_with};
 ghost use Rattle.db_model.specs.Events.{changes_committed, changes_dropped, rows_pending, table_created, table_dropped};
 ghost use Rattle.db_model.specs.Numbers.{IsDrawn};
-ghost use Rattle.db_model.specs.Printing.{IsListed};
+ghost use Rattle.db_model.specs.Printing.{IsListing};
 ghost use Rattle.db_model.specs.Views.{bound_in, inputs};
 ghost use Rattle.query_laws.specs.Bounded.{IsBoundedQuery};
 ghost use Rattle.sql_bound.specs.Outputs.{IsSumTooGreat};
@@ -307,7 +307,7 @@ impl Store {
         disk: &mut D,
     ) -> Result<Vec<WideRow>, SelectFault>
         requires bounded { IsBoundedQuery query.now }
-        ensures listed { IfOk result (λ v. (state : State) (q : Query) → IsState ⟦<D as Disk>⟧ self.now disk.old state → IsAsked state at q query.now → IsListed state at q v.items) }
+        ensures listed { IfOk result (λ v. (state : State) (q : Query) → IsState ⟦<D as Disk>⟧ self.now disk.old state → IsAsked state at q query.now → IsListing state at q v.items) }
         ensures in_range { OnOk result ((state : State) (q : Query) → IsState ⟦<D as Disk>⟧ self.now disk.old state → IsAsked state at q query.now → IsSumTooGreat (bound_in state q) (inputs at state q) → ⊥) }
         ensures great { IsErrOf result SelectFault.SumOutOfRange → (state : State) (q : Query) → IsState ⟦<D as Disk>⟧ self.now disk.old state → IsAsked state at q query.now → IsSumTooGreat (bound_in state q) (inputs at state q) }
         ensures unblamed { IfErr result (λ fault. (state : State) (q : Query) → IsState ⟦<D as Disk>⟧ self.now disk.old state → IsAsked state at q query.now → IsUnblamed fault) }

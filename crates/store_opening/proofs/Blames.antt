@@ -40,7 +40,7 @@ blamed_wider P Q Disk h blamed = tt
 blamed_wider P Q Memory h blamed = tt
 
 -- a file of a container that is cut
-pub cut_blamed : (c : Catalogue) (holds : Option Contents) (fault : StoreFault) → is_past c (least_lge c) ≡ true → cut.BlamesTables c.tables holds fault → BlamesListed c holds fault
+pub cut_blamed : (c : Catalogue) (holds : Option Contents) (fault : StoreFault) → is_past c (least_lge c) ≡ true → cut.BlamesInTables c.tables holds fault → BlamesListed c holds fault
 cut_blamed c holds (Damaged q) past blamed = inr (inr (past, blamed))
 cut_blamed c holds Disk past blamed = tt
 cut_blamed c holds Memory past blamed = tt

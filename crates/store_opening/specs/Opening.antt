@@ -46,7 +46,7 @@ BlamesAbsent c holds q = OfSome (λ k. IsListedOf k q) c × ((m : Contents) → 
 
 -- a file of a container that isn't what it has to be, where the catalogue is cut
 abbrev pub BlamesCut : Catalogue → Option Contents → ℕ → Type 0
-BlamesCut c holds q = (is_past c (least_lge c) ≡ true) × cut.BlamesTables c.tables holds (Damaged q)
+BlamesCut c holds q = (is_past c (least_lge c) ≡ true) × cut.BlamesInTables c.tables holds (Damaged q)
 
 -- a Damaged names one of these, or a delete vector that is none; no other fault says anything
 abbrev pub BlamesListed : Catalogue → Option Contents → StoreFault → Type 0

@@ -159,7 +159,7 @@ fn cut_root<D: Disk>(alloc: Global, c: &Catalogue, disk: &mut D) -> Result<Catal
     ensures next { IfOk result (λ r. c.now.next < r.next) }
     ensures few { IfOk result (λ r. r.next ≤ c.now.next + store_count c.now + 1) }
     ensures loadable { IfOk result (λ r. All HasLoadable r.tables) }
-    ensures blamed { IfErr result (damage.BlamesTables c.now.tables (D.holds disk.old)) }
+    ensures blamed { IfErr result (damage.BlamesInTables c.now.tables (D.holds disk.old)) }
     ensures moved { Moved ⟦<D as Disk>⟧ (DataFrom c.now.next) NoName disk.old disk.new }
     ensures cause { HasCause StoreFault.Disk (D.faults disk.old) (D.faults disk.new) result }
 {

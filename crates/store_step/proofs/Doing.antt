@@ -32,7 +32,7 @@ use Rattle.db_model.specs.Epochs.{last_good, cut}
 use Rattle.db_model.specs.Events.{table_created, table_dropped, projection_created, projection_dropped, column_added, changes_committed}
 use Rattle.db_model.specs.Loading.{Files}
 use Rattle.db_model.specs.Numbers.{IsDrawn}
-use Rattle.db_model.specs.Printing.{commit_text, IsListed}
+use Rattle.db_model.specs.Printing.{commit_text, IsListing}
 use Rattle.db_model.specs.Refusals.{query_refusal_in, table_created_refusal, table_dropped_refusal, projection_created_refusal, projection_dropped_refusal, column_added_refusal, SumRefuses, SelectRefuses}
 use Rattle.db_model.specs.Refusing.{commit_refusal, epoch_refusal}
 use Rattle.db_model.specs.Views.{bound_in, inputs}
@@ -169,7 +169,7 @@ made_answers disk files s is (Ok a) state Is made answer there moments = record 
 made_answers disk files s is (Err f) state Is made answer there moments = failed_answers disk files s is f state (subst IsUnblamedStore (sym made) tt) there moments
 
 pub select_answers : {D V : Type 0} (disk : Ghosts D) (is : Running) {old new : D} (of : V → List (List Wide)) (r : Result V SelectFault) (result : Result Answer StoreFault) (state : State) (files : Files) (at : At) (q : Query) → select_refusal state at q ≡ None → IsSoundDatabase state.database
-    → IsState disk is new state → Leaves disk (λ x. Reopens x (cut (last_good state.database) state.database)) old new → IfOk r (λ v. IsListed state at q (of v)) → OnOk r (IsSumTooGreat (bound_in state q) (inputs at state q) → ⊥)
+    → IsState disk is new state → Leaves disk (λ x. Reopens x (cut (last_good state.database) state.database)) old new → IfOk r (λ v. IsListing state at q (of v)) → OnOk r (IsSumTooGreat (bound_in state q) (inputs at state q) → ⊥)
     → (IsErrOf r select.SumOutOfRange → IsSumTooGreat (bound_in state q) (inputs at state q)) → IfErr r IsUnblamed → IfOk r (λ v. IsMade (Says (listing_text (of v))) result) → IfErr r (λ f. IsMissed f result)
     → Answers disk files (Statement.Select at q) is old new result state
 select_answers {D} {V} disk is {old} {new} of r result state files at q accepted sound there leaves = by r
@@ -180,7 +180,7 @@ select_answers {D} {V} disk is {old} {new} of r result state files at q accepted
     moments : Leaves disk (CutBeforeOrAfter state (MayLeave files s state)) old new
     moments = leaves_wider disk (λ x reopens. inl (from_good state x sound reopens)) leaves
 
-    by : (o : Result V SelectFault) → IfOk o (λ v. IsListed state at q (of v)) → OnOk o (IsSumTooGreat (bound_in state q) (inputs at state q) → ⊥) → (IsErrOf o select.SumOutOfRange → IsSumTooGreat (bound_in state q) (inputs at state q)) → IfErr o IsUnblamed
+    by : (o : Result V SelectFault) → IfOk o (λ v. IsListing state at q (of v)) → OnOk o (IsSumTooGreat (bound_in state q) (inputs at state q) → ⊥) → (IsErrOf o select.SumOutOfRange → IsSumTooGreat (bound_in state q) (inputs at state q)) → IfErr o IsUnblamed
         → IfOk o (λ v. IsMade (Says (listing_text (of v))) result) → IfErr o (λ f. IsMissed f result) → Answers disk files s is old new result state
     by (Ok v) listed small great unblamed made missed =
         made_answers disk files s is result state (Says (listing_text (of v))) made (λ a says. says_answer state files s (listing_text (of v)) a state says

@@ -3,7 +3,7 @@ use Rattle.std.specs.Prelude.{sum_by}
 use Rattle.std.specs.List.{All}
 use Rattle.catalog_types.specs.declared.catalogue.Table.{Table}
 use Rattle.cut_job.specs.Listed.{IsTableBelow, HasLoadable, table_count}
-use Rattle.cut_job.specs.Blamed.{BlamesTables}
+use Rattle.cut_job.specs.Blamed.{BlamesInTables}
 use Rattle.cut_job.proofs.Entries.{catalogue_cut, valid_below, valid_loadable}
 use Rattle.cut_job.proofs.catalogues.cut_catalogue.Goals as goal
 
@@ -20,7 +20,7 @@ pub returns-in-Ok-clause-few : goal.returns-in-Ok-clause-few
 returns-in-Ok-clause-few g c = subst (λ (ts : List Table). c.in-Ok.done.next ≤ c.args.c.now.next + sum_by table_count ts) c.as_slice.ensures c.in-Ok.ensures.few
 
 pub returns-in-Err-clause-blamed : goal.returns-in-Err-clause-blamed
-returns-in-Err-clause-blamed g c = subst (λ (ts : List Table). BlamesTables ts (g.D.Disk.holds c.args.disk.now) c.in-Err.fault) c.as_slice.ensures c.in-Err.ensures.blamed
+returns-in-Err-clause-blamed g c = subst (λ (ts : List Table). BlamesInTables ts (g.D.Disk.holds c.args.disk.now) c.in-Err.fault) c.as_slice.ensures c.in-Err.ensures.blamed
 
 pub returns-in-Ok-clause-loadable : goal.returns-in-Ok-clause-loadable
 returns-in-Ok-clause-loadable g c = subst (All HasLoadable) (sym c.new.ensures) c.in-Ok.ensures.loadable
