@@ -158,7 +158,7 @@ impl<'a> Worth<'a> {
             (Worth::Bool(a), Worth::Bool(b)) => Some(a.cmp(b)),
             (Worth::Int(a), Worth::Int(b)) => Some(a.cmp(b)),
             (Worth::Date(a), Worth::Date(b)) => Some(a.cmp(b)),
-            (Worth::Text(a), Worth::Text(b)) => Some(a.as_bytes().cmp(&b.as_bytes())),
+            (Worth::Text(a), Worth::Text(b)) => Some(a.order(b)),
             _ => None,
         }
     }
