@@ -1,7 +1,6 @@
 //! Places nearly in the order of a container.
 //!
-//! That order looks at values where they are held. A first sort by numbers beside each place waits for no memory, and leaves little to do
-//! for the one that the order is promised of.
+//! A first sort goes by the ranks of values (`container_writer`), the one that the order is promised of by the values.
 
 ghost use Rattle.std.specs.Prelude.{◌≡◌, ◌∷◌, ◌++◌, [], map, IfOk, OnOk};
 ghost use Rattle.std.specs.List.Sorted.{IsPermutation};
@@ -10,7 +9,7 @@ ghost use Rattle.container_draft.specs.Led.{place_of};
 
 use crate::rows::{Rows, Spot};
 use catalog_types::Projection;
-use col_value::Value;
+use container_writer::{Rank, number_rank, order_columns, rank_alone, rank_of};
 use std::alloc::{AllocError, Global};
 use std::cmp::Ordering;
 
@@ -22,68 +21,10 @@ pub struct Led {
     pub place: usize,
 }
 
-/// The columns by which rows are ordered, the first of them first.
-fn order_columns(alloc: Global, shape: &Projection) -> Result<Vec<usize>, AllocError> {
-    let mut columns = Vec::new(alloc);
-    columns.extend_from_slice(shape.sort.as_slice())?;
-    for column in 0..shape.columns.as_slice().len() {
-        if !columns.as_slice().contains(&column) {
-            columns.push(column)?;
-        }
-    }
-    Ok(columns)
-}
-
-/// The first eight bytes of a text as a number; behind its end there are zeros.
-fn head(text: &[u8]) -> u64 {
-    let mut head: u64 = 0;
-    for i in 0..8 {
-        let byte = match text.get(i) {
-            Some(byte) => u64::from(*byte),
-            None => 0,
-        };
-        head = head.wrapping_mul(256).wrapping_add(byte);
-    }
-    head
-}
-
-/// The rank of a value among those of its column. Only where it is this value's alone do the columns behind tell more.
-#[derive(Clone, Copy, Debug)]
-pub struct Rank {
-    pub at: u64,
-    pub alone: bool,
-}
-
-fn rank_alone(at: u64) -> Rank {
-    Rank { at, alone: true }
-}
-
-/// A number as one without a sign, in the same order.
-fn unsigned(n: i64) -> u64 {
-    u64::from_be_bytes(n.to_be_bytes()).wrapping_add(1 << 63)
-}
-
-fn text_rank(text: &[u8]) -> Rank {
-    Rank {
-        at: head(text),
-        alone: !text.is_empty() && text.len() <= 8,
-    }
-}
-
-fn rank_of(value: &Value) -> Rank {
-    match value {
-        Value::Null => rank_alone(0),
-        Value::Bool(value) => rank_alone(1 + u64::from(*value)),
-        Value::Int(n) => rank_alone(unsigned(*n)),
-        Value::Date(d) => rank_alone(u64::from(*d).wrapping_add(1 << 63)),
-        Value::Text(text) => text_rank(text.as_bytes()),
-    }
-}
-
 /// The rank of a row's value in a column.
 fn rank_in(spot: &Spot, column: usize) -> Rank {
     match spot.number(column) {
-        Some(n) => rank_alone(unsigned(n)),
+        Some(n) => number_rank(n),
         None => match spot.lent(column) {
             Some(value) => rank_of(value),
             None => rank_of(spot.cell(column).value()),

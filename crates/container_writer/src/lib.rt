@@ -10,11 +10,13 @@ mod columns;
 mod marking;
 mod order;
 mod ordering;
+mod ranks;
 mod refs;
 mod values;
 mod vectors;
 mod writing;
 
+pub use ranks::{Rank, number_rank, order_columns, rank_alone, rank_of};
 pub use refs::StampedRef;
 pub use vectors::write_vector;
 pub use writing::{Written, write_stamped};

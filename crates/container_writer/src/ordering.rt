@@ -1,7 +1,6 @@
 //! Rows in the order of a container.
 //!
-//! That order looks at values which stand in vectors of their own. A first sort by numbers beside each row waits for no memory, and
-//! leaves little to do for the one that the order is promised of.
+//! A first sort goes by the ranks of values (`ranks`), the one that the order is promised of by the values.
 
 ghost use Rattle.std.specs.Prelude.{◌≡◌, length, map, IfOk};
 ghost use Rattle.std.specs.List.Sorted.{IsPermutation, IsSorted};
@@ -10,53 +9,18 @@ ghost use Rattle.ros_container.specs.Rows.{AreWide};
 ghost use Rattle.container_writer.specs.Ordered.{asked_of, container_cmp, restamp, stamped_of};
 
 use crate::order::container_order;
+use crate::ranks::{order_columns, rank_of};
 use crate::refs::{Keyed, Ranks, StampedRef};
 use catalog_types::Projection;
-use col_value::{Row, Value};
+use col_value::Row;
 use std::alloc::{AllocError, Global};
 use std::cmp::Ordering;
-
-/// The columns by which rows are ordered, the first of them first.
-fn order_columns(alloc: Global, shape: &Projection) -> Result<Vec<usize>, AllocError> {
-    let mut columns = Vec::new(alloc);
-    columns.extend_from_slice(shape.sort.as_slice())?;
-    for column in 0..shape.columns.as_slice().len() {
-        if !columns.as_slice().contains(&column) {
-            columns.push(column)?;
-        }
-    }
-    Ok(columns)
-}
-
-/// The first eight bytes of a text as a number; behind its end there are zeros.
-fn head(text: &[u8]) -> u64 {
-    let mut head: u64 = 0;
-    for i in 0..8 {
-        let byte = match text.get(i) {
-            Some(byte) => u64::from(*byte),
-            None => 0,
-        };
-        head = head.wrapping_mul(256).wrapping_add(byte);
-    }
-    head
-}
-
-/// The rank of a value among those of its column.
-fn rank(value: &Value) -> u64 {
-    match value {
-        Value::Null => 0,
-        Value::Bool(value) => 1 + u64::from(*value),
-        Value::Int(n) => u64::from_be_bytes(n.to_be_bytes()).wrapping_add(1 << 63),
-        Value::Date(d) => u64::from(*d),
-        Value::Text(text) => head(text.as_bytes()),
-    }
-}
 
 /// The rank of a row by the column at a place, if there is one.
 fn rank_at(row: &Row, columns: &[usize], place: usize) -> u64 {
     match columns.get(place) {
         Some(column) => match row.as_slice().get(*column) {
-            Some(value) => rank(value),
+            Some(value) => rank_of(value).at,
             None => 0,
         },
         None => 0,

@@ -1,14 +1,15 @@
 //! The bar of a query with a LIMIT: an output row that stands behind it isn't printed.
 
-ghost use Rattle.std.specs.Prelude.{◌≡◌, ◌-◌, true, false, List, Some, length, IfOk, IsSomeAnd, slice_index_or};
-ghost use Rattle.std.specs.List.{slice_get};
+ghost use Rattle.std.specs.Prelude.{◌≡◌, ◌-◌, true, false, List, Some, length, map, IfOk, IsSomeAnd, slice_index_or};
+ghost use Rattle.std.specs.List.{All, slice_get};
 ghost use Rattle.std.specs.Option.{IfSome};
 ghost use Rattle.std.specs.Ordering.{is_lt};
-ghost use Rattle.col_value.specs.Order.{IsRow, wide_cmp, wide_kind};
+ghost use Rattle.col_value.specs.Order.{IsRow, IsValue, wide_cmp, wide_kind};
 ghost use Rattle.col_value.specs.declared.wide.Wide.{Wide as Result};
 ghost use Rattle.col_value.specs.declared.wide.Wide.TheVariants.{Null};
 ghost use Rattle.expr_value.specs.Worths.{wide_of};
 ghost use Rattle.query_laws.specs.Bounded.{IsBoundedQuery};
+ghost use Rattle.sql_bound.specs.Bounds.{bound_of_value, is_narrow};
 ghost use Rattle.sql_bound.specs.Printed.{key_cmp, printed_cmp, IsPrinted};
 ghost use Rattle.sql_bound.specs.Values.{of_row};
 ghost use Rattle.query_run.specs.Outputs.{items_in, IsBar, IsPlain};
@@ -40,7 +41,7 @@ pub fn order_of(a: &Worth<'_>, b: &Worth<'_>) -> Ordering
         (Worth::Bool(a), Worth::Bool(b)) => a.cmp(b),
         (Worth::Int(a), Worth::Int(b)) => a.cmp(b),
         (Worth::Date(a), Worth::Date(b)) => a.cmp(b),
-        (Worth::Text(a), Worth::Text(b)) => a.as_bytes().cmp(&b.as_bytes()),
+        (Worth::Text(a), Worth::Text(b)) => a.order(b),
         _ => kind_of(a).cmp(&kind_of(b)),
     }
 }
@@ -55,45 +56,45 @@ pub fn value_in(row: &WideRow, column: usize) -> Worth<'_>
     }
 }
 
-/// The same of the output row that a tuple makes.
-fn value_made<'a>(query: &'a BoundQuery, tuple: &'a [Value], column: usize) -> Worth<'a>
-    requires bounded { IsBoundedQuery query.now }
-    requires plain { IsPlain query.now }
-    requires tuple { IsRow tuple.now }
-    ensures { wide_of result ≡ slice_index_or (items_in query.now (of_row tuple.now)) column Null }
+/// The same of the output row that the items make of what they see.
+fn value_made<'a>(query: &'a BoundQuery, sight: &Sight<'a>, column: usize) -> Worth<'a>
+    requires narrow { All (λ e. is_narrow (map bound_of_value sight.now.aggs) e ≡ true) query.now.items }
+    requires rows { All IsValue sight.now.row }
+    requires keys { All IsValue sight.now.keys }
+    ensures { wide_of result ≡ slice_index_or (items_in query.now sight.now) column Null }
 {
     match query.items.as_slice().get(column) {
-        Some(item) => value_of(item, &Sight::of_row(tuple)),
+        Some(item) => value_of(item, sight),
         None => Worth::Null,
     }
 }
 
-/// How an output row and that of a tuple stand by one key of ORDER BY.
+/// How an output row and one that isn't made stand by one key of ORDER BY.
 fn order_by(
     query: &BoundQuery,
     row: &WideRow,
-    tuple: &[Value],
+    sight: &Sight<'_>,
     column: usize,
     descending: bool,
 ) -> Ordering
-    requires bounded { IsBoundedQuery query.now }
-    requires plain { IsPlain query.now }
-    requires tuple { IsRow tuple.now }
-    ensures { result ≡ key_cmp (column, descending) row.now (items_in query.now (of_row tuple.now)) }
+    requires narrow { All (λ e. is_narrow (map bound_of_value sight.now.aggs) e ≡ true) query.now.items }
+    requires rows { All IsValue sight.now.row }
+    requires keys { All IsValue sight.now.keys }
+    ensures { result ≡ key_cmp (column, descending) row.now (items_in query.now sight.now) }
 {
-    let order = order_of(&value_in(row, column), &value_made(query, tuple, column));
+    let order = order_of(&value_in(row, column), &value_made(query, sight, column));
     if descending { order.reverse() } else { order }
 }
 
-/// Whether an output row stands before that of a tuple by the keys of ORDER BY. The tuple's isn't made.
-fn is_before(query: &BoundQuery, row: &WideRow, tuple: &[Value]) -> bool
-    requires bounded { IsBoundedQuery query.now }
-    requires plain { IsPlain query.now }
-    requires tuple { IsRow tuple.now }
-    ensures { result ≡ true → is_lt (printed_cmp query.now.order row.now (items_in query.now (of_row tuple.now))) ≡ true }
+/// Whether an output row stands before one that isn't made, by the keys of ORDER BY.
+fn is_before(query: &BoundQuery, row: &WideRow, sight: &Sight<'_>) -> bool
+    requires narrow { All (λ e. is_narrow (map bound_of_value sight.now.aggs) e ≡ true) query.now.items }
+    requires rows { All IsValue sight.now.row }
+    requires keys { All IsValue sight.now.keys }
+    ensures { result ≡ true → is_lt (printed_cmp query.now.order row.now (items_in query.now sight.now)) ≡ true }
 {
     for (column, descending) in query.order.as_slice() {
-        match order_by(query, row, tuple, *column, *descending) {
+        match order_by(query, row, sight, *column, *descending) {
             Ordering::Less => return true,
             Ordering::Equal => {},
             Ordering::Greater => return false,
@@ -102,17 +103,27 @@ fn is_before(query: &BoundQuery, row: &WideRow, tuple: &[Value]) -> bool
     false
 }
 
-/// Whether the bar stands before the output row of a tuple by the keys of ORDER BY.
+/// Whether the bar stands before the output row that the items make of what they see, by the keys of ORDER BY. The row isn't made.
+pub fn is_sight_barred(query: &BoundQuery, bar: &Option<WideRow>, sight: &Sight<'_>) -> bool
+    requires narrow { All (λ e. is_narrow (map bound_of_value sight.now.aggs) e ≡ true) query.now.items }
+    requires rows { All IsValue sight.now.row }
+    requires keys { All IsValue sight.now.keys }
+    ensures { result ≡ true → IsSomeAnd bar.now (λ row. is_lt (printed_cmp query.now.order row (items_in query.now sight.now)) ≡ true) }
+{
+    match bar {
+        Some(row) => is_before(query, row, sight),
+        None => false,
+    }
+}
+
+/// The same of the output row of a tuple.
 pub fn is_barred(query: &BoundQuery, bar: &Option<WideRow>, tuple: &[Value]) -> bool
     requires bounded { IsBoundedQuery query.now }
     requires plain { IsPlain query.now }
     requires tuple { IsRow tuple.now }
     ensures { result ≡ true → IsSomeAnd bar.now (λ row. is_lt (printed_cmp query.now.order row (items_in query.now (of_row tuple.now))) ≡ true) }
 {
-    match bar {
-        Some(row) => is_before(query, row, tuple),
-        None => false,
-    }
+    is_sight_barred(query, bar, &Sight::of_row(tuple))
 }
 
 /// How two output rows stand by one key of ORDER BY.

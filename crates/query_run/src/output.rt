@@ -1,18 +1,21 @@
 //! The output rows of a query.
 
-ghost use Rattle.std.specs.Prelude.{◌≡◌, ◌++◌, ◌∷◌, true, List, [], map, IfOk, OnOk, IsErrOf};
+ghost use Rattle.std.specs.Prelude.{◌≡◌, ◌++◌, ◌∷◌, true, List, [], map, IfOk, OnOk, IsErrOf, IsSomeAnd};
 ghost use Rattle.std.specs.List.{All};
 ghost use Rattle.std.specs.Option.{IfSome, option_map_or};
 ghost use Rattle.col_value.specs.declared.value.Value.{Value};
 ghost use Rattle.col_value.specs.declared.wide.Wide.{Wide as Result};
 ghost use Rattle.sql_bound.specs.Bounds.{bound_of_aggregate, is_narrow};
 ghost use Rattle.sql_bound.specs.Outputs.{output, IsSumTooGreat};
+ghost use Rattle.sql_bound.specs.Printed.{printed_cmp};
+ghost use Rattle.std.specs.Ordering.{is_lt};
 ghost use Rattle.query_laws.specs.Bounded.{IsBoundedQuery};
 ghost use Rattle.query_laws.specs.Scopes.{is_shown, IsGroupOf};
 ghost use Rattle.query_run.specs.declared.fault.QueryFault.{QueryFault};
 ghost use Rattle.query_order.specs.Enough.{AreFew, IsEnough};
 ghost use Rattle.query_run.specs.Outputs.{HasCollected, IsBar, items_in, scope_of, scopes_of, shown};
 
+use crate::bar::is_sight_barred;
 use crate::collected::{Collected, add_made};
 use crate::fault::QueryFault;
 use crate::seen::has_windows;
@@ -104,6 +107,9 @@ fn add_shown(
     if !is_shown(query, keys, aggs) {
         return Ok(());
     }
+    if is_group_barred(query, bar, keys, aggs) {
+        return Ok(());
+    }
     let row = items_in(alloc, query, keys, aggs)?;
     add_made(alloc, out, bar, query, row)
 }
@@ -118,6 +124,15 @@ fn is_shown(query: &BoundQuery, keys: &[Value], aggs: &[Wide]) -> bool
         Some(having) => is_true(having, &Sight::of_group(keys, aggs)),
         None => true,
     }
+}
+
+/// Whether the bar stands before the output row of the group with these keys and aggregates, which isn't made.
+fn is_group_barred(query: &BoundQuery, bar: &Option<WideRow>, keys: &[Value], aggs: &[Wide]) -> bool
+    requires narrow { All (λ e. is_narrow (map bound_of_aggregate query.now.aggs) e ≡ true) query.now.items }
+    requires group { IsGroupOf query.now (scope_of keys.now aggs.now) }
+    ensures { result ≡ true → IsSomeAnd bar.now (λ row. is_lt (printed_cmp query.now.order row (items_in query.now (scope_of keys.now aggs.now))) ≡ true) }
+{
+    is_sight_barred(query, bar, &Sight::of_group(keys, aggs))
 }
 
 /// The items' values in the group with these keys and aggregates.

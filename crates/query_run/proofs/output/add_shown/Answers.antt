@@ -1,8 +1,9 @@
-use Rattle.std.proofs.Common.{◌≡◌, ◌∙◌, false, sym, true}
+use Rattle.std.proofs.Common.{◌≡◌, ◌∙◌, false, refl, sym, true}
 use Rattle.std.proofs.lemmas.Result.{IfOk-weaker}
 use Rattle.query_laws.specs.Scopes.{is_shown}
+use Rattle.query_run.proofs.Bars.{row_behind}
 use Rattle.query_run.proofs.Scopes.{shown_none, shown_one}
-use Rattle.query_run.specs.Outputs.{scope_of}
+use Rattle.query_run.specs.Outputs.{items_in, scope_of}
 use Rattle.query_run.proofs.output.add_shown.Goals as goal
 
 pub returns-then-not-is_shown-clause-enough : goal.returns-then-not-is_shown-clause-enough
@@ -11,6 +12,14 @@ returns-then-not-is_shown-clause-enough c =
     let s = scope_of c.args.keys.now c.args.aggs.now in
     let hidden : is_shown q s ≡ false = sym c.is_shown.ensures ∙ c.if-not-is_shown.true in
     shown_none q s c.args.out.now.items hidden
+
+pub returns-then-is_group_barred-clause-enough : goal.returns-then-is_group_barred-clause-enough
+returns-then-is_group_barred-clause-enough c =
+    let q = c.args.query.now in
+    let s = scope_of c.args.keys.now c.args.aggs.now in
+    let shows : is_shown q s ≡ true = sym c.is_shown.ensures ∙ c.if-not-is_shown.false in
+    let behind = row_behind q (items_in q s) c.args.out.now.items c.args.bar.now c.requires.few c.requires.bar (c.is_group_barred.ensures c.if-is_group_barred.true) in
+    shown_one q s (items_in q s) c.args.out.now.items c.args.out.now.items c.args.bar.now c.args.bar.now shows refl behind
 
 pub returns-clause-enough : goal.returns-clause-enough
 returns-clause-enough c =
