@@ -12,7 +12,8 @@ use Rattle.std.proofs.lemmas.Slice.Eq.{bytes_eq-Decides}
 use Rattle.sql_words.specs.declared.token.Key.{Key}
 use Rattle.sql_words.specs.Bytes.{letter_of}
 use Rattle.sql_words.specs.declared.reserved.TheConstants.{STARTS}
-use Rattle.sql_words.specs.Words.{key_in, key_of, reserved_words}
+use Rattle.sql_words.specs.Reserved.{reserved_words}
+use Rattle.sql_words.specs.Words.{key_in, key_of}
 
 abbrev start : ℕ → ℕ
 start n = get_or STARTS n 0

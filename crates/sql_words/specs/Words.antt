@@ -1,5 +1,5 @@
 -- The tokens of a text.
-use Rattle.std.specs.Prelude.{ℕ, zero, suc, pred, ◌+◌, ◌^◌, ◌<◌, ◌≤◌, ◌==◌, ◌&&◌, if◌then◌else◌, nat_lt, List, [], ◌∷◌, ◌++◌, map, length, take, drop, slice_index, Option, Some, None, option_map, option_to_list, find, codes}
+use Rattle.std.specs.Prelude.{ℕ, zero, suc, pred, ◌+◌, ◌^◌, ◌<◌, ◌≤◌, ◌==◌, ◌&&◌, if◌then◌else◌, nat_lt, List, [], ◌∷◌, ◌++◌, length, take, drop, slice_index, Option, Some, None, option_map, option_to_list, find, codes}
 use Rattle.std.specs.List.{prefix_len}
 use Rattle.std.specs.Char.{is_ascii_digit}
 use Rattle.std.specs.Str.{is_utf8, str_eq_ignore_ascii_case}
@@ -9,18 +9,14 @@ use Rattle.sql_words.specs.declared.token.Back.{Back}
 use Rattle.sql_words.specs.declared.token.Token.{Token}
 use Rattle.sql_words.specs.declared.token.TokenKind.{TokenKind}
 use Rattle.sql_words.specs.declared.piece.Piece.{Piece}
-use Rattle.sql_words.specs.declared.reserved.TheConstants.{RESERVED}
+use Rattle.sql_words.specs.Reserved.{reserved_words}
 use Rattle.sql_words.specs.Bytes.{is_space, begins_word, is_of_word, begins_comment, line_size, inner_size, value_of, stands_at}
 
 -- the keyword of a table's first entry that the word is, without regard to ASCII case
 unfoldable pub key_in : List (List ℕ × Key) → List ℕ → Option Key
 key_in table word = option_map (λ e. e.1) (find (λ e. str_eq_ignore_ascii_case e.0 word) table)
 
--- the reserved words in the order of the alphabet, each with its keyword
-abbrev pub reserved_words : List (List ℕ × Key)
-reserved_words = map (λ e. (e.0.now, e.1)) RESERVED
-
--- the keyword that a word is; None where it is a name
+-- the keyword of the reserved word that a word is; None where it is a name
 unfoldable pub key_of : List ℕ → Option Key
 key_of word = key_in reserved_words word
 

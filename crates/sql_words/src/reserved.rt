@@ -5,7 +5,8 @@ ghost use Rattle.std.specs.Prelude.{◌≡◌, ◌≤◌, ◌+◌, get_or, lengt
 ghost use Rattle.sql_words.specs.Bytes.{letter_of};
 ghost use Rattle.sql_words.specs.declared.reserved.TheConstants.{STARTS};
 ghost use Rattle.std.specs.Str.{str_eq_ignore_ascii_case};
-ghost use Rattle.sql_words.specs.Words.{key_in, key_of, reserved_words};
+ghost use Rattle.sql_words.specs.Reserved.{reserved_words};
+ghost use Rattle.sql_words.specs.Words.{key_in, key_of};
 
 use crate::token::Key;
 
