@@ -106,19 +106,32 @@ fn all_led(
     Ok(out)
 }
 
+/// By ranks, and rows of the same ranks by their places.
 fn by_ranks(a: &Led, b: &Led) -> Ordering {
     match a.high.cmp(&b.high) {
-        Ordering::Equal => a.low.cmp(&b.low),
+        Ordering::Equal => match a.low.cmp(&b.low) {
+            Ordering::Equal => a.place.cmp(&b.place),
+            order => order,
+        },
         order => order,
     }
 }
 
-fn near(leds: Vec<Led>) -> Result<Vec<Led>, AllocError>
-    ensures { IfOk result (λ v. IsPermutation leds.items v.items) }
+/// Sorted where they stand, so that it takes no memory.
+fn near(leds: Vec<Led>) -> Vec<Led>
+    ensures { IsPermutation leds.items result.items }
 {
     let mut leds = leds;
-    leds.sort_by(|a, b| by_ranks(a, b))?;
-    Ok(leds)
+    leds.sort_unstable_by(|a, b| by_ranks(a, b));
+    leds
+}
+
+fn by_place(leds: Vec<Led>) -> Vec<Led>
+    ensures { IsPermutation leds.items result.items }
+{
+    let mut leds = leds;
+    leds.sort_unstable_by(|a, b| a.place.cmp(&b.place));
+    leds
 }
 
 fn places_of(alloc: Global, leds: &[Led]) -> Result<Vec<usize>, AllocError>
@@ -146,8 +159,31 @@ fn ties(leds: &[Led]) -> usize {
     count
 }
 
-/// The same places, nearly in the order of their rows in a container. Where numbers tell few rows apart they stay as they came, in runs that are
-/// in order.
+/// The same in the order of their ranks; where these tell few rows apart, in that of their places: so the rows stand in runs that are in
+/// order.
+fn arranged(leds: Vec<Led>) -> Vec<Led>
+    ensures { SameBag (map place_of leds.items) (map place_of result.items) }
+{
+    let rising = near(leds);
+    if ties(rising.as_slice()) > rising.len() / 4 * 3 {
+        return by_place(rising);
+    }
+    rising
+}
+
+fn found(
+    alloc: Global,
+    shape: &Projection,
+    rows: &Rows,
+    places: Vec<usize>,
+) -> Result<Vec<Led>, AllocError>
+    ensures { IfOk result (λ v. map place_of v.items ≡ places.items) }
+{
+    let order = order_columns(alloc, shape)?;
+    all_led(alloc, rows, places.as_slice(), order.as_slice())
+}
+
+/// The same places, nearly in the order of their rows in a container.
 pub fn near_places(
     shape: &Projection,
     rows: &Rows,
@@ -156,11 +192,6 @@ pub fn near_places(
     ensures { IfOk result (λ v. SameBag places.items v.items) }
 {
     let alloc = *places.allocator();
-    let order = order_columns(alloc, shape)?;
-    let found = all_led(alloc, rows, places.as_slice(), order.as_slice())?;
-    let rising = near(found)?;
-    if ties(rising.as_slice()) > rising.len() / 4 * 3 {
-        return Ok(places);
-    }
-    places_of(alloc, rising.as_slice())
+    let leds = arranged(found(alloc, shape, rows, places)?);
+    places_of(alloc, leds.as_slice())
 }
