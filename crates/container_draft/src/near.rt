@@ -171,7 +171,8 @@ fn arranged(leds: Vec<Led>) -> Vec<Led>
     rising
 }
 
-fn found(
+/// Places with the ranks of their rows.
+fn ranked(
     alloc: Global,
     shape: &Projection,
     rows: &Rows,
@@ -192,6 +193,7 @@ pub fn near_places(
     ensures { IfOk result (λ v. SameBag places.items v.items) }
 {
     let alloc = *places.allocator();
-    let leds = arranged(found(alloc, shape, rows, places)?);
+    let ranked = ranked(alloc, shape, rows, places)?;
+    let leds = arranged(ranked);
     places_of(alloc, leds.as_slice())
 }
