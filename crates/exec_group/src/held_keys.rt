@@ -1,15 +1,17 @@
 //! The keys of groups, in the order in which they were met.
 
-ghost use Rattle.std.specs.Prelude.{◌≡◌, ℕ, slice_index_or, ◌++◌, ◌∷◌, [], Some, None, get_or, length, map, position, IfOk, IfNone, OnOk};
+ghost use Rattle.std.specs.Prelude.{◌≡◌, ℕ, slice_index_or, ◌++◌, ◌∷◌, [], Some, None, get_or, replicate, length, map, position, IfOk, IfNone, OnOk};
 ghost use Rattle.std.specs.Option.{IfSome};
 ghost use Rattle.block_codec.specs.Held.{number_value};
 ghost use Rattle.col_value.specs.declared.value.Value.TheVariants.{Null};
 ghost use Rattle.sql_bound.specs.Outputs.{keys_of, same_keys};
+ghost use Rattle.exec_group.specs.Codes.{Tells};
 ghost use Rattle.exec_group.specs.Columns.{row_of};
 ghost use Rattle.exec_group.specs.Groups.{met_one, AreEntered};
 ghost use Rattle.exec_group.specs.NumberKeys.{null_number, number_key, IsNoKey, IsNoNumber};
 
 use crate::cells::key_at;
+use crate::codes::{Codes, codes_of_one, codes_of_two};
 use crate::lanes::column_numbers;
 use crate::runs::has_key_twice;
 use block_codec::{Block, number_value};
@@ -189,6 +191,107 @@ impl Keys {
         Ok(out)
     }
 
+    /// The same, where all rows have one key.
+    fn enter_one(
+        &mut self,
+        alloc: Global,
+        keys: &[usize],
+        columns: &[Option<Block>],
+        places: &[usize],
+    ) -> Result<Vec<usize>, AllocError>
+        requires { keys.now ≡ [] }
+        ensures { IfOk result (λ v. AreEntered (λ p. keys_of keys.now (row_of columns.now p)) places.now self.old self.new v.items) }
+    {
+        match places {
+            [] => Ok(Vec::new(alloc)),
+            [first, ..] => {
+                let group = self.enter_at(alloc, keys, columns, *first)?;
+                repeated(alloc, group, places.len())
+            }
+        }
+    }
+
+    /// The place of the key of the row at a place of columns, where that of its code may be noted, and is then.
+    fn enter_noted(
+        &mut self,
+        alloc: Global,
+        keys: &[usize],
+        columns: &[Option<Block>],
+        place: usize,
+        noted: &mut Option<usize>,
+    ) -> Result<usize, AllocError>
+        requires noted { IfSome noted.old (λ g. position (λ k. same_keys k (keys_of keys.now (row_of columns.now place))) self.old ≡ Some g) }
+        ensures met { OnOk result (self.new ≡ met_one self.old (keys_of keys.now (row_of columns.now place))) }
+        ensures there { IfOk result (λ g. position (λ k. same_keys k (keys_of keys.now (row_of columns.now place))) self.new ≡ Some g) }
+        ensures noted { IfOk result (λ g. noted.new ≡ Some g) }
+    {
+        if let Some(group) = *noted {
+            return Ok(group);
+        }
+        let group = self.enter_at(alloc, keys, columns, place)?;
+        *noted = Some(group);
+        Ok(group)
+    }
+
+    /// The places of the keys of the rows at places of columns, where rows of one code have one key: each is looked up once.
+    fn enter_coded<C: Codes>(
+        &mut self,
+        alloc: Global,
+        keys: &[usize],
+        columns: &[Option<Block>],
+        codes: &C,
+        places: &[usize],
+    ) -> Result<Vec<usize>, AllocError>
+        requires { Tells (C.code codes.now) (λ p. keys_of keys.now (row_of columns.now p)) }
+        ensures { IfOk result (λ v. AreEntered (λ p. keys_of keys.now (row_of columns.now p)) places.now self.old self.new v.items) }
+    {
+        let mut noted = repeated(alloc, None, codes.size())?;
+        let mut out = Vec::with_capacity(alloc, places.len())?;
+        for place in places {
+            let code = codes.code(*place);
+            let group = self.enter_noted(alloc, keys, columns, *place, &mut noted[code])?;
+            out.push(group)?;
+        }
+        Ok(out)
+    }
+
+    /// The same, by codes where these are few beside the rows, or else one after another.
+    fn enter_by<C: Codes>(
+        &mut self,
+        alloc: Global,
+        keys: &[usize],
+        columns: &[Option<Block>],
+        codes: &C,
+        places: &[usize],
+    ) -> Result<Vec<usize>, AllocError>
+        requires { Tells (C.code codes.now) (λ p. keys_of keys.now (row_of columns.now p)) }
+        ensures { IfOk result (λ v. AreEntered (λ p. keys_of keys.now (row_of columns.now p)) places.now self.old self.new v.items) }
+    {
+        if codes.size() / 4 > places.len() {
+            return self.enter_each(alloc, keys, columns, places);
+        }
+        self.enter_coded(alloc, keys, columns, codes, places)
+    }
+
+    /// The same, by the words of the columns where they are held so.
+    fn enter_words(
+        &mut self,
+        alloc: Global,
+        keys: &[usize],
+        columns: &[Option<Block>],
+        places: &[usize],
+    ) -> Result<Vec<usize>, AllocError>
+        ensures { IfOk result (λ v. AreEntered (λ p. keys_of keys.now (row_of columns.now p)) places.now self.old self.new v.items) }
+    {
+        if let Some(codes) = codes_of_one(keys, columns) {
+            return self.enter_by(alloc, keys, columns, &codes, places);
+        }
+        if let Some(codes) = codes_of_two(keys, columns) {
+            return self.enter_by(alloc, keys, columns, &codes, places);
+        }
+        self.enter_each(alloc, keys, columns, places)
+    }
+
     /// The same, from a lane of numbers where the keys and the columns are such.
     pub fn enter_columns(
         &mut self,
@@ -199,12 +302,15 @@ impl Keys {
     ) -> Result<Vec<usize>, AllocError>
         ensures { IfOk result (λ v. AreEntered (λ p. keys_of keys.now (row_of columns.now p)) places.now self.old self.new v.items) }
     {
+        if keys.is_empty() {
+            return self.enter_one(alloc, keys, columns, places);
+        }
         if let Form::Numbers(numbers) = &mut self.form {
             if let Some(lane) = key_lane(keys, columns) {
                 return enter_numbers(numbers, alloc, keys, columns, lane, places);
             }
         }
-        self.enter_each(alloc, keys, columns, places)
+        self.enter_words(alloc, keys, columns, places)
     }
 
     /// The keys, given back.
@@ -217,6 +323,15 @@ impl Keys {
             Form::Rows(rows) => Ok(rows.into_keys()),
         }
     }
+}
+
+/// So many times a value.
+fn repeated<T: Copy>(alloc: Global, value: T, count: usize) -> Result<Vec<T>, AllocError>
+    ensures { IfOk result (λ v. v.items ≡ replicate count value) }
+{
+    let mut out = Vec::new(alloc);
+    out.resize(count, value)?;
+    Ok(out)
 }
 
 /// The number that stands for a value: -2^63 for NULL.
@@ -319,6 +434,26 @@ fn enter_number(numbers: &mut NumberTable, alloc: Global, n: i64) -> Result<usiz
     }
 }
 
+/// A number with its place, as above, where another one's place may be known.
+fn enter_number_beside(
+    numbers: &mut NumberTable,
+    alloc: Global,
+    n: i64,
+    known: Option<(i64, usize)>,
+) -> Result<(i64, usize), AllocError>
+    requires known { IfSome known (λ k. position (λ x. same_keys x (number_key k.0)) (map number_key numbers.old) ≡ Some k.1) }
+    ensures met { OnOk result (map number_key numbers.new ≡ met_one (map number_key numbers.old) (number_key n)) }
+    ensures same { IfOk result (λ k. k.0 ≡ n) }
+    ensures there { IfOk result (λ k. position (λ x. same_keys x (number_key k.0)) (map number_key numbers.new) ≡ Some k.1) }
+{
+    if let Some(found) = known {
+        if found.0 == n {
+            return Ok(found);
+        }
+    }
+    Ok((n, enter_number(numbers, alloc, n)?))
+}
+
 /// The places of the numbers that a lane shows as the keys of the rows at places.
 fn enter_numbers(
     numbers: &mut NumberTable,
@@ -332,9 +467,11 @@ fn enter_numbers(
     ensures { IfOk result (λ v. AreEntered (λ p. keys_of keys.now (row_of columns.now p)) places.now (map number_key numbers.old) (map number_key numbers.new) v.items) }
 {
     let mut out = Vec::with_capacity(alloc, places.len())?;
+    let mut known = None;
     for place in places {
-        let group = enter_number(numbers, alloc, lane_number(lane, *place))?;
-        out.push(group)?;
+        let found = enter_number_beside(numbers, alloc, lane_number(lane, *place), known)?;
+        out.push(found.1)?;
+        known = Some(found);
     }
     Ok(out)
 }

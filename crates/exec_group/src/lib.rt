@@ -11,6 +11,7 @@
 mod accumulator;
 mod argument;
 mod cells;
+mod codes;
 mod columns;
 mod fault;
 mod groups;
