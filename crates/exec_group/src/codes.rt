@@ -144,7 +144,10 @@ pub fn codes_of_one<'a>(keys: &[usize], columns: &'a [Option<Block>]) -> Option<
 }
 
 /// The codes of a key of two columns.
-pub fn codes_of_two<'a>(keys: &[usize], columns: &'a [Option<Block>]) -> Option<Pairs<Words<'a>, Words<'a>>>
+pub fn codes_of_two<'a>(
+    keys: &[usize],
+    columns: &'a [Option<Block>],
+) -> Option<Pairs<Words<'a>, Words<'a>>>
     ensures { IfSome result (λ c. Tells (⟦<Pairs<Words<'a>, Words<'a>> as Codes>⟧.code c) (λ p. keys_of keys.now (row_of columns.now p))) }
 {
     match keys {

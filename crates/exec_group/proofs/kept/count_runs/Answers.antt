@@ -4,7 +4,7 @@ use Rattle.exec_group.proofs.Together.{some_from, within_more}
 use Rattle.exec_group.proofs.kept.count_runs.Goals as goal
 
 pub count_next-requires : goal.count_next-requires
-count_next-requires c = record { some = some_from c.args.groups.now c.loop-at.at c.loop-at-test.true; }
+count_next-requires c = record { some = some_from c.args.groups.now c.loop-at.at c.loop-at-test.true }
 
 pub loop-at-preserved : goal.loop-at-preserved
 loop-at-preserved c = record {

@@ -5,7 +5,7 @@ use Rattle.exec_group.specs.Columns.{row_of}
 use Rattle.exec_group.specs.Groups.{met_one, AreEntered}
 use Rattle.exec_group.specs.NumberKeys.{null_number, number_key}
 use Rattle.exec_group.proofs.Entering.{entered_more}
-use Rattle.exec_group.proofs.held_keys.enter_numbers.Goals as goal
+use Rattle.exec_group.proofs.number_keys.enter_numbers.Goals as goal
 
 pub loop-place-preserved : goal.loop-place-preserved
 loop-place-preserved c =

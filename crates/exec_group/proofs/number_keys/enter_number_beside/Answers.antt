@@ -2,7 +2,7 @@ use Rattle.std.proofs.Common.{◌≡◌, Some, map, position, rules}
 use Rattle.sql_bound.specs.Outputs.{same_keys}
 use Rattle.exec_group.specs.NumberKeys.{number_key}
 use Rattle.exec_group.proofs.Entering.{known_met}
-use Rattle.exec_group.proofs.held_keys.enter_number_beside.Goals as goal
+use Rattle.exec_group.proofs.number_keys.enter_number_beside.Goals as goal
 
 pub returns-then-found-n-clause-met : goal.returns-then-found-n-clause-met
 returns-then-found-n-clause-met c =

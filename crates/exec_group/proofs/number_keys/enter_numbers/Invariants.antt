@@ -4,7 +4,7 @@ use Rattle.sql_bound.specs.Outputs.{keys_of, same_keys}
 use Rattle.exec_group.specs.Columns.{row_of}
 use Rattle.exec_group.specs.Groups.{AreEntered}
 use Rattle.exec_group.specs.NumberKeys.{number_key}
-use Rattle.exec_group.proofs.held_keys.enter_numbers.Given as goal
+use Rattle.exec_group.proofs.number_keys.enter_numbers.Given as goal
 
 abbrev pub invariant-loop-place : goal.invariant-loop-place
 invariant-loop-place l = record {
