@@ -30,7 +30,7 @@ new_there ks key e =
     place_pushed (λ k. same_keys k key) ks key
     ∙ ap₂ (λ (o : Option ℕ) (b : Bool). first_of o (if b then Some (length ks) else None)) e (same_itself key)
 
-there_stays : (ks : Groups) (key other : List Value) (g : ℕ) → position (λ k. same_keys k key) ks ≡ Some g → position (λ k. same_keys k key) (met_one ks other) ≡ Some g
+pub there_stays : (ks : Groups) (key other : List Value) (g : ℕ) → position (λ k. same_keys k key) ks ≡ Some g → position (λ k. same_keys k key) (met_one ks other) ≡ Some g
 there_stays ks key other g e = elim (list_any (λ k. same_keys k other) ks) as (λ b. position (λ k. same_keys k key) (if b then ks else ks ++ other ∷ []) ≡ Some g) [
   | true ↦ e
   | false ↦ place_pushed (λ k. same_keys k key) ks other ∙ ap (λ (o : Option ℕ). first_of o (if same_keys other key then Some (length ks) else None)) e

@@ -136,7 +136,7 @@ all_next P xs n x h is all here = subst (λ (l : List ℕ). All P l) (sym (take_
 abbrev pub places_from : List ℕ → ℕ → List ℕ
 places_from places at = take (length places - at) (drop at places)
 
-all_from : (places : List ℕ) (at : ℕ) → places_from places at ≡ drop at places
+pub all_from : (places : List ℕ) (at : ℕ) → places_from places at ≡ drop at places
 all_from places at = take_all (length places - at) (drop at places) (omega (arith, length-drop at places))
 
 pub rows_from : (P : ℕ → Type 0) (places : List ℕ) (at : ℕ) → All P places → All P (places_from places at)

@@ -1,4 +1,5 @@
 pub mod Accumulators
+pub mod Codes
 pub mod Columns
 pub mod Counted
 pub mod Groups

@@ -131,7 +131,7 @@ fn raises(n: &mut u64) -> bool
     true
 }
 
-pub fn raised(n: u64) -> Result<u64, AllocError>
+fn raised(n: u64) -> Result<u64, AllocError>
     ensures { IfOk result (λ m. m ≡ n + 1) }
 {
     match n.checked_add(1) {

@@ -1,18 +1,19 @@
 //! The keys of groups, in the order in which they were met.
 
-ghost use Rattle.std.specs.Prelude.{◌≡◌, ℕ, slice_index_or, ◌++◌, ◌∷◌, [], Some, None, get_or, length, map, position, IfOk, IfNone, OnOk};
+ghost use Rattle.std.specs.Prelude.{◌≡◌, ◌++◌, ◌∷◌, [], Some, None, replicate, length, position, IfOk, OnOk};
 ghost use Rattle.std.specs.Option.{IfSome};
-ghost use Rattle.block_codec.specs.Held.{number_value};
-ghost use Rattle.col_value.specs.declared.value.Value.TheVariants.{Null};
 ghost use Rattle.sql_bound.specs.Outputs.{keys_of, same_keys};
+ghost use Rattle.exec_group.specs.Codes.{Tells};
 ghost use Rattle.exec_group.specs.Columns.{row_of};
 ghost use Rattle.exec_group.specs.Groups.{met_one, AreEntered};
-ghost use Rattle.exec_group.specs.NumberKeys.{null_number, number_key, IsNoKey, IsNoNumber};
 
 use crate::cells::key_at;
-use crate::lanes::column_numbers;
+use crate::codes::{Codes, codes_of_one, codes_of_two};
+use crate::number_keys::{
+    enter_numbers, find_number, find_row_number, key_lane, number_of, number_rows, rows_of,
+};
 use crate::runs::has_key_twice;
-use block_codec::{Block, number_value};
+use block_codec::Block;
 use col_value::{List, Row, Value};
 use row_keys::{KeyTable, NumberTable, key_of};
 use std::alloc::{AllocError, Global};
@@ -189,6 +190,107 @@ impl Keys {
         Ok(out)
     }
 
+    /// The same, where all rows have one key.
+    fn enter_one(
+        &mut self,
+        alloc: Global,
+        keys: &[usize],
+        columns: &[Option<Block>],
+        places: &[usize],
+    ) -> Result<Vec<usize>, AllocError>
+        requires { keys.now ≡ [] }
+        ensures { IfOk result (λ v. AreEntered (λ p. keys_of keys.now (row_of columns.now p)) places.now self.old self.new v.items) }
+    {
+        match places {
+            [] => Ok(Vec::new(alloc)),
+            [first, ..] => {
+                let group = self.enter_at(alloc, keys, columns, *first)?;
+                repeated(alloc, group, places.len())
+            }
+        }
+    }
+
+    /// The place of the key of the row at a place of columns, where that of its code may be noted, and is then.
+    fn enter_noted(
+        &mut self,
+        alloc: Global,
+        keys: &[usize],
+        columns: &[Option<Block>],
+        place: usize,
+        noted: &mut Option<usize>,
+    ) -> Result<usize, AllocError>
+        requires noted { IfSome noted.old (λ g. position (λ k. same_keys k (keys_of keys.now (row_of columns.now place))) self.old ≡ Some g) }
+        ensures met { OnOk result (self.new ≡ met_one self.old (keys_of keys.now (row_of columns.now place))) }
+        ensures there { IfOk result (λ g. position (λ k. same_keys k (keys_of keys.now (row_of columns.now place))) self.new ≡ Some g) }
+        ensures noted { IfOk result (λ g. noted.new ≡ Some g) }
+    {
+        if let Some(group) = *noted {
+            return Ok(group);
+        }
+        let group = self.enter_at(alloc, keys, columns, place)?;
+        *noted = Some(group);
+        Ok(group)
+    }
+
+    /// The places of the keys of the rows at places of columns, where rows of one code have one key: each is looked up once.
+    fn enter_coded<C: Codes>(
+        &mut self,
+        alloc: Global,
+        keys: &[usize],
+        columns: &[Option<Block>],
+        codes: &C,
+        places: &[usize],
+    ) -> Result<Vec<usize>, AllocError>
+        requires { Tells (C.code codes.now) (λ p. keys_of keys.now (row_of columns.now p)) }
+        ensures { IfOk result (λ v. AreEntered (λ p. keys_of keys.now (row_of columns.now p)) places.now self.old self.new v.items) }
+    {
+        let mut noted = repeated(alloc, None, codes.size())?;
+        let mut out = Vec::with_capacity(alloc, places.len())?;
+        for place in places {
+            let code = codes.code(*place);
+            let group = self.enter_noted(alloc, keys, columns, *place, &mut noted[code])?;
+            out.push(group)?;
+        }
+        Ok(out)
+    }
+
+    /// The same, by codes where these are few beside the rows, or else one after another.
+    fn enter_by<C: Codes>(
+        &mut self,
+        alloc: Global,
+        keys: &[usize],
+        columns: &[Option<Block>],
+        codes: &C,
+        places: &[usize],
+    ) -> Result<Vec<usize>, AllocError>
+        requires { Tells (C.code codes.now) (λ p. keys_of keys.now (row_of columns.now p)) }
+        ensures { IfOk result (λ v. AreEntered (λ p. keys_of keys.now (row_of columns.now p)) places.now self.old self.new v.items) }
+    {
+        if codes.size() / 4 > places.len() {
+            return self.enter_each(alloc, keys, columns, places);
+        }
+        self.enter_coded(alloc, keys, columns, codes, places)
+    }
+
+    /// The same, by the words of the columns where they are held so.
+    fn enter_words(
+        &mut self,
+        alloc: Global,
+        keys: &[usize],
+        columns: &[Option<Block>],
+        places: &[usize],
+    ) -> Result<Vec<usize>, AllocError>
+        ensures { IfOk result (λ v. AreEntered (λ p. keys_of keys.now (row_of columns.now p)) places.now self.old self.new v.items) }
+    {
+        if let Some(codes) = codes_of_one(keys, columns) {
+            return self.enter_by(alloc, keys, columns, &codes, places);
+        }
+        if let Some(codes) = codes_of_two(keys, columns) {
+            return self.enter_by(alloc, keys, columns, &codes, places);
+        }
+        self.enter_each(alloc, keys, columns, places)
+    }
+
     /// The same, from a lane of numbers where the keys and the columns are such.
     pub fn enter_columns(
         &mut self,
@@ -199,12 +301,15 @@ impl Keys {
     ) -> Result<Vec<usize>, AllocError>
         ensures { IfOk result (λ v. AreEntered (λ p. keys_of keys.now (row_of columns.now p)) places.now self.old self.new v.items) }
     {
+        if keys.is_empty() {
+            return self.enter_one(alloc, keys, columns, places);
+        }
         if let Form::Numbers(numbers) = &mut self.form {
             if let Some(lane) = key_lane(keys, columns) {
                 return enter_numbers(numbers, alloc, keys, columns, lane, places);
             }
         }
-        self.enter_each(alloc, keys, columns, places)
+        self.enter_words(alloc, keys, columns, places)
     }
 
     /// The keys, given back.
@@ -219,151 +324,11 @@ impl Keys {
     }
 }
 
-/// The number that stands for a value: -2^63 for NULL.
-fn number_in(value: &Value) -> Option<i64>
-    ensures some { IfSome result (λ n. number_value n ≡ value.now) }
-    ensures none { IfNone result (IsNoNumber value.now) }
+/// So many times a value.
+fn repeated<T: Copy>(alloc: Global, value: T, count: usize) -> Result<Vec<T>, AllocError>
+    ensures { IfOk result (λ v. v.items ≡ replicate count value) }
 {
-    match value {
-        Value::Null => Some(i64::MIN),
-        Value::Int(n) if *n != i64::MIN => Some(*n),
-        _ => None,
-    }
-}
-
-/// The number that stands for a key, if it is one.
-fn number_of(key: &[Value]) -> Option<i64>
-    ensures some { IfSome result (λ n. number_key n ≡ key.now) }
-    ensures none { IfNone result (IsNoKey key.now) }
-{
-    match key {
-        [value] => number_in(value),
-        _ => None,
-    }
-}
-
-/// The place of a key among keys that are numbers.
-fn find_number(numbers: &NumberTable, key: &[Value]) -> Option<usize>
-    ensures { result ≡ position (λ k. same_keys k key.now) (map number_key numbers.now) }
-{
-    match number_of(key) {
-        Some(n) => numbers.find(n),
-        None => None,
-    }
-}
-
-/// The number that stands for the value of a column of a row, if it is one.
-fn number_in_row(row: &[Value], column: usize) -> Option<i64>
-    ensures some { IfSome result (λ n. number_value n ≡ slice_index_or row.now column Null) }
-    ensures none { IfNone result (IsNoNumber (slice_index_or row.now column Null)) }
-{
-    match row.get(column) {
-        Some(value) => number_in(value),
-        None => Some(i64::MIN),
-    }
-}
-
-/// The number that stands for a row's key, if it is one.
-fn row_number(keys: &[usize], row: &[Value]) -> Option<i64>
-    ensures some { IfSome result (λ n. number_key n ≡ keys_of keys.now row.now) }
-    ensures none { IfNone result (IsNoKey (keys_of keys.now row.now)) }
-{
-    match keys {
-        [column] => number_in_row(row, *column),
-        _ => None,
-    }
-}
-
-/// The place of a row's key among keys that are numbers.
-fn find_row_number(numbers: &NumberTable, keys: &[usize], row: &[Value]) -> Option<usize>
-    ensures { result ≡ position (λ k. same_keys k (keys_of keys.now row.now)) (map number_key numbers.now) }
-{
-    match row_number(keys, row) {
-        Some(n) => numbers.find(n),
-        None => None,
-    }
-}
-
-/// The lane of numbers of a key of one column, if it is held so.
-fn key_lane<'a>(keys: &[usize], columns: &'a [Option<Block>]) -> Option<&'a [i64]>
-    ensures { IfSome result (λ ns. (place : ℕ) → number_key (get_or ns.now place null_number) ≡ keys_of keys.now (row_of columns.now place)) }
-{
-    match keys {
-        [column] => column_numbers(columns, *column),
-        _ => None,
-    }
-}
-
-/// The number of a lane at a place; that of NULL where there is none.
-fn lane_number(lane: &[i64], place: usize) -> i64
-    ensures { result ≡ get_or lane.now place null_number }
-{
-    match lane.get(place) {
-        Some(n) => *n,
-        None => i64::MIN,
-    }
-}
-
-/// The place of a number, which is put behind the others where it isn't there.
-fn enter_number(numbers: &mut NumberTable, alloc: Global, n: i64) -> Result<usize, AllocError>
-    ensures met { OnOk result (map number_key numbers.new ≡ met_one (map number_key numbers.old) (number_key n)) }
-    ensures there { IfOk result (λ g. position (λ k. same_keys k (number_key n)) (map number_key numbers.new) ≡ Some g) }
-{
-    match numbers.find(n) {
-        Some(place) => Ok(place),
-        None => {
-            let place = numbers.numbers().len();
-            numbers.add(alloc, n)?;
-            Ok(place)
-        },
-    }
-}
-
-/// The places of the numbers that a lane shows as the keys of the rows at places.
-fn enter_numbers(
-    numbers: &mut NumberTable,
-    alloc: Global,
-    keys: &[usize],
-    columns: &[Option<Block>],
-    lane: &[i64],
-    places: &[usize],
-) -> Result<Vec<usize>, AllocError>
-    requires { (place : ℕ) → number_key (get_or lane.now place null_number) ≡ keys_of keys.now (row_of columns.now place) }
-    ensures { IfOk result (λ v. AreEntered (λ p. keys_of keys.now (row_of columns.now p)) places.now (map number_key numbers.old) (map number_key numbers.new) v.items) }
-{
-    let mut out = Vec::with_capacity(alloc, places.len())?;
-    for place in places {
-        let group = enter_number(numbers, alloc, lane_number(lane, *place))?;
-        out.push(group)?;
-    }
-    Ok(out)
-}
-
-/// The row of a number.
-fn number_row(alloc: Global, n: i64) -> Result<Row, AllocError>
-    ensures { IfOk result (λ r. r ≡ number_key n) }
-{
-    Ok(List::new(Vec::from_array(alloc, [number_value(n)])?))
-}
-
-/// The rows of numbers.
-fn number_rows(alloc: Global, numbers: &[i64]) -> Result<Vec<Row>, AllocError>
-    ensures { IfOk result (λ v. v.items ≡ map number_key numbers.now) }
-{
-    let mut out = Vec::with_capacity(alloc, numbers.len())?;
-    for n in numbers {
-        out.push(number_row(alloc, *n)?)?;
-    }
-    Ok(out)
-}
-
-/// The same, each found by its digest.
-fn rows_of(alloc: Global, numbers: &[i64]) -> Result<KeyTable, AllocError>
-    ensures { IfOk result (λ t. t ≡ map number_key numbers.now) }
-{
-    let mut out = KeyTable::new(alloc);
-    for n in numbers {
-        out.add_key(number_row(alloc, *n)?)?;
-    }
+    let mut out = Vec::new(alloc);
+    out.resize(count, value)?;
     Ok(out)
 }

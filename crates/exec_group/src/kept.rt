@@ -1,6 +1,6 @@
 //! What one aggregate keeps, group by group.
 
-ghost use Rattle.std.specs.Prelude.{◌≡◌, ℕ, ◌<◌, ◌≤◌, List, true, [], Some, get_or, length, map, set, take, IfOk, OnOk, IsErrOf};
+ghost use Rattle.std.specs.Prelude.{◌≡◌, ℕ, ◌+◌, ◌<◌, ◌≤◌, List, true, [], Some, get_or, length, map, set, take, IfOk, OnOk, IsErrOf};
 ghost use Rattle.std.specs.List.{All};
 ghost use Rattle.std.specs.Option.{IfSome};
 ghost use Rattle.col_value.specs.Order.{IsRow};
@@ -9,13 +9,12 @@ ghost use Rattle.col_value.specs.declared.wide.Wide.TheVariants as wide;
 ghost use Rattle.expr_value.specs.Worths.{wide_of};
 ghost use Rattle.exec_group.specs.Accumulators.{accumulated, argument_in, is_bounded_aggregate, worth_or_null};
 ghost use Rattle.exec_group.specs.Columns.{padded, put_at, put_each, row_of, taken_at, AreRowsAt};
-ghost use Rattle.exec_group.specs.Counted.{counted_at, counted_each, counts_as};
+ghost use Rattle.exec_group.specs.Counted.{counted_each, counts_as};
 ghost use Rattle.exec_group.specs.Groups.{kept_at};
 ghost use Rattle.exec_group.specs.declared.accumulator.Accumulator.TheVariants.{Rows, TooGreat};
 ghost use Rattle.exec_group.specs.declared.fault.GroupFault.{GroupFault};
 ghost use Rattle.sql_bound.specs.Values.{number_in};
 
-use crate::accumulator::raised;
 use crate::columns::{take_place, take_run};
 use crate::lanes::lane_of;
 use crate::{Accumulator, GroupFault};
@@ -173,12 +172,22 @@ fn pad_counts(counts: &mut Vec<u64>, count: usize) -> Result<(), AllocError>
     Ok(())
 }
 
-/// Counts a row more in a group. A count that no u64 holds finds no memory.
-fn count_more(counts: &mut Vec<u64>, group: usize) -> Result<(), AllocError>
-    ensures { OnOk result (counts.new.items ≡ counted_at counts.old.items group) }
+/// A count and so many more. One that no u64 holds finds no memory.
+fn raised_by(n: u64, many: usize) -> Result<u64, AllocError>
+    ensures { IfOk result (λ m. m ≡ n + many) }
+{
+    match n.checked_add(many as u64) {
+        Some(m) => Ok(m),
+        None => Err(AllocError),
+    }
+}
+
+/// Counts so many rows more in a group.
+fn count_many(counts: &mut Vec<u64>, group: usize, many: usize) -> Result<(), AllocError>
+    ensures { OnOk result (counts.new.items ≡ set counts.old.items group (get_or counts.old.items group 0 + many)) }
 {
     if group < counts.len() {
-        counts[group] = raised(counts[group])?;
+        counts[group] = raised_by(counts[group], many)?;
     }
     Ok(())
 }
@@ -187,7 +196,7 @@ fn count_more(counts: &mut Vec<u64>, group: usize) -> Result<(), AllocError>
 fn count_at(counts: &mut Vec<u64>, group: usize) -> Result<(), AllocError>
     ensures { OnOk result ((w : Wide) → counts_as counts.new.items ≡ put_at (counts_as counts.old.items) group w) }
 {
-    count_more(counts, group)
+    count_many(counts, group, 1)
 }
 
 /// Counts a row more in each of these groups.
@@ -195,7 +204,35 @@ fn count_all(counts: &mut Vec<u64>, groups: &[usize]) -> Result<(), AllocError>
     ensures { OnOk result (counts.new.items ≡ counted_each groups.now counts.old.items) }
 {
     for group in groups {
-        count_more(counts, *group)?;
+        count_many(counts, *group, 1)?;
+    }
+    Ok(())
+}
+
+/// Counts the first of these rows together, where many of one group stand there, or else all; answers how many it counted.
+fn count_next(counts: &mut Vec<u64>, groups: &[usize]) -> Result<usize, AllocError>
+    requires some { 0 < length groups.now }
+    ensures some { IfOk result (λ n. 0 < n) }
+    ensures within { IfOk result (λ n. n ≤ length groups.now) }
+    ensures counted { IfOk result (λ n. counts.new.items ≡ counted_each (take n groups.now) counts.old.items) }
+{
+    let n = same_length(groups);
+    if n >= MANY {
+        count_many(counts, groups[0], n)?;
+        return Ok(n);
+    }
+    count_all(counts, groups)?;
+    Ok(groups.len())
+}
+
+/// Counts a row more in each of these groups, many of one group together.
+fn count_runs(counts: &mut Vec<u64>, groups: &[usize]) -> Result<(), AllocError>
+    ensures { OnOk result (counts.new.items ≡ counted_each groups.now counts.old.items) }
+{
+    let mut at = 0;
+    while at < groups.len() {
+        let n = count_next(counts, &groups[at..])?;
+        at += n;
     }
     Ok(())
 }
@@ -204,7 +241,7 @@ fn count_all(counts: &mut Vec<u64>, groups: &[usize]) -> Result<(), AllocError>
 fn count_each(counts: &mut Vec<u64>, groups: &[usize]) -> Result<(), AllocError>
     ensures { OnOk result ((f : ℕ → Wide) (places : List ℕ) → length groups.now ≡ length places → counts_as counts.new.items ≡ put_each f groups.now places (counts_as counts.old.items)) }
 {
-    count_all(counts, groups)
+    count_runs(counts, groups)
 }
 
 /// Begins groups until there are so many.

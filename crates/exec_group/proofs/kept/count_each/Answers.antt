@@ -5,4 +5,4 @@ use Rattle.exec_group.proofs.Counting.{each_counted}
 use Rattle.exec_group.proofs.kept.count_each.Goals as goal
 
 pub returns : goal.returns
-returns c = on_ok_weaker c.count_all.result (λ e f places long. ap counts_as e ∙ each_counted f c.args.groups.now places c.args.counts.now.items long) c.count_all.ensures
+returns c = on_ok_weaker c.count_runs.result (λ e f places long. ap counts_as e ∙ each_counted f c.args.groups.now places c.args.counts.now.items long) c.count_runs.ensures

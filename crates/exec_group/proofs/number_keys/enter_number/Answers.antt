@@ -7,7 +7,7 @@ use Rattle.sql_bound.specs.Outputs.{same_keys}
 use Rattle.exec_group.specs.NumberKeys.{number_key}
 use Rattle.exec_group.proofs.Entering.{known_met, new_met, new_there}
 use Rattle.exec_group.proofs.Numbered.{place_of_number}
-use Rattle.exec_group.proofs.held_keys.enter_number.Goals as goal
+use Rattle.exec_group.proofs.number_keys.enter_number.Goals as goal
 
 pub returns-in-Some-clause-there : goal.returns-in-Some-clause-there
 returns-in-Some-clause-there c =

@@ -3,7 +3,7 @@ use Rattle.std.specs.Int.{w64}
 use Rattle.sql_bound.specs.Outputs.{keys_of}
 use Rattle.exec_group.specs.NumberKeys.{number_key, IsNoKey}
 use Rattle.exec_group.proofs.Numbered.{place_of_none, place_of_number}
-use Rattle.exec_group.proofs.held_keys.find_row_number.Goals as goal
+use Rattle.exec_group.proofs.number_keys.find_row_number.Goals as goal
 
 pub returns-in-Some : goal.returns-in-Some
 returns-in-Some c =

@@ -1,6 +1,6 @@
 use Rattle.std.proofs.Common.{◌≡◌, ◌∷◌, [], rules, arith, get_or}
 use Rattle.exec_group.proofs.Numbered.{if_some, lane_keys, one_key}
-use Rattle.exec_group.proofs.held_keys.key_lane.Goals as goal
+use Rattle.exec_group.proofs.number_keys.key_lane.Goals as goal
 
 pub returns-in-len1 : goal.returns-in-len1
 returns-in-len1 c =
