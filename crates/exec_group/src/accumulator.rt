@@ -179,7 +179,7 @@ fn order(a: &Worth<'_>, b: &Worth<'_>) -> Ordering
         (Worth::Bool(a), Worth::Bool(b)) => a.cmp(b),
         (Worth::Int(a), Worth::Int(b)) => a.cmp(b),
         (Worth::Date(a), Worth::Date(b)) => a.cmp(b),
-        (Worth::Text(a), Worth::Text(b)) => a.as_bytes().cmp(&b.as_bytes()),
+        (Worth::Text(a), Worth::Text(b)) => a.order(b),
         _ => kind(a).cmp(&kind(b)),
     }
 }
