@@ -3,7 +3,7 @@
 ghost use Rattle.std.specs.Prelude.{◌≡◌, ℕ, ◌<◌, pos, neg_ℤ, ◌+ℤ◌, ◌*ℤ◌, true, if◌then◌else◌, Some, get_or, length, map, replicate, IfOk};
 ghost use Rattle.std.specs.Option.{IfSome};
 ghost use Rattle.std.specs.List.{slice_index_or};
-ghost use Rattle.block_codec.specs.Held.{number_value};
+ghost use Rattle.block_codec.specs.Held.{number_value, picked};
 ghost use Rattle.col_value.specs.Order.{widened};
 ghost use Rattle.col_value.specs.declared.value.Value.TheVariants.{Null};
 ghost use Rattle.col_value.specs.declared.wide.Wide.TheVariants as wide;
@@ -11,8 +11,9 @@ ghost use Rattle.sql_bound.specs.Values.{number_in, of_row, value_of};
 ghost use Rattle.expr_value.specs.Terms.{added, multiplied, term_value};
 ghost use Rattle.exec_group.specs.Columns.{row_of};
 
-use crate::numbers::{lane_number_at, literal, number_at};
+use crate::numbers::{lane_number_at, literal, number_at, word_number_at};
 use block_codec::Block;
+use col_value::Value;
 use sql_bound::{BoundTerm, Expr};
 use std::alloc::{AllocError, Global};
 
@@ -47,8 +48,28 @@ pub fn column_numbers(columns: &[Option<Block>], column: usize) -> Option<&[i64]
     }
 }
 
+/// The words of an expression that is a column held so, and for each value the place of its word.
+fn words_of<'a>(e: &Expr, columns: &'a [Option<Block>]) -> Option<(&'a [Value], &'a [u64])>
+    ensures { IfSome result (λ x. (place : ℕ) → value_of (of_row (row_of columns.now place)) e.now ≡ widened (slice_index_or (picked x.0.now x.1.now) place Null)) }
+{
+    match e {
+        Expr::Col(i) => column_words(columns, *i),
+        _ => None,
+    }
+}
+
+/// The words of a column, if it is held so, and for each value the place of its word.
+fn column_words(columns: &[Option<Block>], column: usize) -> Option<(&[Value], &[u64])>
+    ensures { IfSome result (λ x. (place : ℕ) → slice_index_or (row_of columns.now place) column Null ≡ slice_index_or (picked x.0.now x.1.now) place Null) }
+{
+    match columns.get(column) {
+        Some(Some(block)) => block.coded(),
+        _ => None,
+    }
+}
+
 /// The numbers of a lane at places, where none of them is NULL.
-fn picked(
+fn from_lane(
     alloc: Global,
     e: &Expr,
     columns: &[Option<Block>],
@@ -61,6 +82,28 @@ fn picked(
     let mut out = Vec::with_capacity(alloc, places.len())?;
     for place in places {
         let Some(n) = lane_number_at(numbers, *place) else {
+            return Ok(None);
+        };
+        out.push(n)?;
+    }
+    Ok(Some(out))
+}
+
+/// The numbers of words at places, where all of them are numbers.
+fn from_words(
+    alloc: Global,
+    e: &Expr,
+    columns: &[Option<Block>],
+    words: &[Value],
+    codes: &[u64],
+    places: &[usize],
+) -> Result<Option<Vec<i64>>, AllocError>
+    requires { (place : ℕ) → value_of (of_row (row_of columns.now place)) e.now ≡ widened (slice_index_or (picked words.now codes.now) place Null) }
+    ensures { IfOk result (λ o. IfSome o (λ v. map Some v.items ≡ map (λ i. number_in (value_of (of_row (row_of columns.now i)) e.now)) places.now)) }
+{
+    let mut out = Vec::with_capacity(alloc, places.len())?;
+    for place in places {
+        let Some(n) = word_number_at(words, codes, *place) else {
             return Ok(None);
         };
         out.push(n)?;
@@ -87,7 +130,7 @@ fn each_looked_up(
     Ok(Some(out))
 }
 
-/// The same, from the column's lane where there is one.
+/// The same, from the column's lane or its words where there are such.
 fn looked_up(
     alloc: Global,
     e: &Expr,
@@ -96,10 +139,13 @@ fn looked_up(
 ) -> Result<Option<Vec<i64>>, AllocError>
     ensures { IfOk result (λ o. IfSome o (λ v. map Some v.items ≡ map (λ i. number_in (value_of (of_row (row_of columns.now i)) e.now)) places.now)) }
 {
-    match numbers_of(e, columns) {
-        Some(numbers) => picked(alloc, e, columns, numbers, places),
-        None => each_looked_up(alloc, e, columns, places),
+    if let Some(numbers) = numbers_of(e, columns) {
+        return from_lane(alloc, e, columns, numbers, places);
     }
+    if let Some((words, codes)) = words_of(e, columns) {
+        return from_words(alloc, e, columns, words, codes, places);
+    }
+    each_looked_up(alloc, e, columns, places)
 }
 
 /// The sum of two numbers, the second with its sign turned where a minus stands before it, if it is one of 64 bits.

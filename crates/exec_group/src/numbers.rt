@@ -2,7 +2,7 @@
 
 ghost use Rattle.std.specs.Prelude.{◌≡◌, ◌<◌, neg_ℤ, length, if◌then◌else◌, Some, map};
 ghost use Rattle.std.specs.Option.{IfSome};
-ghost use Rattle.block_codec.specs.Held.{number_value};
+ghost use Rattle.block_codec.specs.Held.{number_value, picked};
 ghost use Rattle.col_value.specs.Order.{widened};
 ghost use Rattle.col_value.specs.declared.value.Value.TheVariants as value;
 ghost use Rattle.col_value.specs.declared.wide.Wide.TheVariants as wide;
@@ -42,6 +42,26 @@ pub fn lane_number_at(numbers: &[i64], place: usize) -> Option<i64>
     match numbers.get(place) {
         Some(n) if *n != i64::MIN => Some(*n),
         _ => None,
+    }
+}
+
+/// The number of a word, if it is one.
+fn word_number(words: &[Value], code: usize) -> Option<i64>
+    ensures { IfSome result (λ n. widened (slice_index_or words.now code value.Null) ≡ wide.Int n) }
+{
+    match words.get(code) {
+        Some(Value::Int(n)) => Some(*n),
+        _ => None,
+    }
+}
+
+/// The number of the value at a place of words, if there is one.
+pub fn word_number_at(words: &[Value], codes: &[u64], place: usize) -> Option<i64>
+    ensures { IfSome result (λ n. widened (slice_index_or (picked words.now codes.now) place value.Null) ≡ wide.Int n) }
+{
+    match codes.get(place) {
+        Some(code) => word_number(words, *code as usize),
+        None => None,
     }
 }
 
