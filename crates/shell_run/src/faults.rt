@@ -1,7 +1,7 @@
 //! The status that a shell ends with.
 
 ghost use Rattle.std.specs.Prelude.{◌≡◌};
-ghost use Rattle.vert_cli.specs.Ends.{status_of};
+ghost use Rattle.vert_cli.specs.Statuses.{status_of};
 ghost use Rattle.vert_cli.specs.Statements.{fault_of};
 
 use col_disk::StoreFault;

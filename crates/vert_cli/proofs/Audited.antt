@@ -1,12 +1,10 @@
--- What an audit answers, and what a crash leaves of it.
-use Rattle.std.proofs.Common.{◌≡◌, ℕ, List, inl, inr, false, refl, subst}
+-- What an audit answers.
+use Rattle.std.proofs.Common.{◌≡◌, ℕ, List, inl, inr, refl, subst}
 use Rattle.std.specs.Prelude.{Option, Some, None}
-use Rattle.common_laws.specs.Causes.{Rose}
 use Rattle.common_laws.specs.Maps.{Contents}
 use Rattle.common_laws.specs.Told.{Appends, AppendsFront}
-use Rattle.col_disk.specs.Moved.{ImageOf, Leaves}
 use Rattle.col_disk.specs.declared.disk.Disk.{Ghosts}
-use Rattle.col_disk.proofs.Moving.{leaves_moved, moved_none}
+use Rattle.col_disk.proofs.Moving.{moved_none}
 use Rattle.db_model.specs.Database.{Database}
 use Rattle.folder_model.specs.Reopening.{Reopens}
 use Rattle.audit_model.specs.Verdicts.{IsVerdict, IsYes}
@@ -15,8 +13,8 @@ use Rattle.audit_model.specs.declared.verdict.Verdict.TheVariants.{Yes, File, Ba
 use Rattle.verdict_text.specs.Lines.{verdict_text}
 use Rattle.run_words.specs.Words.{Wanted, runs, audits}
 use Rattle.vert_cli.specs.declared.faults.Status.{Status}
-use Rattle.vert_cli.specs.Audits.{AuditEnds, AuditKeeps, AuditOf, IsAuditStatus, IsUntouched, IsUnwritten, Judged, TellsFolder, Told, ToldPart, status_of_verdict}
-use Rattle.vert_cli.specs.Ends.{Counts, ExactlyWhere, IsAnswered, NeverBegins}
+use Rattle.vert_cli.specs.Audits.{AuditEnds, AuditKeeps, AuditOf, IsAuditStatus, Judged, TellsFolder, Told, ToldPart, status_of_verdict}
+use Rattle.vert_cli.specs.Statuses.{NeverBegins}
 
 -- ---- the verdict and the folder
 
@@ -55,14 +53,6 @@ verdict_begins (Yes last ahm) = tt
 verdict_begins (File name) = tt
 verdict_begins (BadRow table projection base place) = tt
 verdict_begins (Differ table first second first_count second_count row) = tt
-
--- ---- what a crash leaves
-
-pub image_untouched : {D : Type 0} (disk : Ghosts D) (now : D) (x : Contents) → ImageOf disk now x → IsUntouched disk now x
-image_untouched disk now x image = (x, image, λ q not. inl refl)
-
-pub untouched_left : {D : Type 0} (disk : Ghosts D) (old now : D) → IsUnwritten disk old now → Leaves disk (IsUntouched disk old) old now
-untouched_left disk old now unwritten = leaves_moved disk (λ x left. left) unwritten.moved
 
 -- ---- the statuses
 
@@ -104,9 +94,6 @@ not_unbegun (Status.Damaged name) is never = absurd is
 not_unbegun Status.ReadFault is never = absurd is
 not_unbegun Status.TooLarge is never = absurd is
 
-pub never_where : (status other : Status) (Fact : Type 0) → (status ≡ other → ⊥) → (Fact → ⊥) → ExactlyWhere status other Fact
-never_where status other Fact not none = record { only = λ is. absurd (not is); always = λ fact. absurd (none fact) }
-
 no_unread : (status : Status) → IsAuditStatus status → status ≡ Status.ReadFault → ⊥
 no_unread Status.Done is e = cc
 no_unread Status.SinkFault is e = cc
@@ -122,27 +109,6 @@ no_unread Status.TooLarge is e = absurd is
 
 pub audit_unread : (status : Status) → IsAuditStatus status → status ≡ Status.ReadFault → ⊥
 audit_unread = no_unread
-
--- over a folder that reopens the verdict is Yes
-refused_never : (m : Contents) (d : Database) (verdict : Verdict) → Reopens m d → TellsFolder m verdict → Status.AuditNo ≡ status_of_verdict verdict → ⊥
-refused_never m d (Yes last ahm) reopens tells is = cc
-refused_never m d (File name) reopens tells is = tells d reopens
-refused_never m d (BadRow table projection base place) reopens tells is = tells d reopens
-refused_never m d (Differ table first second first_count second_count row) reopens tells is = tells d reopens
-
-pub audit_answered : (m : Contents) (d : Database) (before after : Option (List ℕ)) (was new : Counts) (status : Status) → Reopens m d → AuditEnds status m before after
-    → (status ≡ Status.SinkFault → Rose was.sink new.sink) → (status ≡ Status.DiskFault → Rose was.disk new.disk) → IsAnswered status was new
-audit_answered m d before after was new Status.Done reopens ends sink fault = inl (false, refl)
-audit_answered m d before after was new Status.SinkFault reopens ends sink fault = inr (inr (inl (refl, sink refl)))
-audit_answered m d before after was new Status.DiskFault reopens ends sink fault = inr (inr (inr (inr (refl, fault refl))))
-audit_answered m d before after was new Status.Memory reopens ends sink fault = inr (inl refl)
-audit_answered m d before after was new Status.AuditNo reopens ends sink fault = absurd (refused_never m d ends.judged.verdict reopens ends.judged.tells ends.status_is)
-audit_answered m d before after was new Status.Refused reopens ends sink fault = absurd ends
-audit_answered m d before after was new Status.Usage reopens ends sink fault = absurd ends
-audit_answered m d before after was new Status.NoScript reopens ends sink fault = absurd ends
-audit_answered m d before after was new (Status.Damaged name) reopens ends sink fault = absurd ends
-audit_answered m d before after was new Status.ReadFault reopens ends sink fault = absurd ends
-audit_answered m d before after was new Status.TooLarge reopens ends sink fault = absurd ends
 
 -- ---- words that ask for none
 

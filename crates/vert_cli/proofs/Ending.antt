@@ -1,8 +1,9 @@
 -- How a run of statement texts over the tables of a folder ends, and what a crash leaves of it.
-use Rattle.std.proofs.Common.{ℕ, ◌+◌, ◌<◌, ◌≤◌, ◌≡◌, ◌||◌, inl, inr, Bool, true, false, List, take, drop, map, length, get_or, ap, sym, subst, refl, ◌∙◌, arith}
-use Rattle.std.specs.Prelude.{Option, Some, Result, Ok, Err, unwrap_or}
+use Rattle.std.proofs.Common.{ℕ, ◌+◌, ◌<◌, ◌≤◌, ◌≡◌, ◌||◌, inl, inr, Bool, true, false, List, take, drop, map, length, get_or, sym, subst, refl, arith}
+use Rattle.std.specs.Prelude.{Option, Some, Result, Ok, Err}
 use Rattle.std.proofs.lemmas.List.{take_all, drop_all, length-map}
 use Rattle.common_laws.specs.Maps.{Contents}
+use Rattle.common_laws.specs.Told.{Appends}
 use Rattle.col_disk.specs.Moved.{Leaves}
 use Rattle.col_disk.specs.declared.disk.Disk.{Ghosts}
 use Rattle.col_disk.specs.declared.disk.StoreFault.{StoreFault}
@@ -18,11 +19,12 @@ use Rattle.store_step.proofs.Unblamed.{reopening_unblamed}
 use Rattle.store_step.specs.Steps.{EndedAs, Ends}
 use Rattle.vert_cli.specs.declared.faults.RunFault.{RunFault}
 use Rattle.vert_cli.specs.Statements.{fault_of}
-use Rattle.vert_cli.specs.Runs.{setting_of, RanWhole, StopsInEnd, StopsInNext, StoppedAt, CutInText, TakesMore, IsOnTheWay, RanText, RanTexts}
-use Rattle.vert_cli.specs.Ends.{IsOpenable, StartsWith, OpenedEnd, CutInRun}
+use Rattle.vert_cli.specs.Statuses.{status_of, status_of_run}
+use Rattle.vert_cli.specs.Runs.{setting_of, StopsInEnd, StopsInNext, RanAndStopped, CutInText, TakesMore, IsOnTheWay, RanText, RanTexts}
+use Rattle.vert_cli.specs.Ends.{IsOpenable, IsStart, RunEnds, RunLeaves}
 use Rattle.vert_cli.proofs.Taking.{first_all, first_more}
 use Rattle.vert_cli.proofs.Cuts.{leaves_still, left_now, images_from, images_reopen, on_the_way, on_the_way_still, begun, ended}
-use Rattle.vert_cli.proofs.Running.{whole_none, whole_next, stopped_next, rest_is}
+use Rattle.vert_cli.proofs.Running.{RanWhole, whole_none, whole_next, stopped_next, rest_is}
 
 -- ---- the texts of a script, one after the other
 
@@ -78,7 +80,9 @@ pub so_far_all : {D : Type 0} (disk : Ghosts D) {X : Type 0} (f : X → List ℕ
 so_far_all disk f spans i setting is old now start refused before after all so_far = record {
   done = (
     so_far.mid,
-    subst (λ (texts : List (List ℕ)). RanWhole setting start texts refused so_far.mid before after) (take_all i (map f spans) (omega (arith, all, length-map spans f))) so_far.whole,
+    so_far.whole.printed,
+    subst (λ (texts : List (List ℕ)). RunTexts setting start texts so_far.whole.printed refused so_far.mid) (take_all i (map f spans) (omega (arith, all, length-map spans f))) so_far.whole.ran,
+    so_far.whole.taken,
     so_far.stands,
   );
   stopped = tt;
@@ -89,62 +93,68 @@ so_far_all disk f spans i setting is old now start refused before after all so_f
 
 -- the folder didn't open, and is none that reopens
 pub not_opened : {D : Type 0} (disk : Ghosts D) (setting : Setting) (d : Database) (texts : List (List ℕ)) (old now : D) (fault : StoreFault) (told : Option (List ℕ))
-    → IsOpenable disk old d → BlamesOpening (disk.holds old) fault → Leaves disk (IsStill disk old d) old now → OpenedEnd (Err (fault_of fault)) disk setting d texts old now told told
-not_opened disk setting d texts old now StoreFault.Disk told openable blamed leaves = inl (record { fault = inl refl; untaken = refl; left = left_now disk leaves })
+    → IsOpenable disk old d → BlamesOpening (disk.holds old) fault → Leaves disk (IsStill disk old d) old now → RunEnds (status_of (fault_of fault)) disk setting d texts old now told told
+not_opened disk setting d texts old now StoreFault.Disk told openable blamed leaves = inr (record { why = inr (inl refl); untaken = refl; left = left_now disk leaves })
 not_opened disk setting d texts old now (StoreFault.Damaged q) told openable blamed leaves = absurd (reopening_unblamed (disk.holds old) openable.files d q openable.told openable.reopens blamed)
-not_opened disk setting d texts old now StoreFault.Memory told openable blamed leaves = inl (record { fault = inr refl; untaken = refl; left = left_now disk leaves })
+not_opened disk setting d texts old now StoreFault.Memory told openable blamed leaves = inr (record { why = inl refl; untaken = refl; left = left_now disk leaves })
 
--- what the disk was told to hold it holds
-pub starts_with : {D : Type 0} (disk : Ghosts D) (m : Contents) (old : D) (next parts : ℕ) → disk.holds old ≡ Some m → IsStartOf m next parts → StartsWith disk old next parts
-starts_with disk m old next parts told is = λ n other. subst (λ (x : Contents). IsStartOf x next parts) (ap (λ (o : Option Contents). unwrap_or o m) (sym told ∙ other)) is
+-- the state with which it opened
+pub starts_with : {D : Type 0} (disk : Ghosts D) (m : Contents) (old : D) (d : Database) (next parts : ℕ) → disk.holds old ≡ Some m → IsStartOf m next parts → IsStart disk old d (opened_with next parts d)
+starts_with disk m old d next parts told is = record { files = m; told = told; next = next; parts = parts; numbers = is; start_is = refl }
 
 -- ---- some texts ran
 
-pub texts_stopped : {D : Type 0} (disk : Ghosts D) (setting : Setting) (d : Database) (texts : List (List ℕ)) (next parts : ℕ) (is : Running) (old mid now : D) (fault : RunFault) (before after : Option (List ℕ))
-    → StartsWith disk old next parts → RanTexts disk setting texts is mid now (Err fault) (opened_with next parts d) before after → OpenedEnd (Err fault) disk setting d texts old now before after
-texts_stopped disk setting d texts next parts is old mid now fault before after starts ran = inr (next, parts, starts, ran.stopped)
+pub texts_stopped : {D : Type 0} (disk : Ghosts D) (setting : Setting) (d : Database) (texts : List (List ℕ)) (start : State) (is : Running) (old mid now : D) (fault : RunFault) (before after : Option (List ℕ))
+    → IsStart disk old d start → RanTexts disk setting texts is mid now (Err fault) start before after → RunEnds (status_of fault) disk setting d texts old now before after
+texts_stopped disk setting d texts start is old mid now fault before after starts ran = inl (start, starts, inr ran.stopped)
 
 -- ---- all texts ran
 
 -- a run that halts
-pub texts_halted : {D : Type 0} (disk : Ghosts D) (files : Files) (steps : ℕ) (halts : Bool) (d : Database) (texts : List (List ℕ)) (next parts : ℕ) (is : Running) (old mid now : D) (refused : Bool) (before after : Option (List ℕ))
-    → StartsWith disk old next parts → halts ≡ true → RanTexts disk (setting_of files steps halts) texts is mid now (Ok refused) (opened_with next parts d) before after
-    → OpenedEnd (Ok refused) disk (setting_of files steps halts) d texts old now before after
-texts_halted disk files steps halts d texts next parts is old mid now refused before after starts halt ran =
-    let (state, whole, here) = ran.done in
-    inr (
-      next,
-      parts,
+pub texts_halted : {D : Type 0} (disk : Ghosts D) (files : Files) (steps : ℕ) (halts : Bool) (d : Database) (texts : List (List ℕ)) (start : State) (is : Running) (old mid now : D) (refused : Bool) (before after : Option (List ℕ))
+    → IsStart disk old d start → halts ≡ true → RanTexts disk (setting_of files steps halts) texts is mid now (Ok refused) start before after
+    → RunEnds (status_of_run refused) disk (setting_of files steps halts) d texts old now before after
+texts_halted disk files steps halts d texts start is old mid now refused before after starts halt ran =
+    let (state, printed, texts_ran, taken, here) = ran.done in
+    inl (
+      start,
       starts,
-      record {
+      inl (record {
+        refused = refused;
+        status_is = refl;
+        printed = printed;
         mid = state;
-        ran = whole;
+        ran = texts_ran;
+        taken = taken;
         new = state;
         ends = subst (λ (b : Bool). EndsUnless b state state) (sym halt) refl;
         left = images_reopen disk now is state here;
-      },
+      }),
     )
 
 -- a run that comes to its end
-pub texts_ended : {D : Type 0} (disk : Ghosts D) (files : Files) (steps : ℕ) (halts : Bool) (d : Database) (texts : List (List ℕ)) (next parts : ℕ) (is : Running) (old mid now new : D) (refused : Bool) (u : Unit {0}) (before after : Option (List ℕ))
-    → StartsWith disk old next parts → halts ≡ false → RanTexts disk (setting_of files steps halts) texts is mid now (Ok refused) (opened_with next parts d) before after
+pub texts_ended : {D : Type 0} (disk : Ghosts D) (files : Files) (steps : ℕ) (halts : Bool) (d : Database) (texts : List (List ℕ)) (start : State) (is : Running) (old mid now new : D) (refused : Bool) (u : Unit {0}) (before after : Option (List ℕ))
+    → IsStart disk old d start → halts ≡ false → RanTexts disk (setting_of files steps halts) texts is mid now (Ok refused) start before after
     → ((state : State) → IsState disk is now state → (last : Running) × Ends disk last now new (Ok u) state)
-    → OpenedEnd (Ok refused) disk (setting_of files steps halts) d texts old new before after
-texts_ended disk files steps halts d texts next parts is old mid now new refused u before after starts halt ran ends =
-    let (state, whole, here) = ran.done in
+    → RunEnds (status_of_run refused) disk (setting_of files steps halts) d texts old new before after
+texts_ended disk files steps halts d texts start is old mid now new refused u before after starts halt ran ends =
+    let (state, printed, texts_ran, taken, here) = ran.done in
     let (last, end) = ends state here in
     let (after_end, ended_as, there) = end.done in
-    inr (
-      next,
-      parts,
+    inl (
+      start,
       starts,
-      record {
+      inl (record {
+        refused = refused;
+        status_is = refl;
+        printed = printed;
         mid = state;
-        ran = whole;
+        ran = texts_ran;
+        taken = taken;
         new = after_end;
         ends = subst (λ (b : Bool). EndsUnless b state after_end) (sym halt) ended_as;
         left = images_reopen disk new last after_end there;
-      },
+      }),
     )
 
 -- the end failed
@@ -155,62 +165,64 @@ end_stops disk last now new state told StoreFault.Memory end =
     let (after, kept, there) = end.undone refl in
     record { untaken = refl; new = after; kept = kept; left = images_reopen disk new last after there }
 
-stopped_end : {D : Type 0} (disk : Ghosts D) (setting : Setting) (start state : State) (texts : List (List ℕ)) (refused : Bool) (now : D) (before after : Option (List ℕ)) (fault : RunFault)
-    → setting.halts ≡ false → RanWhole setting start texts refused state before after → StopsInEnd disk state now after after fault → StoppedAt disk setting start texts now before after fault
-stopped_end disk setting start state texts refused now before after fault ends whole stops = record {
+stopped_end : {D : Type 0} (disk : Ghosts D) (setting : Setting) (start state : State) (texts : List (List ℕ)) (printed : List ℕ) (refused : Bool) (now : D) (before after : Option (List ℕ)) (fault : RunFault)
+    → setting.halts ≡ false → RunTexts setting start texts printed refused state → Appends before after printed → StopsInEnd disk state now after after fault → RanAndStopped (status_of fault) disk setting start texts now before after
+stopped_end disk setting start state texts printed refused now before after fault ends ran taken stops = record {
+  fault = fault;
+  status_is = refl;
   count = length texts;
+  printed = printed;
   refused = refused;
   mid = state;
   between = after;
-  ran = subst (λ (some : List (List ℕ)). RanWhole setting start some refused state before after) (sym (take_all (length texts) texts (omega arith))) whole;
+  ran = subst (λ (some : List (List ℕ)). RunTexts setting start some printed refused state) (sym (take_all (length texts) texts (omega arith))) ran;
+  taken = taken;
   stops = subst (λ (some : List (List ℕ)). StopsInNext disk setting state some now after after fault) (sym (drop_all (length texts) texts (omega arith))) (ends, stops);
 }
 
-pub end_failed : {D : Type 0} (disk : Ghosts D) (files : Files) (steps : ℕ) (halts : Bool) (d : Database) (texts : List (List ℕ)) (next parts : ℕ) (is : Running) (old mid now new : D) (refused : Bool) (fault : StoreFault) (before after : Option (List ℕ))
-    → StartsWith disk old next parts → halts ≡ false → RanTexts disk (setting_of files steps halts) texts is mid now (Ok refused) (opened_with next parts d) before after
+pub end_failed : {D : Type 0} (disk : Ghosts D) (files : Files) (steps : ℕ) (halts : Bool) (d : Database) (texts : List (List ℕ)) (start : State) (is : Running) (old mid now new : D) (refused : Bool) (fault : StoreFault) (before after : Option (List ℕ))
+    → IsStart disk old d start → halts ≡ false → RanTexts disk (setting_of files steps halts) texts is mid now (Ok refused) start before after
     → ((state : State) → IsState disk is now state → (last : Running) × Ends disk last now new (Err fault) state)
-    → OpenedEnd (Err (fault_of fault)) disk (setting_of files steps halts) d texts old new before after
-end_failed disk files steps halts d texts next parts is old mid now new refused fault before after starts halt ran ends =
-    let (state, whole, here) = ran.done in
+    → RunEnds (status_of (fault_of fault)) disk (setting_of files steps halts) d texts old new before after
+end_failed disk files steps halts d texts start is old mid now new refused fault before after starts halt ran ends =
+    let (state, printed, texts_ran, taken, here) = ran.done in
     let (last, end) = ends state here in
-    inr (
-      next,
-      parts,
+    inl (
+      start,
       starts,
-      stopped_end disk (setting_of files steps halts) (opened_with next parts d) state texts refused new before after (fault_of fault) halt whole (end_stops disk last now new state after fault end),
+      inr (stopped_end disk (setting_of files steps halts) start state texts printed refused new before after (fault_of fault) halt texts_ran taken (end_stops disk last now new state after fault end)),
     )
 
 -- ---- what a crash leaves
 
 pub opening_leaves : {D : Type 0} (disk : Ghosts D) (setting : Setting) (d : Database) (texts : List (List ℕ)) (old now : D) (before after : Option (List ℕ)) → Leaves disk (IsStill disk old d) old now
-    → Leaves disk (CutInRun disk old setting d texts before after) old now
+    → Leaves disk (RunLeaves disk old setting d texts before after) old now
 opening_leaves disk setting d texts old now before after leaves = leaves_wider disk (λ x still. inl still) leaves
 
-pub texts_leave : {D : Type 0} (disk : Ghosts D) (setting : Setting) (d : Database) (texts : List (List ℕ)) (next parts : ℕ) (old mid now : D) (before after : Option (List ℕ))
-    → StartsWith disk old next parts → Leaves disk (IsStill disk old d) old mid → Leaves disk (IsOnTheWay setting (opened_with next parts d) texts before after) mid now → Leaves disk (CutInRun disk old setting d texts before after) old now
-texts_leave disk setting d texts next parts old mid now before after starts first second =
-    leaves_join disk (opening_leaves disk setting d texts old mid before after first) (leaves_wider disk (λ x way. inr (next, parts, starts, way)) second)
+pub texts_leave : {D : Type 0} (disk : Ghosts D) (setting : Setting) (d : Database) (texts : List (List ℕ)) (start : State) (old mid now : D) (before after : Option (List ℕ))
+    → IsStart disk old d start → Leaves disk (IsStill disk old d) old mid → Leaves disk (IsOnTheWay setting start texts before after) mid now → Leaves disk (RunLeaves disk old setting d texts before after) old now
+texts_leave disk setting d texts start old mid now before after starts first second =
+    leaves_join disk (opening_leaves disk setting d texts old mid before after first) (leaves_wider disk (λ x way. inr (start, starts, way)) second)
 
-pub end_leaves : {D : Type 0} (disk : Ghosts D) (files : Files) (steps : ℕ) (halts : Bool) (d : Database) (texts : List (List ℕ)) (next parts : ℕ) (is : Running) (old mid now new : D) (refused : Bool) (result : Result (Unit {0}) StoreFault) (before after : Option (List ℕ))
-    → StartsWith disk old next parts → halts ≡ false → Leaves disk (IsStill disk old d) old mid → RanTexts disk (setting_of files steps halts) texts is mid now (Ok refused) (opened_with next parts d) before after
+pub end_leaves : {D : Type 0} (disk : Ghosts D) (files : Files) (steps : ℕ) (halts : Bool) (d : Database) (texts : List (List ℕ)) (start : State) (is : Running) (old mid now new : D) (refused : Bool) (result : Result (Unit {0}) StoreFault) (before after : Option (List ℕ))
+    → IsStart disk old d start → halts ≡ false → Leaves disk (IsStill disk old d) old mid → RanTexts disk (setting_of files steps halts) texts is mid now (Ok refused) start before after
     → ((state : State) → IsState disk is now state → (last : Running) × Ends disk last now new result state)
-    → Leaves disk (CutInRun disk old (setting_of files steps halts) d texts before after) old new
-end_leaves disk files steps halts d texts next parts is old mid now new refused result before after starts halt opening ran ends =
-    let (state, whole, here) = ran.done in
+    → Leaves disk (RunLeaves disk old (setting_of files steps halts) d texts before after) old new
+end_leaves disk files steps halts d texts start is old mid now new refused result before after starts halt opening ran ends =
+    let (state, printed, texts_ran, taken, here) = ran.done in
     let (last, end) = ends state here in
-    leaves_join disk (texts_leave disk (setting_of files steps halts) d texts next parts old mid now before after starts opening ran.any_moment)
-    (leaves_wider disk (way state whole) end.any_moment)
+    leaves_join disk (texts_leave disk (setting_of files steps halts) d texts start old mid now before after starts opening ran.any_moment)
+    (leaves_wider disk (way state printed texts_ran taken) end.any_moment)
   where
     cut : (state : State) (x : Contents) → CutBeforeOrAfter state (EndedAs state) x → CutBeforeOrAfter state (EndsUnless halts state) x
     cut state x left = subst (λ (b : Bool). CutBeforeOrAfter state (EndsUnless b state) x) (sym halt) left
 
-    way : (state : State) → RanWhole (setting_of files steps halts) (opened_with next parts d) texts refused state before after → (x : Contents) → CutBeforeOrAfter state (EndedAs state) x
-        → CutInRun disk old (setting_of files steps halts) d texts before after x
-    way state whole x left = inr (
-      next,
-      parts,
+    way : (state : State) (printed : List ℕ) → RunTexts (setting_of files steps halts) start texts printed refused state → Appends before after printed → (x : Contents) → CutBeforeOrAfter state (EndedAs state) x
+        → RunLeaves disk old (setting_of files steps halts) d texts before after x
+    way state printed texts_ran taken x left = inr (
+      start,
       starts,
-      ended (setting_of files steps halts) (opened_with next parts d) state texts (length texts) whole.printed refused before after
-          (subst (λ (some : List (List ℕ)). RunTexts (setting_of files steps halts) (opened_with next parts d) some whole.printed refused state) (sym (take_all (length texts) texts (omega arith))) whole.ran)
-          (first_all before after whole.printed whole.taken) (drop_all (length texts) texts (omega arith)) x (cut state x left),
+      ended (setting_of files steps halts) start state texts (length texts) printed refused before after
+          (subst (λ (some : List (List ℕ)). RunTexts (setting_of files steps halts) start some printed refused state) (sym (take_all (length texts) texts (omega arith))) texts_ran)
+          (first_all before after printed taken) (drop_all (length texts) texts (omega arith)) x (cut state x left),
     )

@@ -4,7 +4,8 @@ use Rattle.std.specs.Prelude.{filter}
 use Rattle.std.proofs.lemmas.List.{length-map}
 use Rattle.sql_words.specs.Texts.{cut, ends_behind, has_token, part_size, spans_to, statement_spans, statement_texts}
 use Rattle.generated_load.specs.Load.{generated_script}
-use Rattle.vert_cli.specs.Ends.{IsWithinLimits}
+use Rattle.vert_cli.specs.Asked.{is_within_limits}
+use Rattle.vert_cli.proofs.Limits.{within_limits}
 
 few_ends : (skip at : ℕ) (text : List ℕ) → length (ends_behind skip at text) ≤ length text + 1
 few_ends skip at [] = omega arith
@@ -36,8 +37,14 @@ few_texts script =
     let ends = few_ends 0 0 script in
     omega (arith, same, left, spans, ends)
 
-within_where_short : (script : List ℕ) → length script ≤ 4095 → IsWithinLimits script
-within_where_short script short = record { bytes = omega (arith, short); statements = omega (arith, few_texts script, short) }
+within_where_short : (script : List ℕ) → length script ≤ 4095 → is_within_limits script ≡ true
+within_where_short script short = within_limits script (omega (arith, short)) (omega (arith, few_texts script, short))
 
-pub generated_within : IsWithinLimits generated_script
-generated_within = within_where_short generated_script (omega arith)
+generated_length : length generated_script ≤ 4095
+generated_length = omega arith
+
+pub generated_bytes : length generated_script ≤ 67108864
+generated_bytes = omega (arith, generated_length)
+
+pub generated_within : is_within_limits generated_script ≡ true
+generated_within = within_where_short generated_script generated_length

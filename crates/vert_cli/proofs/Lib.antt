@@ -3,6 +3,7 @@ pub mod Cuts
 pub mod Running
 pub mod Executing
 pub mod Ending
+pub mod Limits
 pub mod FewTexts
 pub mod Audited
 pub mod Serving

@@ -8,7 +8,7 @@ use Rattle.vert_cli.specs.declared.faults.RunFault.{RunFault}
 use Rattle.vert_cli.specs.declared.faults.Status.{Status}
 use Rattle.vert_cli.specs.Audits.{IsAuditStatus}
 use Rattle.vert_cli.specs.Blamed.{NamesFile}
-use Rattle.vert_cli.specs.Ends.{status_of_end}
+use Rattle.vert_cli.specs.Statuses.{status_of_end}
 use Rattle.vert_cli.specs.Statements.{fault_of}
 
 abbrev stopped_by : RunFault → Result Bool RunFault

@@ -13,7 +13,14 @@ use Rattle.db_model.specs.Mover.{MoverRuns}
 use Rattle.db_model.specs.Run.{Setting, Passes, RunTexts}
 use Rattle.vert_cli.specs.declared.faults.RunFault.{RunFault}
 use Rattle.vert_cli.specs.Statements.{Answered}
-use Rattle.vert_cli.specs.Runs.{RanWhole, StopsInNext, StopsInText, StoppedAt, setting_of}
+use Rattle.vert_cli.specs.Statuses.{status_of}
+use Rattle.vert_cli.specs.Runs.{StopsInNext, StopsInText, RanAndStopped, setting_of}
+
+-- all of these texts ran, and the sink took exactly their text
+pub record RanWhole (setting : Setting) (old : State) (texts : List (List ℕ)) (refused : Bool) (new : State) (before after : Option (List ℕ)) : Type 0 where
+  pub printed : List ℕ
+  pub ran : RunTexts setting old texts printed refused new
+  pub taken : Appends before after printed
 
 or_false : (b : Bool) → b ≡ (b || false)
 or_false true = refl
@@ -83,13 +90,17 @@ in_more disk setting mid text more now before after fault stops = stops
 -- of the texts of some spans the next one stopped
 pub stopped_next : {D : Type 0} (disk : Ghosts D) {X : Type 0} (f : X → List ℕ) (spans : List X) (i : ℕ) (d : X) (setting : Setting) (old mid : State) (refused : Bool) (now : D) (before between after : Option (List ℕ)) (fault : RunFault)
     → i < length spans → RanWhole setting old (take i (map f spans)) refused mid before between → StopsInText disk setting mid (f (get_or spans i d)) now between after fault
-    → StoppedAt disk setting old (map f spans) now before after fault
+    → RanAndStopped (status_of fault) disk setting old (map f spans) now before after
 stopped_next disk f spans i d setting old mid refused now before between after fault below whole stops = record {
+  fault = fault;
+  status_is = refl;
   count = i;
+  printed = whole.printed;
   refused = refused;
   mid = mid;
   between = between;
-  ran = whole;
+  ran = whole.ran;
+  taken = whole.taken;
   stops = subst (λ (texts : List (List ℕ)). StopsInNext disk setting mid texts now between after fault) (sym (rest_is f spans i d below))
       (in_more disk setting mid (f (get_or spans i d)) (drop (i + 1) (map f spans)) now between after fault stops);
 }

@@ -1,9 +1,8 @@
--- How a run begins and ends, by its words and by what the files have.
-use Rattle.std.proofs.Common.{ℕ, ◌≡◌, ◌∙◌, ◌≤◌, ◌<◌, inl, inr, Bool, true, false, List, [], ◌∷◌, drop, length, refl, sym, ap, subst, arith}
-use Rattle.std.specs.Prelude.{◌⊎◌, Option, Some, None, IfSome, Result, Ok, Err}
+-- How a run begins and ends, by what it is asked for.
+use Rattle.std.proofs.Common.{ℕ, ◌≡◌, ◌∙◌, ◌≤◌, ◌<◌, inl, inr, Bool, true, false, List, [], ◌∷◌, drop, length, refl, sym, ap, subst}
+use Rattle.std.specs.Prelude.{◌⊎◌, if◌then◌else◌, Option, Some, None, IfSome, option_map, Result, Ok, Err}
 use Rattle.common_laws.specs.Causes.{Rose}
-use Rattle.common_laws.specs.Maps.{Contents}
-use Rattle.col_disk.specs.Moved.{ImageOf, Leaves}
+use Rattle.col_disk.specs.Moved.{Leaves}
 use Rattle.col_disk.specs.declared.disk.Disk.{Ghosts}
 use Rattle.col_io.specs.Files.{Finds}
 use Rattle.col_io.specs.declared.reading.Got.{Got}
@@ -13,16 +12,18 @@ use Rattle.db_model.specs.Database.{Database}
 use Rattle.db_model.specs.State.{State}
 use Rattle.db_model.specs.Loading.{Files}
 use Rattle.db_model.specs.Run.{Setting}
-use Rattle.store_step.specs.Opening.{IsStill}
-use Rattle.generated_load.specs.Load.{generated_script}
+use Rattle.run_words.specs.Words.{Source, from_file, generated, ScriptRun, Wanted, runs, audits}
+use Rattle.generated_load.specs.Load.{generated_files, generated_script}
 use Rattle.vert_cli.specs.declared.faults.RunFault.{RunFault}
 use Rattle.vert_cli.specs.declared.faults.Status.{Status}
-use Rattle.run_words.specs.Words.{Source, from_file, generated, ScriptRun, Wanted, runs, audits}
+use Rattle.vert_cli.specs.Statuses.{status_of, status_of_end, NeverBegins}
 use Rattle.vert_cli.specs.Runs.{setting_of, StopsInNext}
-use Rattle.vert_cli.specs.Ends.{status_of_end, NeverBegins, IsIdle, OpenedEnd, CutInRun, IsWithinLimits, IsOverLimits, IsServed, IsLarge, IsUnbegun, ScriptBegins, ScriptEnds, CutInScript, script_of, RunBegins, RunEnds, RunLeaves, IsAbsent, IsTooLarge, IsServableFrom, IsServable, ExactlyWhere, Counts, IsAnswered}
-use Rattle.vert_cli.proofs.Audited.{image_untouched}
+use Rattle.vert_cli.specs.Asked.{Asked, misused, audit, absent, large, statements, is_within_limits, asked_by, asked_from, asked}
+use Rattle.vert_cli.specs.Audits.{IsAuditStatus}
+use Rattle.vert_cli.specs.Ends.{IsIdle, IsOpenable, RunBegins, RunEnds, RunLeaves, Counts, IsAnswered, RanAs}
 use Rattle.vert_cli.proofs.Cuts.{leaves_still}
 use Rattle.vert_cli.proofs.FewTexts.{generated_within}
+use Rattle.vert_cli.proofs.Limits.{within_limits, over_bytes, over_many, over_limits, in_limits}
 
 -- ---- the status of a run that began
 
@@ -90,56 +91,119 @@ true_false is = absurd (cc)
 pub never_begun : (ended : Result Bool RunFault) (status : Status) → status ≡ status_of_end ended → NeverBegins status → ⊥
 never_begun ended status is never = true_false (sym (end_begun ended) ∙ sym (ap is_begun is) ∙ not_begun status never)
 
+pub never_misused : (ended : Result Bool RunFault) (status : Status) → status ≡ status_of_end ended → status ≡ Status.Usage → ⊥
+never_misused ended status is same = never_begun ended status is (inl same)
+
+-- ---- what is asked for
+
+-- what holds of the statements that are asked for
+abbrev OfStatements : (Setting → List (List ℕ) → Type 0) → Asked → Type 0
+OfStatements P misused = ⊥
+OfStatements P audit = ⊥
+OfStatements P absent = ⊥
+OfStatements P large = ⊥
+OfStatements P (statements setting texts) = P setting texts
+
+of_same : (P : Setting → List (List ℕ) → Type 0) (setting other : Setting) (texts others : List (List ℕ)) → statements setting texts ≡ statements other others → P setting texts → P other others
+of_same P setting other texts others is holds = subst (OfStatements P) is holds
+
+pub large_many : (setting : Setting) (script : List ℕ) → 4096 < length (statement_texts script) → asked_by setting (Some script) ≡ large
+large_many setting script many = over_limits setting script (over_many script many)
+
 -- ---- a run that doesn't begin
 
 idle : {D : Type 0} (now : D) (told : Option (List ℕ)) → IsIdle now now told told
 idle now told = record { disk = refl; sink = refl }
 
-pub unbegun : {D : Type 0} (now : D) (told : Option (List ℕ)) (held : Option (List ℕ)) (status : Status) → IsUnbegun status held → ScriptBegins status held now now told told
-unbegun now told held status why = inl (why, idle now told)
+-- where the disk wasn't called, what it leaves is what it would have left
+still_leaves : {D : Type 0} (disk : Ghosts D) (setting : Setting) (d : Database) (texts : List (List ℕ)) (now : D) (before after : Option (List ℕ)) → Leaves disk (RunLeaves disk now setting d texts before after) now now
+still_leaves disk setting d texts now before after = leaves_still disk now (λ x image. inl (inl image))
 
-pub unbegun_ends : {D : Type 0} (disk : Ghosts D) (setting : Setting) (d : Database) (now : D) (told : Option (List ℕ)) (held : Option (List ℕ)) (status : Status)
-    → IsUnbegun status held → ScriptEnds status disk setting d held now now told told
-unbegun_ends disk setting d now told held status why = inl (why, idle now told)
+-- want of memory comes whatever is asked for
+short_begins : {D : Type 0} (what : Asked) (now : D) (told : Option (List ℕ)) → RunBegins Status.Memory what now now told told
+short_begins misused now told = (inr refl, idle now told)
+short_begins audit now told = tt
+short_begins absent now told = (inr (inl refl), idle now told)
+short_begins large now told = (inr (inl refl), idle now told)
+short_begins (statements setting texts) now told = (Err RunFault.Memory, refl)
 
-pub short : (held : Option (List ℕ)) → IsUnbegun Status.Memory held
-short held = inr (inr (inl refl))
+pub short : {D : Type 0} (disk : Ghosts D) (what : Asked) (now : D) (told : Option (List ℕ)) → RanAs Status.Memory disk what now now told told
+short disk what now told = record {
+  begins = short_begins what now told;
+  ends = λ setting texts d is openable. inr (record { why = inl refl; untaken = refl; left = λ x image. inl image });
+  any_moment = λ setting texts d is openable. still_leaves disk setting d texts now told told;
+}
 
-pub unread : (held : Option (List ℕ)) → IsUnbegun Status.ReadFault held
-unread held = inr (inr (inr refl))
+-- so does a file that couldn't be read, where a script is
+unread_begins : {D : Type 0} (setting : Setting) (held : Option (List ℕ)) (now : D) (told : Option (List ℕ)) → RunBegins Status.ReadFault (asked_by setting held) now now told told
+unread_begins setting None now told = (inr (inr refl), idle now told)
+unread_begins setting (Some script) now told = by (is_within_limits script)
+  where
+    by : (b : Bool) → RunBegins Status.ReadFault (if b then statements setting (statement_texts script) else large) now now told told
+    by true = (Err RunFault.Read, refl)
+    by false = (inr (inr refl), idle now told)
 
-pub absent : (held : Option (List ℕ)) → held ≡ None → IsUnbegun Status.NoScript held
-absent held none = inl (refl, none)
+pub unread : {D : Type 0} (disk : Ghosts D) (setting : Setting) (held : Option (List ℕ)) (now : D) (told : Option (List ℕ)) → RanAs Status.ReadFault disk (asked_by setting held) now now told told
+unread disk setting held now told = record {
+  begins = unread_begins setting held now told;
+  ends = λ other texts d is openable. inr (record { why = inr (inr (refl, refl)); untaken = refl; left = λ x image. inl image });
+  any_moment = λ other texts d is openable. still_leaves disk other d texts now told told;
+}
 
-pub large : (held : Option (List ℕ)) → IsLarge held → IsUnbegun Status.TooLarge held
-large held over = inr (inl (refl, over))
+absent_run : {D : Type 0} (disk : Ghosts D) (now : D) (told : Option (List ℕ)) → RanAs Status.NoScript disk absent now now told told
+absent_run disk now told = record {
+  begins = (inl refl, idle now told);
+  ends = λ setting texts d is openable. absurd (cc);
+  any_moment = λ setting texts d is openable. still_leaves disk setting d texts now told told;
+}
 
-pub large_many : (script : List ℕ) → 4096 < length (statement_texts script) → IsLarge (Some script)
-large_many script many = (script, refl, inr many)
+pub no_script : {D : Type 0} (disk : Ghosts D) (setting : Setting) (held : Option (List ℕ)) (now : D) (told : Option (List ℕ)) → held ≡ None → RanAs Status.NoScript disk (asked_by setting held) now now told told
+no_script disk setting held now told none = subst (λ (h : Option (List ℕ)). RanAs Status.NoScript disk (asked_by setting h) now now told told) (sym none) (absent_run disk now told)
 
--- ---- the texts are those of the script
+large_run : {D : Type 0} (disk : Ghosts D) (now : D) (told : Option (List ℕ)) → RanAs Status.TooLarge disk large now now told told
+large_run disk now told = record {
+  begins = (inl refl, idle now told);
+  ends = λ setting texts d is openable. absurd (cc);
+  any_moment = λ setting texts d is openable. still_leaves disk setting d texts now told told;
+}
 
-pub texts_left : {D : Type 0} (disk : Ghosts D) (setting : Setting) (d : Database) (script : List ℕ) (texts : List (List ℕ)) (old new : D) (before after : Option (List ℕ))
-    → texts ≡ statement_texts script → Leaves disk (CutInRun disk old setting d texts before after) old new → Leaves disk (CutInRun disk old setting d (statement_texts script) before after) old new
-texts_left disk setting d script texts old new before after is leaves = subst (λ (ts : List (List ℕ)). Leaves disk (CutInRun disk old setting d ts before after) old new) is leaves
+pub too_large : {D : Type 0} (disk : Ghosts D) (what : Asked) (now : D) (told : Option (List ℕ)) → what ≡ large → RanAs Status.TooLarge disk what now now told told
+too_large disk what now told is = subst (λ (w : Asked). RanAs Status.TooLarge disk w now now told told) (sym is) (large_run disk now told)
 
-within : (script : List ℕ) → length script ≤ 67108864 → length (statement_texts script) ≤ 4096 → IsServed (Some script) script
-within script bytes few = record { there = refl; limits = record { bytes = bytes; statements = few } }
+misused_run : {D : Type 0} (disk : Ghosts D) (now : D) (told : Option (List ℕ)) → RanAs Status.Usage disk misused now now told told
+misused_run disk now told = record {
+  begins = (inl refl, idle now told);
+  ends = λ setting texts d is openable. absurd (cc);
+  any_moment = λ setting texts d is openable. still_leaves disk setting d texts now told told;
+}
 
-pub served_begins : {D : Type 0} (script : List ℕ) (old now : D) (before after : Option (List ℕ)) (status : Status) (ended : Result Bool RunFault)
-    → length script ≤ 67108864 → length (statement_texts script) ≤ 4096 → status ≡ status_of_end ended → ScriptBegins status (Some script) old now before after
-served_begins script old now before after status ended bytes few is = inr (script, within script bytes few, (ended, is))
+-- ---- an audit
 
-pub served_ends : {D : Type 0} (disk : Ghosts D) (setting : Setting) (d : Database) (script : List ℕ) (texts : List (List ℕ)) (old now : D) (before after : Option (List ℕ)) (status : Status) (ended : Result Bool RunFault)
-    → length script ≤ 67108864 → length (statement_texts script) ≤ 4096 → status ≡ status_of_end ended → texts ≡ statement_texts script → OpenedEnd ended disk setting d texts old now before after
-    → ScriptEnds status disk setting d (Some script) old now before after
-served_ends disk setting d script texts old now before after status ended bytes few is texts_are ends = inr (record {
-  script = script;
-  served = within script bytes few;
-  ended = ended;
-  status_is = is;
-  ends = subst (λ (ts : List (List ℕ)). OpenedEnd ended disk setting d ts old now before after) texts_are ends;
-})
+audit_run : {D : Type 0} (disk : Ghosts D) (old now : D) (before after : Option (List ℕ)) (status : Status) → IsAuditStatus status → RanAs status disk audit old now before after
+audit_run disk old now before after status is = record { begins = is; ends = λ setting texts d same openable. absurd (cc); any_moment = λ setting texts d same openable. absurd (cc) }
+
+-- ---- a script that is there
+
+served_run : {D : Type 0} (disk : Ghosts D) (setting : Setting) (texts : List (List ℕ)) (old now : D) (before after : Option (List ℕ)) (ended : Result Bool RunFault)
+    → ((d : Database) → IsOpenable disk old d → RunEnds (status_of_end ended) disk setting d texts old now before after)
+    → ((d : Database) → IsOpenable disk old d → Leaves disk (RunLeaves disk old setting d texts before after) old now)
+    → RanAs (status_of_end ended) disk (statements setting texts) old now before after
+served_run disk setting texts old now before after ended ends leaves = record {
+  begins = (ended, refl);
+  ends = λ other others d is openable. of_same (λ s ts. RunEnds (status_of_end ended) disk s d ts old now before after) setting other texts others is (ends d openable);
+  any_moment = λ other others d is openable. of_same (λ s ts. Leaves disk (RunLeaves disk old s d ts before after) old now) setting other texts others is (leaves d openable);
+}
+
+pub served : {D : Type 0} (disk : Ghosts D) (setting : Setting) (script : List ℕ) (texts : List (List ℕ)) (old now : D) (before after : Option (List ℕ)) (status : Status) (ended : Result Bool RunFault)
+    → length script ≤ 67108864 → length texts ≤ 4096 → status ≡ status_of_end ended → texts ≡ statement_texts script
+    → ((d : Database) → IsOpenable disk old d → RunEnds (status_of_end ended) disk setting d texts old now before after)
+    → ((d : Database) → IsOpenable disk old d → Leaves disk (RunLeaves disk old setting d texts before after) old now)
+    → RanAs status disk (asked_by setting (Some script)) old now before after
+served disk setting script texts old now before after status ended bytes few is texts_are ends leaves =
+    let within = within_limits script bytes (subst (λ (ts : List (List ℕ)). length ts ≤ 4096) texts_are few) in
+    subst (λ (w : Asked). RanAs status disk w old now before after) (ap (statements setting) texts_are ∙ sym (in_limits setting script within))
+    (subst (λ (s : Status). RanAs s disk (statements setting texts) old now before after) (sym is)
+    (served_run disk setting texts old now before after ended ends leaves))
 
 -- ---- the script is what the files have
 
@@ -157,196 +221,106 @@ pub found_absent : (held : Option (List ℕ)) (max : ℕ) → Finds held max Abs
 found_absent None max found = refl
 found_absent (Some h) max found = absurd found
 
-pub found_large : (held : Option (List ℕ)) → Finds held 67108864 TooLong → IsLarge held
-found_large None found = absurd found
-found_large (Some h) found = (h, refl, inl found)
+pub found_large : (setting : Setting) (held : Option (List ℕ)) → Finds held 67108864 TooLong → asked_by setting held ≡ large
+found_large setting None found = absurd found
+found_large setting (Some script) found = over_limits setting script (over_bytes script found)
 
-pub held_begins : {D : Type 0} (held : Option (List ℕ)) (script : List ℕ) (old now : D) (before after : Option (List ℕ)) (status : Status)
-    → held ≡ Some script → ScriptBegins status (Some script) old now before after → ScriptBegins status held old now before after
-held_begins held script old now before after status is begins = subst (λ (h : Option (List ℕ)). ScriptBegins status h old now before after) (sym is) begins
+pub held_run : {D : Type 0} (disk : Ghosts D) (setting : Setting) (held : Option (List ℕ)) (script : List ℕ) (old now : D) (before after : Option (List ℕ)) (status : Status)
+    → held ≡ Some script → RanAs status disk (asked_by setting (Some script)) old now before after → RanAs status disk (asked_by setting held) old now before after
+held_run disk setting held script old now before after status is ran = subst (λ (h : Option (List ℕ)). RanAs status disk (asked_by setting h) old now before after) (sym is) ran
 
-pub held_ends : {D : Type 0} (disk : Ghosts D) (setting : Setting) (d : Database) (held : Option (List ℕ)) (script : List ℕ) (old now : D) (before after : Option (List ℕ)) (status : Status)
-    → held ≡ Some script → ScriptEnds status disk setting d (Some script) old now before after → ScriptEnds status disk setting d held old now before after
-held_ends disk setting d held script old now before after status is ends = subst (λ (h : Option (List ℕ)). ScriptEnds status disk setting d h old now before after) (sym is) ends
-
-pub script_left : {D : Type 0} (disk : Ghosts D) (setting : Setting) (d : Database) (held : Option (List ℕ)) (script : List ℕ) (old new : D) (before after : Option (List ℕ))
-    → held ≡ Some script → Leaves disk (CutInRun disk old setting d (statement_texts script) before after) old new → Leaves disk (CutInScript disk old setting d held before after) old new
-script_left disk setting d held script old new before after is leaves = subst (λ (h : Option (List ℕ)). Leaves disk (CutInScript disk old setting d h before after) old new) (sym is) leaves
-
-script_still : {D : Type 0} (disk : Ghosts D) (old : D) (setting : Setting) (d : Database) (held : Option (List ℕ)) (before after : Option (List ℕ)) (x : Contents) → IsStill disk old d x → CutInScript disk old setting d held before after x
-script_still disk old setting d None before after x still = still
-script_still disk old setting d (Some script) before after x still = inl still
-
--- a disk that wasn't called
-pub script_rests : {D : Type 0} (disk : Ghosts D) (setting : Setting) (d : Database) (held : Option (List ℕ)) (now : D) (before after : Option (List ℕ)) → Leaves disk (CutInScript disk now setting d held before after) now now
-script_rests disk setting d held now before after = leaves_still disk now (λ x image. script_still disk now setting d held before after x (inl image))
+-- the generated one is this, and within the limits
+pub generated_here : {D : Type 0} (disk : Ghosts D) (setting : Setting) (script : List ℕ) (old now : D) (before after : Option (List ℕ)) (status : Status)
+    → script ≡ generated_script → RanAs status disk (asked_by setting (Some script)) old now before after → RanAs status disk (statements setting (statement_texts generated_script)) old now before after
+generated_here disk setting script old now before after status is ran =
+    subst (λ (w : Asked). RanAs status disk w old now before after) (in_limits setting generated_script generated_within)
+    (subst (λ (text : List ℕ). RanAs status disk (asked_by setting (Some text)) old now before after) is ran)
 
 -- ---- the words
 
-pub misused : {D : Type 0} (there : Files) (words : Option Wanted) (now : D) (told : Option (List ℕ)) → ◌≡◌ {A = Option Wanted} None words → RunBegins Status.Usage there words now now told told
-misused there words now told none = subst (λ (ws : Option Wanted). RunBegins Status.Usage there ws now now told told) none (record { status_is = inl refl; idle = idle now told })
-
-pub misused_ends : {D : Type 0} (disk : Ghosts D) (there : Files) (words : Option Wanted) (d : Database) (now : D) (told : Option (List ℕ)) → ◌≡◌ {A = Option Wanted} None words → RunEnds Status.Usage disk there words d now now told told
-misused_ends disk there words d now told none = subst (λ (ws : Option Wanted). RunEnds Status.Usage disk there ws d now now told told) none (record { status_is = inl refl; idle = idle now told })
-
--- the words couldn't be read for want of memory
-pub short_begins : {D : Type 0} (there : Files) (words : Option Wanted) (now : D) (told : Option (List ℕ)) → RunBegins Status.Memory there words now now told told
-short_begins there None now told = record { status_is = inr refl; idle = idle now told }
-short_begins there (Some (runs run)) now told = unbegun now told (script_of run.source there) Status.Memory (short (script_of run.source there))
-short_begins there (Some audits) now told = tt
-
-pub short_end : {D : Type 0} (disk : Ghosts D) (there : Files) (words : Option Wanted) (d : Database) (now : D) (told : Option (List ℕ)) → RunEnds Status.Memory disk there words d now now told told
-short_end disk there None d now told = record { status_is = inr refl; idle = idle now told }
-short_end disk there (Some (runs run)) d now told =
-    unbegun_ends disk (setting_of there run.steps run.halts) d now told (script_of run.source there) Status.Memory (short (script_of run.source there))
-short_end disk there (Some audits) d now told = tt
-
-image_left : {D : Type 0} (disk : Ghosts D) (now : D) (there : Files) (words : Option Wanted) (d : Database) (before after : Option (List ℕ)) (x : Contents) → ImageOf disk now x → RunLeaves disk now there words d before after x
-image_left disk now there None d before after x image = inl image
-image_left disk now there (Some (runs run)) d before after x image = script_still disk now (setting_of there run.steps run.halts) d (script_of run.source there) before after x (inl image)
-image_left disk now there (Some audits) d before after x image = image_untouched disk now x image
-
-pub run_rests : {D : Type 0} (disk : Ghosts D) (there : Files) (words : Option Wanted) (d : Database) (now : D) (before after : Option (List ℕ)) → Leaves disk (RunLeaves disk now there words d before after) now now
-run_rests disk there words d now before after = leaves_still disk now (λ x image. image_left disk now there words d before after x image)
-
--- words that name a script aren't misused
-pub begins_named : {D : Type 0} (held : Option (List ℕ)) (old now : D) (before after : Option (List ℕ)) (status : Status) → ScriptBegins status held old now before after → status ≡ Status.Usage → ⊥
-begins_named held old now before after status (inl (inl (is, none), rest)) same = differs (sym is ∙ same)
+some_same : (what other : Asked) → ◌≡◌ {A = Option Asked} (Some what) (Some other) → what ≡ other
+some_same what other is = ap (or_else what) is
   where
-    differs : Status.NoScript ≡ Status.Usage → ⊥
+    or_else : Asked → Option Asked → Asked
+    or_else w None = w
+    or_else w (Some x) = x
+
+not_told : (what : Asked) → ◌≡◌ {A = Option Asked} None (Some what) → ⊥
+not_told what is = absurd (cc)
+
+-- over the files that were told
+over_files : {D : Type 0} (disk : Ghosts D) (f : Files → Asked) (content : Option Files) (what : Asked) (old now : D) (before after : Option (List ℕ)) (status : Status)
+    → option_map f content ≡ Some what → ((there : Files) → content ≡ Some there → RanAs status disk (f there) old now before after) → RanAs status disk what old now before after
+over_files disk f None what old now before after status is ran = absurd (not_told what is)
+over_files disk f (Some there) what old now before after status is ran = subst (λ (w : Asked). RanAs status disk w old now before after) (some_same (f there) what is) (ran there refl)
+
+pub file_run : {D : Type 0} (disk : Ghosts D) (source : Source) (name word : List ℕ) (steps : ℕ) (halts : Bool) (content : Option Files) (what : Asked) (old now : D) (before after : Option (List ℕ)) (status : Status)
+    → source ≡ from_file name → word ≡ name → ((there : Files) → content ≡ Some there → RanAs status disk (asked_by (setting_of there steps halts) (there word)) old now before after)
+    → asked_from source steps halts content ≡ Some what → RanAs status disk what old now before after
+file_run disk source name word steps halts content what old now before after status is word_is ran asks =
+    over_files disk (λ files. asked_by (setting_of files steps halts) (files name)) content what old now before after status
+    (subst (λ (s : Source). asked_from s steps halts content ≡ Some what) is asks)
+    (subst (λ (n : List ℕ). (there : Files) → content ≡ Some there → RanAs status disk (asked_by (setting_of there steps halts) (there n)) old now before after) word_is ran)
+
+pub generated_run : {D : Type 0} (disk : Ghosts D) (source : Source) (lines seed : ℕ) (steps : ℕ) (halts : Bool) (content : Option Files) (what : Asked) (old now : D) (before after : Option (List ℕ)) (status : Status)
+    → source ≡ generated lines seed → RanAs status disk (statements (setting_of (generated_files lines seed) steps halts) (statement_texts generated_script)) old now before after
+    → asked_from source steps halts content ≡ Some what → RanAs status disk what old now before after
+generated_run disk source lines seed steps halts content what old now before after status is ran asks =
+    subst (λ (w : Asked). RanAs status disk w old now before after)
+    (some_same (statements (setting_of (generated_files lines seed) steps halts) (statement_texts generated_script)) what (subst (λ (s : Source). asked_from s steps halts content ≡ Some what) is asks))
+    ran
+
+-- words that ask for a script, for an audit, and of no form
+pub asked_runs : (words : Option Wanted) (run : ScriptRun) (content : Option Files) (what : Asked) → words ≡ Some (runs run) → asked words content ≡ Some what → asked_from run.source run.steps run.halts content ≡ Some what
+unfolding asked
+asked_runs words run content what is asks = subst (λ (w : Option Wanted). asked w content ≡ Some what) is asks
+
+pub asked_audit : {D : Type 0} (disk : Ghosts D) (words : Option Wanted) (content : Option Files) (what : Asked) (old now : D) (before after : Option (List ℕ)) (status : Status)
+    → words ≡ Some audits → IsAuditStatus status → asked words content ≡ Some what → RanAs status disk what old now before after
+unfolding asked
+asked_audit disk words content what old now before after status is holds asks =
+    subst (λ (w : Asked). RanAs status disk w old now before after) (some_same audit what (subst (λ (w : Option Wanted). asked w content ≡ Some what) is asks)) (audit_run disk old now before after status holds)
+
+pub asked_nothing : {D : Type 0} (disk : Ghosts D) (words : Option Wanted) (content : Option Files) (what : Asked) (now : D) (told : Option (List ℕ))
+    → ◌≡◌ {A = Option Wanted} None words → asked words content ≡ Some what → RanAs Status.Usage disk what now now told told
+unfolding asked
+asked_nothing disk words content what now told none asks =
+    subst (λ (w : Asked). RanAs Status.Usage disk w now now told told) (some_same misused what (subst (λ (w : Option Wanted). asked w content ≡ Some what) (sym none) asks)) (misused_run disk now told)
+
+-- and ask for no statements
+pub none_asked : (words : Option Wanted) (content : Option Files) (setting : Setting) (texts : List (List ℕ)) → ◌≡◌ {A = Option Wanted} None words → asked words content ≡ Some (statements setting texts) → ⊥
+unfolding asked
+none_asked words content setting texts none asks =
+    differs (some_same misused (statements setting texts) (subst (λ (w : Option Wanted). asked w content ≡ Some (statements setting texts)) (sym none) asks))
+  where
+    differs : misused ≡ statements setting texts → ⊥
     differs is = absurd (cc)
-begins_named held old now before after status (inl (inr (inl (is, over)), rest)) same = differs (sym is ∙ same)
-  where
-    differs : Status.TooLarge ≡ Status.Usage → ⊥
-    differs is = absurd (cc)
-begins_named held old now before after status (inl (inr (inr (inl is)), rest)) same = differs (sym is ∙ same)
-  where
-    differs : Status.Memory ≡ Status.Usage → ⊥
-    differs is = absurd (cc)
-begins_named held old now before after status (inl (inr (inr (inr is)), rest)) same = differs (sym is ∙ same)
-  where
-    differs : Status.ReadFault ≡ Status.Usage → ⊥
-    differs is = absurd (cc)
-begins_named held old now before after status (inr (script, served, (ended, is))) same = never_begun ended status is (inl same)
-
--- ---- a script that is absent or too large
-
-none_some : (script : List ℕ) → ◌≡◌ {A = Option (List ℕ)} None (Some script) → ⊥
-none_some script is = absurd (cc)
-
-same_script : (held : Option (List ℕ)) (script other : List ℕ) → held ≡ Some script → held ≡ Some other → script ≡ other
-same_script held script other is was = some_same script other (sym is ∙ was)
-  where
-    some_same : (a b : List ℕ) → ◌≡◌ {A = Option (List ℕ)} (Some a) (Some b) → a ≡ b
-    some_same a b same = ap (or_else a) same
-      where
-        or_else : List ℕ → Option (List ℕ) → List ℕ
-        or_else d None = d
-        or_else d (Some x) = x
-
-not_over : (script : List ℕ) → IsWithinLimits script → IsOverLimits script → ⊥
-not_over script limits (inl over) = omega (arith, limits.bytes, over)
-not_over script limits (inr over) = omega (arith, limits.statements, over)
-
-not_large : (held : Option (List ℕ)) (script : List ℕ) → IsServed held script → IsLarge held → ⊥
-not_large held script served (other, there, over) = not_over other (subst IsWithinLimits (same_script held script other served.there there) served.limits) over
-
-absent_where : {D : Type 0} (held : Option (List ℕ)) (old now : D) (before after : Option (List ℕ)) (status : Status) → ScriptBegins status held old now before after → ExactlyWhere status Status.NoScript (held ≡ None)
-absent_where held old now before after status (inl (inl (is, none), rest)) = record { only = λ same. none; always = λ same. inl is }
-absent_where held old now before after status (inl (inr (inl (is, (script, there, over))), rest)) =
-    record { only = λ same. absurd (differs (sym is ∙ same)); always = λ none. absurd (none_some script (sym none ∙ there)) }
-  where
-    differs : Status.TooLarge ≡ Status.NoScript → ⊥
-    differs is = absurd (cc)
-absent_where held old now before after status (inl (inr (inr (inl is)), rest)) = record { only = λ same. absurd (differs (sym is ∙ same)); always = λ none. inr (inl is) }
-  where
-    differs : Status.Memory ≡ Status.NoScript → ⊥
-    differs is = absurd (cc)
-absent_where held old now before after status (inl (inr (inr (inr is)), rest)) = record { only = λ same. absurd (differs (sym is ∙ same)); always = λ none. inr (inr is) }
-  where
-    differs : Status.ReadFault ≡ Status.NoScript → ⊥
-    differs is = absurd (cc)
-absent_where held old now before after status (inr (script, served, (ended, is))) = record {
-  only = λ same. absurd (never_begun ended status is (inr (inl same)));
-  always = λ none. absurd (none_some script (sym none ∙ served.there));
-}
-
-large_where : {D : Type 0} (held : Option (List ℕ)) (old now : D) (before after : Option (List ℕ)) (status : Status) → ScriptBegins status held old now before after → ExactlyWhere status Status.TooLarge (IsLarge held)
-large_where held old now before after status (inl (inl (is, none), rest)) =
-    record { only = λ same. absurd (differs (sym is ∙ same)); always = λ over. absurd (none_some over.0 (sym none ∙ over.1)) }
-  where
-    differs : Status.NoScript ≡ Status.TooLarge → ⊥
-    differs is = absurd (cc)
-large_where held old now before after status (inl (inr (inl (is, over)), rest)) = record { only = λ same. over; always = λ same. inl is }
-large_where held old now before after status (inl (inr (inr (inl is)), rest)) = record { only = λ same. absurd (differs (sym is ∙ same)); always = λ over. inr (inl is) }
-  where
-    differs : Status.Memory ≡ Status.TooLarge → ⊥
-    differs is = absurd (cc)
-large_where held old now before after status (inl (inr (inr (inr is)), rest)) = record { only = λ same. absurd (differs (sym is ∙ same)); always = λ over. inr (inr is) }
-  where
-    differs : Status.ReadFault ≡ Status.TooLarge → ⊥
-    differs is = absurd (cc)
-large_where held old now before after status (inr (script, served, (ended, is))) = record {
-  only = λ same. absurd (never_begun ended status is (inr (inr same)));
-  always = λ over. absurd (not_large held script served over);
-}
-
-pub no_script_where : {D : Type 0} (there : Files) (run : ScriptRun) (old now : D) (before after : Option (List ℕ)) (status : Status)
-    → ScriptBegins status (script_of run.source there) old now before after → ExactlyWhere status Status.NoScript (IsAbsent (Some (runs run)) there)
-no_script_where there run old now before after status begins = absent_where (script_of run.source there) old now before after status begins
-
-pub too_large_where : {D : Type 0} (there : Files) (run : ScriptRun) (old now : D) (before after : Option (List ℕ)) (status : Status)
-    → ScriptBegins status (script_of run.source there) old now before after → ExactlyWhere status Status.TooLarge (IsTooLarge (Some (runs run)) there)
-too_large_where there run old now before after status begins = large_where (script_of run.source there) old now before after status begins
 
 -- ---- what is answered where no count of faults rose
-
-served_from : (source : Source) (there : Files) → IsServableFrom source there → (text : List ℕ) × IsServed (script_of source there) text
-served_from (from_file name) there served = served
-served_from (generated lines seed) there served = (generated_script, record { there = refl; limits = generated_within })
 
 -- no run stops for a file that is blamed
 none_blamed : {D : Type 0} (disk : Ghosts D) (setting : Setting) (mid : State) (rest : List (List ℕ)) (now : D) (before after : Option (List ℕ)) (q : ℕ) → StopsInNext disk setting mid rest now before after (RunFault.Damaged q) → ⊥
 none_blamed disk setting mid [] now before after q (halts, none) = none
 none_blamed disk setting mid (text ∷ more) now before after q none = none
 
-abbrev fault_as : RunFault → Result Bool RunFault
-fault_as fault = Err fault
+answered_stop : {D : Type 0} (disk : Ghosts D) (setting : Setting) (mid : State) (rest : List (List ℕ)) (now : D) (before after : Option (List ℕ)) (was new : Counts) (status : Status) (fault : RunFault)
+    → status ≡ status_of fault → StopsInNext disk setting mid rest now before after fault
+    → (status ≡ Status.SinkFault → Rose was.sink new.sink) → (status ≡ Status.ReadFault → Rose was.files new.files) → (status ≡ Status.DiskFault → Rose was.disk new.disk) → IsAnswered status was new
+answered_stop disk setting mid rest now before after was new status RunFault.Sink is stops sink read fault = inr (inr (inl (is, sink is)))
+answered_stop disk setting mid rest now before after was new status RunFault.Disk is stops sink read fault = inr (inr (inr (inr (is, fault is))))
+answered_stop disk setting mid rest now before after was new status (RunFault.Damaged q) is stops sink read fault = absurd (none_blamed disk setting mid rest now before after q stops)
+answered_stop disk setting mid rest now before after was new status RunFault.Memory is stops sink read fault = inr (inl is)
+answered_stop disk setting mid rest now before after was new status RunFault.Read is stops sink read fault = inr (inr (inr (inl (is, read is))))
+answered_stop disk setting mid rest now before after was new status RunFault.Halted is stops sink read fault = inr (inr (inr (inr (is, fault is))))
 
-pub unblamed_end : {D : Type 0} (disk : Ghosts D) (setting : Setting) (d : Database) (texts : List (List ℕ)) (old now : D) (before after : Option (List ℕ)) (q : ℕ)
-    → OpenedEnd (fault_as (RunFault.Damaged q)) disk setting d texts old now before after → ⊥
-unblamed_end disk setting d texts old now before after q (inl closed) = by closed.fault
+pub answered : {D : Type 0} (disk : Ghosts D) (setting : Setting) (d : Database) (texts : List (List ℕ)) (old now : D) (before after : Option (List ℕ)) (was new : Counts) (status : Status) → RunEnds status disk setting d texts old now before after
+    → (status ≡ Status.SinkFault → Rose was.sink new.sink) → (status ≡ Status.ReadFault → Rose was.files new.files) → (status ≡ Status.DiskFault → Rose was.disk new.disk) → IsAnswered status was new
+answered disk setting d texts old now before after was new status (inl (start, starts, inl ran)) sink read fault = inl (ran.refused, ran.status_is)
+answered disk setting d texts old now before after was new status (inl (start, starts, inr ran)) sink read fault =
+    answered_stop disk setting ran.mid (drop ran.count texts) now ran.between after was new status ran.fault ran.status_is ran.stops sink read fault
+answered disk setting d texts old now before after was new status (inr none) sink read fault = by none.why
   where
-    by : (fault_as (RunFault.Damaged q) ≡ fault_as RunFault.Disk) ⊎ (fault_as (RunFault.Damaged q) ≡ fault_as RunFault.Memory) → ⊥
-    by (inl is) = absurd (cc)
-    by (inr is) = absurd (cc)
-unblamed_end disk setting d texts old now before after q (inr (next, parts, starts, stopped)) = none_blamed disk setting stopped.mid (drop stopped.count texts) now stopped.between after q stopped.stops
-
-answered_end : {D : Type 0} (disk : Ghosts D) (setting : Setting) (d : Database) (texts : List (List ℕ)) (old now : D) (before after : Option (List ℕ)) (was new : Counts) (status : Status) (ended : Result Bool RunFault)
-    → status ≡ status_of_end ended → OpenedEnd ended disk setting d texts old now before after
-    → (status ≡ Status.SinkFault → Rose was.sink new.sink) → (status ≡ Status.ReadFault → Rose was.files new.files) → (status ≡ Status.DiskFault → Rose was.disk new.disk) → IsAnswered status was new
-answered_end disk setting d texts old now before after was new status (Ok refused) is ends sink read fault = inl (refused, is)
-answered_end disk setting d texts old now before after was new status (Err RunFault.Sink) is ends sink read fault = inr (inr (inl (is, sink is)))
-answered_end disk setting d texts old now before after was new status (Err RunFault.Disk) is ends sink read fault = inr (inr (inr (inr (is, fault is))))
-answered_end disk setting d texts old now before after was new status (Err (RunFault.Damaged q)) is ends sink read fault = absurd (unblamed_end disk setting d texts old now before after q ends)
-answered_end disk setting d texts old now before after was new status (Err RunFault.Memory) is ends sink read fault = inr (inl is)
-answered_end disk setting d texts old now before after was new status (Err RunFault.Read) is ends sink read fault = inr (inr (inr (inl (is, read is))))
-answered_end disk setting d texts old now before after was new status (Err RunFault.Halted) is ends sink read fault = inr (inr (inr (inr (is, fault is))))
-
-answered : {D : Type 0} (disk : Ghosts D) (setting : Setting) (d : Database) (held : Option (List ℕ)) (script : List ℕ) (old now : D) (before after : Option (List ℕ)) (was new : Counts) (status : Status)
-    → IsServed held script → ScriptEnds status disk setting d held old now before after
-    → (status ≡ Status.SinkFault → Rose was.sink new.sink) → (status ≡ Status.ReadFault → Rose was.files new.files) → (status ≡ Status.DiskFault → Rose was.disk new.disk) → IsAnswered status was new
-answered disk setting d held script old now before after was new status served (inl (inl (is, none), rest)) sink read fault = absurd (none_some script (sym none ∙ served.there))
-answered disk setting d held script old now before after was new status served (inl (inr (inl (is, over)), rest)) sink read fault = absurd (not_large held script served over)
-answered disk setting d held script old now before after was new status served (inl (inr (inr (inl is)), rest)) sink read fault = inr (inl is)
-answered disk setting d held script old now before after was new status served (inl (inr (inr (inr is)), rest)) sink read fault = inr (inr (inr (inl (is, read is))))
-answered disk setting d held script old now before after was new status served (inr ran) sink read fault =
-    answered_end disk setting d (statement_texts ran.script) old now before after was new status ran.ended ran.status_is ran.ends sink read fault
-
-pub complete : {D : Type 0} (disk : Ghosts D) (there : Files) (run : ScriptRun) (d : Database) (old now : D) (before after : Option (List ℕ)) (was new : Counts) (status : Status)
-    → ScriptEnds status disk (setting_of there run.steps run.halts) d (script_of run.source there) old now before after
-    → (status ≡ Status.SinkFault → Rose was.sink new.sink) → (status ≡ Status.ReadFault → Rose was.files new.files) → (status ≡ Status.DiskFault → Rose was.disk new.disk)
-    → IsServable (Some (runs run)) there → IsAnswered status was new
-complete disk there run d old now before after was new status ends sink read fault servable =
-    let (text, served) = served_from run.source there servable in
-    answered disk (setting_of there run.steps run.halts) d (script_of run.source there) text old now before after was new status served ends sink read fault
+    by : (status ≡ Status.Memory) ⊎ ((status ≡ Status.DiskFault) ⊎ ((status ≡ Status.ReadFault) × (now ≡ old))) → IsAnswered status was new
+    by (inl is) = inr (inl is)
+    by (inr (inl is)) = inr (inr (inr (inr (is, fault is))))
+    by (inr (inr (is, still))) = inr (inr (inr (inl (is, read is))))

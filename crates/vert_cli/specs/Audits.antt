@@ -2,7 +2,7 @@
 use Rattle.std.specs.Prelude.{ℕ, ◌≡◌, ◌⊎◌, ⊤, List, Option, Some, None}
 use Rattle.common_laws.specs.Maps.{Contents}
 use Rattle.common_laws.specs.Told.{Appends, AppendsFront}
-use Rattle.col_disk.specs.Moved.{ImageOf, LikeOne, Moved, NoName}
+use Rattle.col_disk.specs.Moved.{Moved, NoName}
 use Rattle.col_disk.specs.declared.disk.Disk.{Ghosts}
 use Rattle.db_model.specs.Database.{Database}
 use Rattle.folder_model.specs.Reopening.{Reopens}
@@ -77,7 +77,7 @@ AuditOf None status m before after = ⊤
 AuditOf (Some (runs run)) status m before after = ⊤
 AuditOf (Some audits) status m before after = AuditEnds status m before after
 
--- no file was written or removed
+-- no file was written or removed, and whatever a crash leaves at any moment it would have left before
 pub record IsUnwritten {D : Type 0} (disk : Ghosts D) (old now : D) : Type 0 where
   pub kept : disk.holds now ≡ disk.holds old
   pub moved : Moved disk NoName NoName old now
@@ -86,7 +86,3 @@ abbrev pub AuditKeeps : {D : Type 0} → Ghosts D → Option Wanted → D → D 
 AuditKeeps disk None old now = ⊤
 AuditKeeps disk (Some (runs run)) old now = ⊤
 AuditKeeps disk (Some audits) old now = IsUnwritten disk old now
-
--- what a crash would have left before, with the same files
-abbrev pub IsUntouched : {D : Type 0} → Ghosts D → D → Contents → Type 0
-IsUntouched disk old x = LikeOne NoName NoName (ImageOf disk old) x

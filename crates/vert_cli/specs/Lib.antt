@@ -1,6 +1,8 @@
 pub mod Sessions
 pub mod Statements
+pub mod Statuses
 pub mod Runs
+pub mod Asked
 pub mod Audits
 pub mod Ends
 pub mod Blamed

@@ -15,17 +15,13 @@ use Rattle.store_step.specs.Cuts.{CutBeforeOrAfter, IsKeptButJob}
 use Rattle.store_step.specs.Forms.{is_served}
 use Rattle.store_step.specs.Steps.{EndedAs, IsKeptIn, SaysCopy, SteppedTo, TextMayLeave}
 use Rattle.vert_cli.specs.declared.faults.RunFault.{RunFault}
+use Rattle.vert_cli.specs.declared.faults.Status.{Status}
+use Rattle.vert_cli.specs.Statuses.{status_of, status_of_run}
 use Rattle.vert_cli.specs.Statements.{Answered, AnsweredPart, CutInMover, MovedPart}
 
 -- the setting of a run: the forms that are served, its load files, and what its words ask for
 abbrev pub setting_of : Files → ℕ → Bool → Setting
 setting_of files steps halts = record { serves = is_served; files = files; steps = steps; halts = halts }
-
--- all of these texts ran, and the sink took exactly their text
-pub record RanWhole (setting : Setting) (old : State) (texts : List (List ℕ)) (refused : Bool) (new : State) (before after : Option (List ℕ)) : Type 0 where
-  pub printed : List ℕ
-  pub ran : RunTexts setting old texts printed refused new
-  pub taken : Appends before after printed
 
 -- ---- what a crash leaves now, where a run stopped
 
@@ -101,13 +97,32 @@ abbrev pub StopsInNext : {D : Type 0} → Ghosts D → Setting → State → Lis
 StopsInNext disk setting state [] now before after fault = (setting.halts ≡ false) × StopsInEnd disk state now before after fault
 StopsInNext disk setting state (text ∷ more) now before after fault = StopsInText disk setting state text now before after fault
 
--- The first of these texts ran, and the sink took exactly their text; in the next one the run stopped.
-pub record StoppedAt {D : Type 0} (disk : Ghosts D) (setting : Setting) (start : State) (texts : List (List ℕ)) (now : D) (before after : Option (List ℕ)) (fault : RunFault) : Type 0 where
+-- ---- how a run of statement texts over a state ends
+
+-- All of them ran, and the sink took exactly what they print; then came the end, where the run doesn't halt without it; and whatever a
+-- crash leaves now reopens to the tables that were left then, cut at their last good epoch.
+pub record RanToItsEnd {D : Type 0} (status : Status) (disk : Ghosts D) (setting : Setting) (start : State) (texts : List (List ℕ)) (now : D) (before after : Option (List ℕ)) : Type 0 where
+  pub refused : Bool
+  pub status_is : status ≡ status_of_run refused
+  pub printed : List ℕ
+  pub mid : State
+  pub ran : RunTexts setting start texts printed refused mid
+  pub taken : Appends before after printed
+  pub new : State
+  pub ends : EndsUnless setting.halts mid new
+  pub left : IsLeft disk now new
+
+-- The first of them ran, and the sink took exactly what they print; in the next one, or in the end behind the last, the run stopped.
+pub record RanAndStopped {D : Type 0} (status : Status) (disk : Ghosts D) (setting : Setting) (start : State) (texts : List (List ℕ)) (now : D) (before after : Option (List ℕ)) : Type 0 where
+  pub fault : RunFault
+  pub status_is : status ≡ status_of fault
   pub count : ℕ
+  pub printed : List ℕ
   pub refused : Bool
   pub mid : State
   pub between : Option (List ℕ)
-  pub ran : RanWhole setting start (take count texts) refused mid before between
+  pub ran : RunTexts setting start (take count texts) printed refused mid
+  pub taken : Appends before between printed
   pub stops : StopsInNext disk setting mid (drop count texts) now between after fault
 
 -- ---- what a crash leaves on the way
@@ -155,6 +170,6 @@ pub record RanText {D : Type 0} (disk : Ghosts D) (setting : Setting) (text : Li
 
 -- statement texts over a state
 pub record RanTexts {D : Type 0} (disk : Ghosts D) (setting : Setting) (texts : List (List ℕ)) (is : Running) (old new : D) (result : Result Bool RunFault) (start : State) (before after : Option (List ℕ)) : Type 0 where
-  pub done : IfOk result (λ refused. (state : State) × RanWhole setting start texts refused state before after × IsState disk is new state)
-  pub stopped : IfErr result (StoppedAt disk setting start texts new before after)
+  pub done : IfOk result (λ refused. (state : State) × (printed : List ℕ) × RunTexts setting start texts printed refused state × Appends before after printed × IsState disk is new state)
+  pub stopped : IfErr result (λ fault. RanAndStopped (status_of fault) disk setting start texts new before after)
   pub any_moment : Leaves disk (IsOnTheWay setting start texts before after) old new

@@ -4,7 +4,7 @@
 ghost use Rattle.std.specs.Prelude.{◌≡◌, ◌||◌, is_some};
 ghost use Rattle.vert_cli.specs.Sessions.{is_of_disk};
 ghost use Rattle.vert_cli.specs.Statements.{refusal_in, outcome_of, fault_of, fault_of_step};
-ghost use Rattle.vert_cli.specs.Ends.{code_of, status_of, status_of_end, status_of_run};
+ghost use Rattle.vert_cli.specs.Statuses.{code_of, status_of, status_of_end, status_of_run};
 
 use col_disk::StoreFault;
 use sql_tree::Refusal;

@@ -1,20 +1,24 @@
 //! The program.
 #![tactic(auto)]
 
-ghost use Rattle.std.specs.Prelude.{ℕ, ◌≡◌, ◌≢◌, ◌≤◌, ◌⊎◌, map, None, Some, string_bytes};
+ghost use Rattle.std.specs.Prelude.{ℕ, ◌≡◌, ◌≢◌, ◌≤◌, List, map, None, Some, string_bytes};
 ghost use Rattle.common_laws.specs.Causes.{Rose};
 ghost use Rattle.col_disk.specs.Moved.{Leaves};
 ghost use Rattle.db_model.specs.Database.{Database as Logical};
 ghost use Rattle.db_model.specs.Loading.{Files as LoadFiles};
+ghost use Rattle.db_model.specs.Run.{Setting};
+ghost use Rattle.sql_words.specs.Texts.{statement_texts};
 ghost use Rattle.common_laws.specs.Maps.{Contents};
 ghost use Rattle.run_words.specs.Told.{source_told, told};
 ghost use Rattle.run_words.specs.Words.{wanted};
 ghost use Rattle.generated_load.specs.Load.{generated_files, generated_script};
-ghost use Rattle.vert_cli.specs.declared.faults.Status.TheVariants.{Damaged as damaged, Usage as usage_refused, NoScript as no_script, SinkFault as sink_fault, ReadFault as read_fault, DiskFault as disk_fault, Memory as no_memory, TooLarge as too_large};
+ghost use Rattle.vert_cli.specs.declared.faults.Status.TheVariants.{Damaged as damaged, Usage as usage_refused, SinkFault as sink_fault, ReadFault as read_fault, DiskFault as disk_fault};
 ghost use Rattle.vert_cli.specs.Audits.{AuditKeeps, AuditOf};
 ghost use Rattle.vert_cli.specs.Blamed.{NamesFile};
+ghost use Rattle.vert_cli.specs.Statuses.{NeverBegins};
 ghost use Rattle.vert_cli.specs.Runs.{setting_of};
-ghost use Rattle.vert_cli.specs.Ends.{AreFilesFor, AreFilesOf, CutInScript, ExactlyWhere, IsAbsent, IsAnswered, IsIdle, IsOpenable, IsServable, IsTooLarge, NeverBegins, RunBegins, RunEnds, RunLeaves, ScriptBegins, ScriptEnds, script_of};
+ghost use Rattle.vert_cli.specs.Asked.{Asked, asked, asked_by, asked_from, statements};
+ghost use Rattle.vert_cli.specs.Ends.{IsAnswered, IsIdle, IsOpenable, RanAs, RunBegins, RunEnds, RunLeaves};
 
 use crate::auditing::run_audit;
 use crate::faults::Status;
@@ -48,15 +52,12 @@ pub fn run<F: Files, S: Sink, D: Disk>(
     disk: &mut D,
 ) -> Status
     ensures usage { result ≡ usage_refused → wanted (map string_bytes words.now) ≡ None }
-    ensures refused { wanted (map string_bytes words.now) ≡ None → (result ≡ usage_refused) ⊎ (result ≡ no_memory) }
-    ensures begins { (there : LoadFiles) → AreFilesOf (wanted (map string_bytes words.now)) (F.content files.old) there → RunBegins result there (wanted (map string_bytes words.now)) disk.old disk.new (S.taken out.old) (S.taken out.new) }
-    ensures no_script { (there : LoadFiles) → AreFilesOf (wanted (map string_bytes words.now)) (F.content files.old) there → ExactlyWhere result no_script (IsAbsent (wanted (map string_bytes words.now)) there) }
-    ensures too_large { (there : LoadFiles) → AreFilesOf (wanted (map string_bytes words.now)) (F.content files.old) there → ExactlyWhere result too_large (IsTooLarge (wanted (map string_bytes words.now)) there) }
-    ensures output { (there : LoadFiles) (d : Logical) → AreFilesOf (wanted (map string_bytes words.now)) (F.content files.old) there → IsOpenable ⟦<D as Disk>⟧ disk.old d
-        → RunEnds result ⟦<D as Disk>⟧ there (wanted (map string_bytes words.now)) d disk.old disk.new (S.taken out.old) (S.taken out.new) }
-    ensures any_moment { (there : LoadFiles) (d : Logical) → AreFilesOf (wanted (map string_bytes words.now)) (F.content files.old) there → IsOpenable ⟦<D as Disk>⟧ disk.old d
-        → Leaves ⟦<D as Disk>⟧ (RunLeaves ⟦<D as Disk>⟧ disk.old there (wanted (map string_bytes words.now)) d (S.taken out.old) (S.taken out.new)) disk.old disk.new }
-    ensures complete { (there : LoadFiles) (d : Logical) → AreFilesOf (wanted (map string_bytes words.now)) (F.content files.old) there → IsOpenable ⟦<D as Disk>⟧ disk.old d → IsServable (wanted (map string_bytes words.now)) there
+    ensures begins { (what : Asked) → asked (wanted (map string_bytes words.now)) (F.content files.old) ≡ Some what → RunBegins result what disk.old disk.new (S.taken out.old) (S.taken out.new) }
+    ensures output { (setting : Setting) (texts : List (List ℕ)) (d : Logical) → asked (wanted (map string_bytes words.now)) (F.content files.old) ≡ Some (statements setting texts) → IsOpenable ⟦<D as Disk>⟧ disk.old d
+        → RunEnds result ⟦<D as Disk>⟧ setting d texts disk.old disk.new (S.taken out.old) (S.taken out.new) }
+    ensures any_moment { (setting : Setting) (texts : List (List ℕ)) (d : Logical) → asked (wanted (map string_bytes words.now)) (F.content files.old) ≡ Some (statements setting texts) → IsOpenable ⟦<D as Disk>⟧ disk.old d
+        → Leaves ⟦<D as Disk>⟧ (RunLeaves ⟦<D as Disk>⟧ disk.old setting d texts (S.taken out.old) (S.taken out.new)) disk.old disk.new }
+    ensures complete { (setting : Setting) (texts : List (List ℕ)) (d : Logical) → asked (wanted (map string_bytes words.now)) (F.content files.old) ≡ Some (statements setting texts) → IsOpenable ⟦<D as Disk>⟧ disk.old d
         → IsAnswered result (record { sink = S.faults out.old; files = F.faults files.old; disk = D.faults disk.old }) (record { sink = S.faults out.new; files = F.faults files.new; disk = D.faults disk.new }) }
     ensures audit { (m : Contents) → D.holds disk.old ≡ Some m → AuditOf (wanted (map string_bytes words.now)) result m (S.taken out.old) (S.taken out.new) }
     ensures audit_keeps { AuditKeeps ⟦<D as Disk>⟧ (wanted (map string_bytes words.now)) disk.old disk.new }
@@ -85,15 +86,7 @@ fn run_wanted<F: Files, S: Sink, D: Disk>(
     out: &mut S,
     disk: &mut D,
 ) -> Status
-    ensures begins { (there : LoadFiles) → AreFilesOf (Some (told wanted)) (F.content files.old) there → RunBegins result there (Some (told wanted)) disk.old disk.new (S.taken out.old) (S.taken out.new) }
-    ensures no_script { (there : LoadFiles) → AreFilesOf (Some (told wanted)) (F.content files.old) there → ExactlyWhere result no_script (IsAbsent (Some (told wanted)) there) }
-    ensures too_large { (there : LoadFiles) → AreFilesOf (Some (told wanted)) (F.content files.old) there → ExactlyWhere result too_large (IsTooLarge (Some (told wanted)) there) }
-    ensures output { (there : LoadFiles) (d : Logical) → AreFilesOf (Some (told wanted)) (F.content files.old) there → IsOpenable ⟦<D as Disk>⟧ disk.old d
-        → RunEnds result ⟦<D as Disk>⟧ there (Some (told wanted)) d disk.old disk.new (S.taken out.old) (S.taken out.new) }
-    ensures any_moment { (there : LoadFiles) (d : Logical) → AreFilesOf (Some (told wanted)) (F.content files.old) there → IsOpenable ⟦<D as Disk>⟧ disk.old d
-        → Leaves ⟦<D as Disk>⟧ (RunLeaves ⟦<D as Disk>⟧ disk.old there (Some (told wanted)) d (S.taken out.old) (S.taken out.new)) disk.old disk.new }
-    ensures complete { (there : LoadFiles) (d : Logical) → AreFilesOf (Some (told wanted)) (F.content files.old) there → IsOpenable ⟦<D as Disk>⟧ disk.old d → IsServable (Some (told wanted)) there
-        → IsAnswered result (record { sink = S.faults out.old; files = F.faults files.old; disk = D.faults disk.old }) (record { sink = S.faults out.new; files = F.faults files.new; disk = D.faults disk.new }) }
+    ensures ran { (what : Asked) → asked (Some (told wanted)) (F.content files.old) ≡ Some what → RanAs result ⟦<D as Disk>⟧ what disk.old disk.new (S.taken out.old) (S.taken out.new) }
     ensures audit { (m : Contents) → D.holds disk.old ≡ Some m → AuditOf (Some (told wanted)) result m (S.taken out.old) (S.taken out.new) }
     ensures audit_keeps { AuditKeeps ⟦<D as Disk>⟧ (Some (told wanted)) disk.old disk.new }
     ensures named { result ≢ usage_refused }
@@ -121,11 +114,7 @@ fn run_source<F: Files, S: Sink, D: Disk>(
     out: &mut S,
     disk: &mut D,
 ) -> Status
-    ensures begins { (there : LoadFiles) → AreFilesFor (source_told run.source) (F.content files.old) there → ScriptBegins result (script_of (source_told run.source) there) disk.old disk.new (S.taken out.old) (S.taken out.new) }
-    ensures ends { (there : LoadFiles) (d : Logical) → AreFilesFor (source_told run.source) (F.content files.old) there → IsOpenable ⟦<D as Disk>⟧ disk.old d
-        → ScriptEnds result ⟦<D as Disk>⟧ (setting_of there run.steps run.halts) d (script_of (source_told run.source) there) disk.old disk.new (S.taken out.old) (S.taken out.new) }
-    ensures any_moment { (there : LoadFiles) (d : Logical) → AreFilesFor (source_told run.source) (F.content files.old) there → IsOpenable ⟦<D as Disk>⟧ disk.old d
-        → Leaves ⟦<D as Disk>⟧ (CutInScript ⟦<D as Disk>⟧ disk.old (setting_of there run.steps run.halts) d (script_of (source_told run.source) there) (S.taken out.old) (S.taken out.new)) disk.old disk.new }
+    ensures ran { (what : Asked) → asked_from (source_told run.source) run.steps run.halts (F.content files.old) ≡ Some what → RanAs result ⟦<D as Disk>⟧ what disk.old disk.new (S.taken out.old) (S.taken out.new) }
     ensures named { result ≢ usage_refused }
     ensures blamed { (q : ℕ) → result ≡ damaged q → NamesFile ⟦<D as Disk>⟧ q disk.old disk.new (S.taken out.old) (S.taken out.new) }
     ensures idle { NeverBegins result → IsIdle disk.old disk.new (S.taken out.old) (S.taken out.new) }
@@ -160,11 +149,7 @@ fn run_generated<S: Sink, D: Disk>(
     out: &mut S,
     disk: &mut D,
 ) -> Status
-    ensures begins { ScriptBegins result (Some generated_script) disk.old disk.new (S.taken out.old) (S.taken out.new) }
-    ensures ends { (d : Logical) → IsOpenable ⟦<D as Disk>⟧ disk.old d
-        → ScriptEnds result ⟦<D as Disk>⟧ (setting_of (generated_files lines seed) steps halts) d (Some generated_script) disk.old disk.new (S.taken out.old) (S.taken out.new) }
-    ensures any_moment { (d : Logical) → IsOpenable ⟦<D as Disk>⟧ disk.old d
-        → Leaves ⟦<D as Disk>⟧ (CutInScript ⟦<D as Disk>⟧ disk.old (setting_of (generated_files lines seed) steps halts) d (Some generated_script) (S.taken out.old) (S.taken out.new)) disk.old disk.new }
+    ensures ran { RanAs result ⟦<D as Disk>⟧ (statements (setting_of (generated_files lines seed) steps halts) (statement_texts generated_script)) disk.old disk.new (S.taken out.old) (S.taken out.new) }
     ensures named { result ≢ usage_refused }
     ensures blamed { (q : ℕ) → result ≡ damaged q → NamesFile ⟦<D as Disk>⟧ q disk.old disk.new (S.taken out.old) (S.taken out.new) }
     ensures idle { NeverBegins result → IsIdle disk.old disk.new (S.taken out.old) (S.taken out.new) }
@@ -188,11 +173,7 @@ fn run_file<F: Files, S: Sink, D: Disk>(
     out: &mut S,
     disk: &mut D,
 ) -> Status
-    ensures begins { (there : LoadFiles) → F.content files.old ≡ Some there → ScriptBegins result (there name.now) disk.old disk.new (S.taken out.old) (S.taken out.new) }
-    ensures ends { (there : LoadFiles) (d : Logical) → F.content files.old ≡ Some there → IsOpenable ⟦<D as Disk>⟧ disk.old d
-        → ScriptEnds result ⟦<D as Disk>⟧ (setting_of there steps halts) d (there name.now) disk.old disk.new (S.taken out.old) (S.taken out.new) }
-    ensures any_moment { (there : LoadFiles) (d : Logical) → F.content files.old ≡ Some there → IsOpenable ⟦<D as Disk>⟧ disk.old d
-        → Leaves ⟦<D as Disk>⟧ (CutInScript ⟦<D as Disk>⟧ disk.old (setting_of there steps halts) d (there name.now) (S.taken out.old) (S.taken out.new)) disk.old disk.new }
+    ensures ran { (there : LoadFiles) → F.content files.old ≡ Some there → RanAs result ⟦<D as Disk>⟧ (asked_by (setting_of there steps halts) (there name.now)) disk.old disk.new (S.taken out.old) (S.taken out.new) }
     ensures named { result ≢ usage_refused }
     ensures blamed { (q : ℕ) → result ≡ damaged q → NamesFile ⟦<D as Disk>⟧ q disk.old disk.new (S.taken out.old) (S.taken out.new) }
     ensures idle { NeverBegins result → IsIdle disk.old disk.new (S.taken out.old) (S.taken out.new) }

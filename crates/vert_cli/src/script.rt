@@ -1,19 +1,21 @@
 //! A script's statements, run in order.
 #![tactic(auto)]
 
-ghost use Rattle.std.specs.Prelude.{ℕ, ◌≡◌, ◌≤◌, Err, Bool, false, length, map, All, Some, IfOk, IsErrOf};
+ghost use Rattle.std.specs.Prelude.{ℕ, ◌≡◌, ◌≢◌, ◌≤◌, Err, Bool, false, length, map, All, Some, IfOk, IsErrOf};
 ghost use Rattle.common_laws.specs.Causes.{Rose, HasCause};
 ghost use Rattle.col_disk.specs.Moved.{Leaves};
 ghost use Rattle.db_model.specs.Database.{Database as Logical};
 ghost use Rattle.db_model.specs.Loading.{Files as LoadFiles};
 ghost use Rattle.db_model.specs.State.{State};
-ghost use Rattle.sql_words.specs.Texts.{cut, statement_texts, LiesWithin};
+ghost use Rattle.sql_words.specs.Texts.{cut, LiesWithin};
 ghost use Rattle.store_step.specs.Running.{IsState};
 ghost use Rattle.vert_cli.specs.declared.faults.RunFault.TheVariants.{Sink as sink_failed, Damaged as damaged_file, Disk as disk_failed, Read as read_failed, Halted as halted};
-ghost use Rattle.vert_cli.specs.declared.faults.Status.TheVariants.{Damaged as damaged, SinkFault as sink_fault, DiskFault as disk_fault, ReadFault as read_fault};
+ghost use Rattle.vert_cli.specs.declared.faults.Status.TheVariants.{Damaged as damaged, Usage as usage_refused, SinkFault as sink_fault, DiskFault as disk_fault, ReadFault as read_fault};
 ghost use Rattle.vert_cli.specs.Blamed.{NamesFile};
+ghost use Rattle.vert_cli.specs.Statuses.{NeverBegins, status_of_end};
 ghost use Rattle.vert_cli.specs.Runs.{RanText, RanTexts, setting_of};
-ghost use Rattle.vert_cli.specs.Ends.{CutInRun, IsIdle, IsOpenable, NeverBegins, OpenedEnd, ScriptBegins, ScriptEnds};
+ghost use Rattle.vert_cli.specs.Asked.{asked_by};
+ghost use Rattle.vert_cli.specs.Ends.{IsIdle, IsOpenable, RanAs, RunEnds, RunLeaves};
 
 use crate::faults::{RunFault, Status, either, fault_of, status_of_end};
 use crate::session::Session;
@@ -37,11 +39,8 @@ pub(crate) fn run_script<F: Files, S: Sink, D: Disk>(
     disk: &mut D,
 ) -> Status
     requires { length script.now ≤ 67108864 }
-    ensures begins { ScriptBegins result (Some script.now) disk.old disk.new (S.taken out.old) (S.taken out.new) }
-    ensures ends { (there : LoadFiles) (d : Logical) → F.content files.old ≡ Some there → IsOpenable ⟦<D as Disk>⟧ disk.old d
-        → ScriptEnds result ⟦<D as Disk>⟧ (setting_of there steps halts) d (Some script.now) disk.old disk.new (S.taken out.old) (S.taken out.new) }
-    ensures any_moment { (there : LoadFiles) (d : Logical) → F.content files.old ≡ Some there → IsOpenable ⟦<D as Disk>⟧ disk.old d
-        → Leaves ⟦<D as Disk>⟧ (CutInRun ⟦<D as Disk>⟧ disk.old (setting_of there steps halts) d (statement_texts script.now) (S.taken out.old) (S.taken out.new)) disk.old disk.new }
+    ensures ran { (there : LoadFiles) → F.content files.old ≡ Some there → RanAs result ⟦<D as Disk>⟧ (asked_by (setting_of there steps halts) (Some script.now)) disk.old disk.new (S.taken out.old) (S.taken out.new) }
+    ensures named { result ≢ usage_refused }
     ensures idle { NeverBegins result → IsIdle disk.old disk.new (S.taken out.old) (S.taken out.new) }
     ensures blamed { (q : ℕ) → result ≡ damaged q → NamesFile ⟦<D as Disk>⟧ q disk.old disk.new (S.taken out.old) (S.taken out.new) }
     ensures content { F.content files.new ≡ F.content files.old }
@@ -85,9 +84,9 @@ fn run_opened<F: Files, S: Sink, D: Disk>(
 ) -> Result<bool, RunFault>
     requires within { All (LiesWithin (length script.now)) spans.now }
     ensures ends { (there : LoadFiles) (d : Logical) → F.content files.old ≡ Some there → IsOpenable ⟦<D as Disk>⟧ disk.old d
-        → OpenedEnd result ⟦<D as Disk>⟧ (setting_of there steps halts) d (map (cut script.now) spans.now) disk.old disk.new (S.taken out.old) (S.taken out.new) }
+        → RunEnds (status_of_end result) ⟦<D as Disk>⟧ (setting_of there steps halts) d (map (cut script.now) spans.now) disk.old disk.new (S.taken out.old) (S.taken out.new) }
     ensures any_moment { (there : LoadFiles) (d : Logical) → F.content files.old ≡ Some there → IsOpenable ⟦<D as Disk>⟧ disk.old d
-        → Leaves ⟦<D as Disk>⟧ (CutInRun ⟦<D as Disk>⟧ disk.old (setting_of there steps halts) d (map (cut script.now) spans.now) (S.taken out.old) (S.taken out.new)) disk.old disk.new }
+        → Leaves ⟦<D as Disk>⟧ (RunLeaves ⟦<D as Disk>⟧ disk.old (setting_of there steps halts) d (map (cut script.now) spans.now) (S.taken out.old) (S.taken out.new)) disk.old disk.new }
     ensures blamed { (q : ℕ) → result ≡ Err (damaged_file q) → NamesFile ⟦<D as Disk>⟧ q disk.old disk.new (S.taken out.old) (S.taken out.new) }
     ensures content { F.content files.new ≡ F.content files.old }
     ensures sink { IsErrOf result sink_failed → Rose (S.faults out.old) (S.faults out.new) }

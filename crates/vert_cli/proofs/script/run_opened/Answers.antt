@@ -1,10 +1,10 @@
 use Rattle.std.proofs.Common.{map, sym, subst, inr}
-use Rattle.std.specs.Prelude.{Err}
 use Rattle.db_model.specs.State.{opened_with}
 use Rattle.sql_words.specs.Texts.{cut}
 use Rattle.vert_cli.specs.declared.faults.RunFault.{RunFault}
 use Rattle.vert_cli.specs.Runs.{setting_of}
-use Rattle.vert_cli.specs.Ends.{OpenedEnd}
+use Rattle.vert_cli.specs.Statuses.{status_of}
+use Rattle.vert_cli.specs.Ends.{RunEnds}
 use Rattle.vert_cli.proofs.Ending.{starts_with, not_opened, texts_stopped, texts_halted, texts_ended, end_failed, opening_leaves, texts_leave, end_leaves}
 use Rattle.vert_cli.proofs.Naming.{shut_named}
 use Rattle.vert_cli.proofs.script.run_opened.Goals as goal
@@ -14,7 +14,7 @@ returns-in-Err-clause-ends g c = λ there d content openable.
     let setting = setting_of there c.args.steps c.args.halts in
     let texts = map (cut c.args.script.now) c.args.spans.now in
     let told = g.S.Sink.taken c.args.out.now in
-    subst (λ (fault : RunFault). OpenedEnd (Err fault) g.D.Disk setting d texts c.args.disk.now c.open.new.disk told told) (sym c.fault_of.ensures)
+    subst (λ (fault : RunFault). RunEnds (status_of fault) g.D.Disk setting d texts c.args.disk.now c.open.new.disk told told) (sym c.fault_of.ensures)
     (not_opened g.D.Disk setting d texts c.args.disk.now c.open.new.disk c.in-Err.fault told openable c.in-Err.ensures.blamed (c.in-Err.ensures.any_moment openable.files d openable.told openable.reopens))
 
 pub returns-in-Err-clause-any_moment : goal.returns-in-Err-clause-any_moment
@@ -25,42 +25,42 @@ returns-in-Err-clause-any_moment g c = λ there d content openable.
 pub returns-in-Err-run_spans-clause-ends : goal.returns-in-Err-run_spans-clause-ends
 returns-in-Err-run_spans-clause-ends g c = λ there d content openable.
     let start = c.in-Ok.ensures.opened openable.files d openable.told openable.reopens in
-    texts_stopped g.D.Disk (setting_of there c.args.steps c.args.halts) d (map (cut c.args.script.now) c.args.spans.now) start.0 start.1 c.run_spans.new.session.running c.args.disk.now c.open.new.disk c.run_spans.new.disk c.in-Err-run_spans.fault
+    texts_stopped g.D.Disk (setting_of there c.args.steps c.args.halts) d (map (cut c.args.script.now) c.args.spans.now) (opened_with start.0 start.1 d) c.run_spans.new.session.running c.args.disk.now c.open.new.disk c.run_spans.new.disk c.in-Err-run_spans.fault
     (g.S.Sink.taken c.args.out.now) (g.S.Sink.taken c.run_spans.new.out)
-    (starts_with g.D.Disk openable.files c.args.disk.now start.0 start.1 openable.told start.2) (c.in-Err-run_spans.ensures.ran there (opened_with start.0 start.1 d) c.args.halts content start.3)
+    (starts_with g.D.Disk openable.files c.args.disk.now d start.0 start.1 openable.told start.2) (c.in-Err-run_spans.ensures.ran there (opened_with start.0 start.1 d) c.args.halts content start.3)
 
 pub returns-in-Err-run_spans-clause-any_moment : goal.returns-in-Err-run_spans-clause-any_moment
 returns-in-Err-run_spans-clause-any_moment g c = λ there d content openable.
     let start = c.in-Ok.ensures.opened openable.files d openable.told openable.reopens in
     let ran = c.in-Err-run_spans.ensures.ran there (opened_with start.0 start.1 d) c.args.halts content start.3 in
-    texts_leave g.D.Disk (setting_of there c.args.steps c.args.halts) d (map (cut c.args.script.now) c.args.spans.now) start.0 start.1 c.args.disk.now c.open.new.disk c.run_spans.new.disk (g.S.Sink.taken c.args.out.now) (g.S.Sink.taken c.run_spans.new.out)
-    (starts_with g.D.Disk openable.files c.args.disk.now start.0 start.1 openable.told start.2) (c.in-Ok.ensures.any_moment openable.files d openable.told openable.reopens) ran.any_moment
+    texts_leave g.D.Disk (setting_of there c.args.steps c.args.halts) d (map (cut c.args.script.now) c.args.spans.now) (opened_with start.0 start.1 d) c.args.disk.now c.open.new.disk c.run_spans.new.disk (g.S.Sink.taken c.args.out.now) (g.S.Sink.taken c.run_spans.new.out)
+    (starts_with g.D.Disk openable.files c.args.disk.now d start.0 start.1 openable.told start.2) (c.in-Ok.ensures.any_moment openable.files d openable.told openable.reopens) ran.any_moment
 
 pub returns-then-halts-clause-ends : goal.returns-then-halts-clause-ends
 returns-then-halts-clause-ends g c = λ there d content openable.
     let start = c.in-Ok.ensures.opened openable.files d openable.told openable.reopens in
-    texts_halted g.D.Disk there c.args.steps c.args.halts d (map (cut c.args.script.now) c.args.spans.now) start.0 start.1 c.run_spans.new.session.running c.args.disk.now c.open.new.disk c.run_spans.new.disk c.in-Ok-run_spans.refused
-    (g.S.Sink.taken c.args.out.now) (g.S.Sink.taken c.run_spans.new.out) (starts_with g.D.Disk openable.files c.args.disk.now start.0 start.1 openable.told start.2) c.if-halts.true (c.in-Ok-run_spans.ensures.ran there (opened_with start.0 start.1 d) c.args.halts content start.3)
+    texts_halted g.D.Disk there c.args.steps c.args.halts d (map (cut c.args.script.now) c.args.spans.now) (opened_with start.0 start.1 d) c.run_spans.new.session.running c.args.disk.now c.open.new.disk c.run_spans.new.disk c.in-Ok-run_spans.refused
+    (g.S.Sink.taken c.args.out.now) (g.S.Sink.taken c.run_spans.new.out) (starts_with g.D.Disk openable.files c.args.disk.now d start.0 start.1 openable.told start.2) c.if-halts.true (c.in-Ok-run_spans.ensures.ran there (opened_with start.0 start.1 d) c.args.halts content start.3)
 
 pub returns-then-halts-clause-any_moment : goal.returns-then-halts-clause-any_moment
 returns-then-halts-clause-any_moment g c = λ there d content openable.
     let start = c.in-Ok.ensures.opened openable.files d openable.told openable.reopens in
     let ran = c.in-Ok-run_spans.ensures.ran there (opened_with start.0 start.1 d) c.args.halts content start.3 in
-    texts_leave g.D.Disk (setting_of there c.args.steps c.args.halts) d (map (cut c.args.script.now) c.args.spans.now) start.0 start.1 c.args.disk.now c.open.new.disk c.run_spans.new.disk (g.S.Sink.taken c.args.out.now) (g.S.Sink.taken c.run_spans.new.out)
-    (starts_with g.D.Disk openable.files c.args.disk.now start.0 start.1 openable.told start.2) (c.in-Ok.ensures.any_moment openable.files d openable.told openable.reopens) ran.any_moment
+    texts_leave g.D.Disk (setting_of there c.args.steps c.args.halts) d (map (cut c.args.script.now) c.args.spans.now) (opened_with start.0 start.1 d) c.args.disk.now c.open.new.disk c.run_spans.new.disk (g.S.Sink.taken c.args.out.now) (g.S.Sink.taken c.run_spans.new.out)
+    (starts_with g.D.Disk openable.files c.args.disk.now d start.0 start.1 openable.told start.2) (c.in-Ok.ensures.any_moment openable.files d openable.told openable.reopens) ran.any_moment
 
 pub returns-in-Ok-close-clause-ends : goal.returns-in-Ok-close-clause-ends
 returns-in-Ok-close-clause-ends g c = λ there d content openable.
     let start = c.in-Ok.ensures.opened openable.files d openable.told openable.reopens in
-    texts_ended g.D.Disk there c.args.steps c.args.halts d (map (cut c.args.script.now) c.args.spans.now) start.0 start.1 c.run_spans.new.session.running c.args.disk.now c.open.new.disk c.run_spans.new.disk c.close.new.disk c.in-Ok-run_spans.refused
-    c.in-Ok-close.field-0 (g.S.Sink.taken c.args.out.now) (g.S.Sink.taken c.run_spans.new.out) (starts_with g.D.Disk openable.files c.args.disk.now start.0 start.1 openable.told start.2) c.if-halts.false
+    texts_ended g.D.Disk there c.args.steps c.args.halts d (map (cut c.args.script.now) c.args.spans.now) (opened_with start.0 start.1 d) c.run_spans.new.session.running c.args.disk.now c.open.new.disk c.run_spans.new.disk c.close.new.disk c.in-Ok-run_spans.refused
+    c.in-Ok-close.field-0 (g.S.Sink.taken c.args.out.now) (g.S.Sink.taken c.run_spans.new.out) (starts_with g.D.Disk openable.files c.args.disk.now d start.0 start.1 openable.told start.2) c.if-halts.false
     (c.in-Ok-run_spans.ensures.ran there (opened_with start.0 start.1 d) c.args.halts content start.3) (λ state here. c.in-Ok-close.ensures.ends state here)
 
 pub returns-in-Ok-close-clause-any_moment : goal.returns-in-Ok-close-clause-any_moment
 returns-in-Ok-close-clause-any_moment g c = λ there d content openable.
     let start = c.in-Ok.ensures.opened openable.files d openable.told openable.reopens in
-    end_leaves g.D.Disk there c.args.steps c.args.halts d (map (cut c.args.script.now) c.args.spans.now) start.0 start.1 c.run_spans.new.session.running c.args.disk.now c.open.new.disk c.run_spans.new.disk c.close.new.disk c.in-Ok-run_spans.refused _
-    (g.S.Sink.taken c.args.out.now) (g.S.Sink.taken c.run_spans.new.out) (starts_with g.D.Disk openable.files c.args.disk.now start.0 start.1 openable.told start.2) c.if-halts.false (c.in-Ok.ensures.any_moment openable.files d openable.told openable.reopens)
+    end_leaves g.D.Disk there c.args.steps c.args.halts d (map (cut c.args.script.now) c.args.spans.now) (opened_with start.0 start.1 d) c.run_spans.new.session.running c.args.disk.now c.open.new.disk c.run_spans.new.disk c.close.new.disk c.in-Ok-run_spans.refused _
+    (g.S.Sink.taken c.args.out.now) (g.S.Sink.taken c.run_spans.new.out) (starts_with g.D.Disk openable.files c.args.disk.now d start.0 start.1 openable.told start.2) c.if-halts.false (c.in-Ok.ensures.any_moment openable.files d openable.told openable.reopens)
     (c.in-Ok-run_spans.ensures.ran there (opened_with start.0 start.1 d) c.args.halts content start.3) (λ state here. c.in-Ok-close.ensures.ends state here)
 
 pub returns-in-Err-close-clause-ends : goal.returns-in-Err-close-clause-ends
@@ -70,15 +70,15 @@ returns-in-Err-close-clause-ends g c = λ there d content openable.
     let before = g.S.Sink.taken c.args.out.now in
     let after = g.S.Sink.taken c.run_spans.new.out in
     let start = c.in-Ok.ensures.opened openable.files d openable.told openable.reopens in
-    subst (λ (fault : RunFault). OpenedEnd (Err fault) g.D.Disk setting d texts c.args.disk.now c.close.new.disk before after) (sym c.fault_of-in-Err-close.ensures)
-    (end_failed g.D.Disk there c.args.steps c.args.halts d texts start.0 start.1 c.run_spans.new.session.running c.args.disk.now c.open.new.disk c.run_spans.new.disk c.close.new.disk c.in-Ok-run_spans.refused c.in-Err-close.fault before after (starts_with g.D.Disk openable.files c.args.disk.now start.0 start.1 openable.told start.2) c.if-halts.false
+    subst (λ (fault : RunFault). RunEnds (status_of fault) g.D.Disk setting d texts c.args.disk.now c.close.new.disk before after) (sym c.fault_of-in-Err-close.ensures)
+    (end_failed g.D.Disk there c.args.steps c.args.halts d texts (opened_with start.0 start.1 d) c.run_spans.new.session.running c.args.disk.now c.open.new.disk c.run_spans.new.disk c.close.new.disk c.in-Ok-run_spans.refused c.in-Err-close.fault before after (starts_with g.D.Disk openable.files c.args.disk.now d start.0 start.1 openable.told start.2) c.if-halts.false
     (c.in-Ok-run_spans.ensures.ran there (opened_with start.0 start.1 d) c.args.halts content start.3) (λ state here. c.in-Err-close.ensures.ends state here))
 
 pub returns-in-Err-close-clause-any_moment : goal.returns-in-Err-close-clause-any_moment
 returns-in-Err-close-clause-any_moment g c = λ there d content openable.
     let start = c.in-Ok.ensures.opened openable.files d openable.told openable.reopens in
-    end_leaves g.D.Disk there c.args.steps c.args.halts d (map (cut c.args.script.now) c.args.spans.now) start.0 start.1 c.run_spans.new.session.running c.args.disk.now c.open.new.disk c.run_spans.new.disk c.close.new.disk c.in-Ok-run_spans.refused _
-    (g.S.Sink.taken c.args.out.now) (g.S.Sink.taken c.run_spans.new.out) (starts_with g.D.Disk openable.files c.args.disk.now start.0 start.1 openable.told start.2) c.if-halts.false (c.in-Ok.ensures.any_moment openable.files d openable.told openable.reopens)
+    end_leaves g.D.Disk there c.args.steps c.args.halts d (map (cut c.args.script.now) c.args.spans.now) (opened_with start.0 start.1 d) c.run_spans.new.session.running c.args.disk.now c.open.new.disk c.run_spans.new.disk c.close.new.disk c.in-Ok-run_spans.refused _
+    (g.S.Sink.taken c.args.out.now) (g.S.Sink.taken c.run_spans.new.out) (starts_with g.D.Disk openable.files c.args.disk.now d start.0 start.1 openable.told start.2) c.if-halts.false (c.in-Ok.ensures.any_moment openable.files d openable.told openable.reopens)
     (c.in-Ok-run_spans.ensures.ran there (opened_with start.0 start.1 d) c.args.halts content start.3) (λ state here. c.in-Err-close.ensures.ends state here)
 
 pub returns-in-Err-clause-blamed : goal.returns-in-Err-clause-blamed
