@@ -126,8 +126,9 @@ impl<'a> Tokens<'a> {
                     let bytes = text_bytes(alloc, self.text, token)?;
                     match String::from_utf8(bytes) {
                         Ok(text) => {
+                            let text = Text::new(alloc, text.as_str())?;
                             self.left = rest;
-                            Ok(Text::new(text))
+                            Ok(text)
                         }
                         Err(_) => Err(Stop::Here),
                     }
