@@ -64,7 +64,8 @@ fn read_since(base: u32, bytes: &[u8]) -> Result<(u32, &[u8]), Stop>
     Ok((lane, rest))
 }
 
-/// The lanes of so many values of the front, and the bytes behind them.
+/// The lanes of so many values of the front, and the bytes behind them. By itself, so that its loop stays in registers.
+#[inline(never)]
 fn read_dates(alloc: Global, base: u32, count: u64, bytes: &[u8]) -> Result<(Vec<u32>, &[u8]), Stop>
     requires { 1 ≤ base }
     ensures { Gives (λ x. (map day_value x.0.items, x.1.now)) result (many (since_at base) count bytes.now) }

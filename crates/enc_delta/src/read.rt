@@ -6,8 +6,8 @@ ghost use Rattle.col_bytes.specs.Fronts.{vint_at};
 ghost use Rattle.col_bytes.specs.Parts.{Gives, many};
 ghost use Rattle.enc_delta.specs.Fronts.{base_at, above_at, value_above, delta_of};
 
-use crate::base::lane_base;
-use block_codec::{BLOCK, Block, read_count};
+use crate::base::is_base;
+use block_codec::{Block, read_count};
 use col_bytes::{Stop, read_tag, read_vint, take_be8};
 use std::alloc::Global;
 
@@ -92,7 +92,8 @@ fn read_above(base: i64, bytes: &[u8]) -> Result<(i64, &[u8]), Stop>
     Ok((lane, rest))
 }
 
-/// The lanes of so many values of the front, and the bytes behind them.
+/// The lanes of so many values of the front, and the bytes behind them. By itself, so that its loop stays in registers.
+#[inline(never)]
 fn read_values(
     alloc: Global,
     base: i64,
@@ -102,11 +103,11 @@ fn read_values(
     requires { negsuc (2 ^ 63 - 2) ≤ℤ base }
     ensures { Gives (λ x. (map number_value x.0.items, x.1.now)) result (many (above_at base) count bytes.now) }
 {
-    let mut numbers = Vec::with_capacity(alloc, count.min(BLOCK as u64) as usize)?;
+    let mut numbers = Vec::with_capacity(alloc, count as usize)?;
     let mut rest = bytes;
     for _ in 0..count {
         let (number, after) = read_above(base, rest)?;
-        numbers.push(number)?;
+        numbers.push_reserved(number);
         rest = after;
     }
     Ok((numbers, rest))
@@ -121,7 +122,7 @@ pub fn values_of(alloc: Global, bytes: &[u8]) -> Result<Block, Stop>
     let (count, rest) = read_count(rest)?;
     let (base, rest) = read_base(rest)?;
     let (numbers, rest) = read_values(alloc, base, count, rest)?;
-    if rest.is_empty() && lane_base(numbers.as_slice()) == base {
+    if rest.is_empty() && is_base(base, numbers.as_slice()) {
         Ok(Block::of_numbers(numbers))
     } else {
         Err(Stop::Malformed)
