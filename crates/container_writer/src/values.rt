@@ -14,18 +14,6 @@ use col_value::{Encoding, Row, Value};
 use std::alloc::{AllocError, Global};
 use value_bytes::is_value;
 
-/// The value, where a table may have it.
-fn fitting(value: Value) -> Result<Value, AllocError>
-    ensures same { IfOk result (λ v. v ≡ value) }
-    ensures value { IfOk result IsValue }
-{
-    if is_value(&value) {
-        Ok(value)
-    } else {
-        Err(AllocError)
-    }
-}
-
 /// The values, where a column of this encoding takes them.
 fn taken(values: Vec<Value>, encoding: Encoding) -> Result<Vec<Value>, AllocError>
     ensures same { IfOk result (λ v. v ≡ values) }
@@ -38,19 +26,22 @@ fn taken(values: Vec<Value>, encoding: Encoding) -> Result<Vec<Value>, AllocErro
     }
 }
 
-/// The value of a row in a column; one that is not there is NULL.
+/// The value of a row in a column, where a table may have it; one that is not there is NULL.
 fn value_of(alloc: Global, row: &Row, column: usize) -> Result<Value, AllocError>
-    ensures { IfOk result (λ v. v ≡ slice_index_or row.now column Null) }
+    ensures same { IfOk result (λ v. v ≡ slice_index_or row.now column Null) }
+    ensures value { IfOk result IsValue }
 {
     match row.as_slice().get(column) {
-        Some(value) => value.copy(alloc),
+        Some(value) if is_value(value) => value.copy(alloc),
+        Some(_) => Err(AllocError),
         None => Ok(Value::Null),
     }
 }
 
 /// An epoch as a number.
 fn number_of(epoch: u64) -> Result<Value, AllocError>
-    ensures { IfOk result (λ v. v ≡ Int (pos epoch)) }
+    ensures same { IfOk result (λ v. v ≡ Int (pos epoch)) }
+    ensures value { IfOk result IsValue }
 {
     if epoch > i64::MAX as u64 {
         return Err(AllocError);
@@ -64,8 +55,7 @@ fn column_values(alloc: Global, rows: &[Keyed], column: usize) -> Result<Vec<Val
 {
     let mut out = Vec::with_capacity(alloc, rows.len())?;
     for row in rows {
-        let value = value_of(alloc, row.stamped.row, column)?;
-        out.push(fitting(value)?)?;
+        out.push(value_of(alloc, row.stamped.row, column)?)?;
     }
     Ok(out)
 }
@@ -76,7 +66,7 @@ fn epoch_values(alloc: Global, rows: &[Keyed]) -> Result<Vec<Value>, AllocError>
 {
     let mut out = Vec::with_capacity(alloc, rows.len())?;
     for row in rows {
-        out.push(fitting(number_of(row.stamped.ins)?)?)?;
+        out.push(number_of(row.stamped.ins)?)?;
     }
     Ok(out)
 }
