@@ -121,6 +121,7 @@ fn raises_by(n: &mut u64, count: u64) -> bool
 
 /// The sum of the numbers of a lane, which an expression is worth in the rows at places, and their magnitudes added up, where both are
 /// numbers of 64 bits.
+#[inline(never)]
 fn short_total(
     e: &Expr,
     columns: &[Option<Block>],
@@ -187,6 +188,7 @@ fn lane_total(
 }
 
 /// The same of a column's lane, from its numbers at the places.
+#[inline(never)]
 fn column_total(
     e: &Expr,
     columns: &[Option<Block>],

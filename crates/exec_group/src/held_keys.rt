@@ -233,6 +233,7 @@ impl Keys {
     }
 
     /// The places of the keys of the rows at places of columns, where rows of one code have one key: each is looked up once.
+    #[inline(never)]
     fn enter_coded<C: Codes>(
         &mut self,
         alloc: Global,
@@ -249,7 +250,7 @@ impl Keys {
         for place in places {
             let code = codes.code(*place);
             let group = self.enter_noted(alloc, keys, columns, *place, &mut noted[code])?;
-            out.push(group)?;
+            out.push_reserved(group);
         }
         Ok(out)
     }

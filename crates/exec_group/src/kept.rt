@@ -309,6 +309,7 @@ fn take_each(
 }
 
 /// Takes numbers, each in its group.
+#[inline(never)]
 fn take_numbers(
     list: &mut Vec<Accumulator>,
     alloc: Global,

@@ -69,6 +69,7 @@ fn column_words(columns: &[Option<Block>], column: usize) -> Option<(&[Value], &
 }
 
 /// The numbers of a lane at places, where none of them is NULL.
+#[inline(never)]
 fn from_lane(
     alloc: Global,
     e: &Expr,
@@ -84,12 +85,13 @@ fn from_lane(
         let Some(n) = lane_number_at(numbers, *place) else {
             return Ok(None);
         };
-        out.push(n)?;
+        out.push_reserved(n);
     }
     Ok(Some(out))
 }
 
 /// The numbers of words at places, where all of them are numbers.
+#[inline(never)]
 fn from_words(
     alloc: Global,
     e: &Expr,
@@ -106,7 +108,7 @@ fn from_words(
         let Some(n) = word_number_at(words, codes, *place) else {
             return Ok(None);
         };
-        out.push(n)?;
+        out.push_reserved(n);
     }
     Ok(Some(out))
 }

@@ -1,6 +1,6 @@
 //! Which rows that stand in columns meet the conditions.
 
-ghost use Rattle.std.specs.Prelude.{◌≡◌, ℕ, ◌++◌, ◌∷◌, [], true, if◌then◌else◌, filter, map, slice_index_or, IfOk, OnOk};
+ghost use Rattle.std.specs.Prelude.{◌≡◌, ℕ, ◌+◌, ◌<◌, ◌≤◌, ◌++◌, ◌∷◌, [], true, if◌then◌else◌, filter, map, slice_index_or, IfOk, OnOk, vec_len, vec_capacity};
 ghost use Rattle.std.specs.List.{All};
 ghost use Rattle.std.specs.Option.{IfSome};
 ghost use Rattle.block_codec.specs.Held.{number_value, picked};
@@ -95,6 +95,18 @@ fn put_place(places: &mut Vec<usize>, passes: bool, place: usize) -> Result<(), 
     Ok(())
 }
 
+/// The same, where there is room for it.
+fn put_reserved(places: &mut Vec<usize>, passes: bool, place: usize)
+    requires { vec_len places.old < vec_capacity places.old }
+    ensures items { places.new.items ≡ places.old.items ++ (if passes then place ∷ [] else []) }
+    ensures len { vec_len places.new ≤ vec_len places.old + 1 }
+    ensures capacity { vec_capacity places.new ≡ vec_capacity places.old }
+{
+    if passes {
+        places.push_reserved(place);
+    }
+}
+
 /// The places of the rows in which a condition is true, each looked at by itself.
 fn each_kept(
     alloc: Global,
@@ -174,6 +186,7 @@ fn short(n: i128) -> Option<i64>
 }
 
 /// The places of the rows in which a condition is true that compares the numbers of a lane with a number.
+#[inline(never)]
 fn lane_kept(
     alloc: Global,
     e: &Expr,
@@ -188,7 +201,7 @@ fn lane_kept(
 {
     let mut kept = Vec::with_capacity(alloc, places.len())?;
     for place in places {
-        put_place(&mut kept, place_holds(numbers, cmp, m, *place), *place)?;
+        put_reserved(&mut kept, place_holds(numbers, cmp, m, *place), *place);
     }
     Ok(kept)
 }
@@ -256,6 +269,7 @@ fn is_marked(marks: &[bool], codes: &[u64], place: usize) -> bool
 }
 
 /// The places of the rows in which a condition is true that the mark of a word tells.
+#[inline(never)]
 fn marked_kept(
     alloc: Global,
     e: &Expr,
@@ -269,7 +283,7 @@ fn marked_kept(
 {
     let mut kept = Vec::with_capacity(alloc, places.len())?;
     for place in places {
-        put_place(&mut kept, is_marked(marks, codes, *place), *place)?;
+        put_reserved(&mut kept, is_marked(marks, codes, *place), *place);
     }
     Ok(kept)
 }

@@ -1,4 +1,4 @@
-use Rattle.std.proofs.Common.{◌≡◌, ℕ, ◌++◌, ◌∷◌, [], ◌+◌, ◌<◌, List, Option, Some, ap, ap₂, get_or, length, position, set, subst, sym, take, ◌∙◌, rules}
+use Rattle.std.proofs.Common.{◌≡◌, ℕ, ◌++◌, ◌∷◌, [], ◌+◌, ◌<◌, List, Option, Some, ap, ap₂, get_or, length, position, set, subst, sym, take, ◌∙◌, arith, rules}
 use Rattle.std.proofs.lemmas.List.{length-set}
 use Rattle.sql_bound.specs.Outputs.{keys_of, same_keys}
 use Rattle.exec_group.specs.Codes.{AreNoted}
@@ -20,7 +20,7 @@ loop-place-preserved g c =
     let noted = c.loop-place.noted.items in
     let met : next ≡ met_one c.loop-place.self (key p) = search rules in
     let there : position (λ k. same_keys k (key p)) next ≡ Some group = search rules in
-    let out : c.push.new.self.items ≡ c.loop-place.out.items ++ group ∷ [] = search rules in
+    let out : c.push_reserved.new.self.items ≡ c.loop-place.out.items ++ group ∷ [] = search rules in
     let code_is : c.code-code.result ≡ code p = search rules in
     let slot : c.enter_noted.new.noted ≡ Some group = search rules in
     let after : set noted c.code-code.result c.enter_noted.new.noted ≡ set noted (code p) (Some group) = ap₂ (λ (k : ℕ) (o : Option ℕ). set noted k o) code_is slot in
@@ -31,4 +31,5 @@ loop-place-preserved g c =
           (entered_more key places i c.args.self.now c.loop-place.self next c.loop-place.out.items group c.loop-place-test.true met there c.loop-place.invariant.entered);
       noted = subst (λ (ns : List (Option ℕ)). AreNoted key code ns next) (sym after) (noted_more key code noted c.loop-place.self next p group c.requires inside met there c.loop-place.invariant.noted);
       long = ap (λ (ns : List (Option ℕ)). length ns) after ∙ length-set noted (code p) (Some group) ∙ c.loop-place.invariant.long;
+      room = omega (arith, c.push_reserved.ensures.len, c.push_reserved.ensures.capacity, c.loop-place.invariant.room, c.loop-place-test.true);
     }
