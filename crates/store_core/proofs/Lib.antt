@@ -26,3 +26,4 @@ pub mod Purging
 pub mod Refreshing
 pub mod Found
 pub mod Stepping
+pub mod LeastNames

@@ -1,6 +1,6 @@
 -- Jobs that raise the epochs up to which projections are on disk, over a running store.
 use Rattle.std.proofs.Common.{◌≡◌, ◌≤◌, ◌+◌, ◌*◌, inl, inr, ℕ, suc, Bool, true, false, List, length, refl, sym, ◌∙◌, ap, subst, arith}
-use Rattle.std.specs.Prelude.{nat_le, Contains, Some, Result, OnOk, IsSomeAnd}
+use Rattle.std.specs.Prelude.{nat_le, Contains, Some, Result, Err, OnOk, IsSomeAnd}
 use Rattle.std.specs.List.{All, slice_get}
 use Rattle.std.proofs.lemmas.Bool.{OnTrue_at}
 use Rattle.std.proofs.lemmas.List.Elements.{All-contains_itself, All-weaker}
@@ -38,7 +38,7 @@ use Rattle.store_core.proofs.Doing.{drawn_does}
 use Rattle.store_core.proofs.Events.{renumbered, viewed}
 use Rattle.table_store.proofs.Counted.{StandsAt}
 use Rattle.store_core.proofs.Placed.{cut_reached, good_reached}
-use Rattle.store_core.proofs.Worked.{answered, drawn_with, failed, few_merges, rise_of, spent_same, stopped_at, unit_fault, unit_ok, worked_begins, worked_draws, worked_ends, worked_fails, worked_more, Leaving, Turns, WorkedTo}
+use Rattle.store_core.proofs.Worked.{answered, drawn_with, failed, few_merges, rise_of, spent_same, stopped_at, unit_fault, unit_ok, worked_begins, worked_draws, worked_ends, worked_fails, worked_more, worked_short, Leaving, Turns, WorkedTo}
 
 -- ---- a rise by its place
 
@@ -237,6 +237,9 @@ merging_done disk start r m = raised_all disk any_shape AnyNames start m.jobs r 
 pub merging_stops : {D : Type 0} (disk : Ghosts D) {old now : D} (start : State) (r : Running) (spent : Bool) → Merging disk start r old now → spent ≡ nat_le 1152921504606846976 r.seen.catalogue.next → spent ≡ true → RaisesAllOf disk any_shape r old now (answered true) start
 merging_stops disk start r spent m spent_is all_spent =
     raised_part disk any_shape AnyNames start m.jobs r spent (few_merges m.jobs start.parts (few_done m.jobs (parts_of r.seen.catalogue.tables) start.parts m.fewer)) m.chain spent_is all_spent
+
+pub merging_short : {D : Type 0} (disk : Ghosts D) {old now : D} (start : State) (r : Running) → Merging disk start r old now → RaisesAllOf disk any_shape r old now (Err fault.Memory) start
+merging_short disk start r m = worked_short disk (RaisesOne any_shape) (RaisesAll any_shape start) (KeptRaised AnyNames start) (LeftRaised start) start m.jobs r m.chain
 
 pub merging_fails : {D : Type 0} (disk : Ghosts D) {old now new : D} (start : State) (i j : ℕ) (was is : Running) (spent : Bool) (f : StoreFault) → Merging disk start was old now → spent ≡ nat_le 1152921504606846976 was.seen.catalogue.next → spent ≡ false
     → ((state : State) → IsState disk was now state → Does disk fault.Memory was is now new (unit_fault f) state (RisesAt i j state)) → ((state : State) → IsState disk was now state → IsUnblamed f) → is ≡ was → RaisesAllOf disk any_shape is old new (failed f) start

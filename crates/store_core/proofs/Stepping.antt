@@ -42,7 +42,7 @@ use Rattle.store_core.specs.Events.{BeforeOrAfter, Does, MovesFirstOf}
 use Rattle.store_core.specs.Jobs.{RefreshesAt, RisesAt}
 use Rattle.store_core.specs.Running.{job_dropped, mover_of, running, IsState, Mover, Running}
 use Rattle.store_core.specs.Waiting.{has_name}
-use Rattle.store_core.specs.Stepping.{all_stale, stale_in, with_asked, with_mover, Begins, FinishesJob, InstallsJob, IsStaleNamed, MoverStepsOf}
+use Rattle.store_core.specs.Stepping.{all_stale, stale_in, with_asked, with_mover, Begins, BeginsAt, FinishesJob, InstallsJob, IsStaleNamed, MoverStepsOf}
 use Rattle.store_core.proofs.Anew.{all_at, some_and}
 use Rattle.store_core.proofs.Raising.{does_wider, risen_rises}
 use Rattle.store_core.proofs.Purging.{found_also, named_there, shapes_of}
@@ -211,10 +211,31 @@ job_failed {D} disk {old} {new} was is last f state does = record {
 pub dropped_at : (was : Seen) (sessions : List (List Changes)) (current : ℕ) (mover dropped : Mover) (now : Running) → running was sessions current mover ≡ now → dropped ≡ job_dropped mover → running was sessions current dropped ≡ with_mover (job_dropped now.mover) now
 dropped_at was sessions current mover dropped now view is = ap (λ (m : Mover). running was sessions current m) is ∙ ap (λ (r : Running). with_mover (job_dropped r.mover) r) view
 
+pub mover_begun : (was : Seen) (sessions : List (List Changes)) (current : ℕ) (mover begun : Mover) (now : Running) (steps : ℕ) (refreshing : Option (List ℕ)) → running was sessions current mover ≡ now → begun ≡ mover_of mover.asked steps refreshing
+    → running was sessions current begun ≡ with_mover (mover_of now.mover.asked steps refreshing) now
+mover_begun was sessions current mover begun now steps refreshing view is =
+    ap (λ (m : Mover). running was sessions current m) is ∙ ap (λ (r : Running). with_mover (mover_of r.mover.asked steps refreshing) r) view
+
 pub begun_at : (was : Seen) (sessions : List (List Changes)) (current : ℕ) (mover begun : Mover) (now : Running) (steps : ℕ) (refreshing : Option (List ℕ)) → running was sessions current mover ≡ now → begun ≡ mover_of mover.asked steps refreshing → (3 ≤ steps) × (steps ≤ 66)
     → Begins now (running was sessions current begun)
 begun_at was sessions current mover begun now steps refreshing view is (least, most) =
-    inr (steps, refreshing, least, most, ap (λ (m : Mover). running was sessions current m) is ∙ ap (λ (r : Running). with_mover (mover_of r.mover.asked steps refreshing) r) view)
+    inr (steps, refreshing, least, most, mover_begun was sessions current mover begun now steps refreshing view is)
+
+-- a job that begins has as many steps as its projection has columns, and two
+pub begins_at : (old new : Running) (at : Place) (steps : ℕ) (refreshing : Option (List ℕ)) → IsSomeAnd (projection_at old.seen.catalogue.tables at) (λ p. steps ≡ length p.columns + 2)
+    → new ≡ with_mover (mover_of old.mover.asked steps refreshing) old → BeginsAt at refreshing old new
+begins_at old new at steps refreshing there is = by (projection_at old.seen.catalogue.tables at) there
+  where
+    by : (o : Option Projection) → IsSomeAnd o (λ p. steps ≡ length p.columns + 2) → IsSomeAnd o (λ p. new ≡ with_mover (mover_of old.mover.asked (length p.columns + 2) refreshing) old)
+    by None none = absurd none
+    by (Some p) long = is ∙ ap (λ (n : ℕ). with_mover (mover_of old.mover.asked n refreshing) old) long
+
+pub steps_are : (tables : List kept.Table) (was : Seen) (sessions : List (List Changes)) (current : ℕ) (mover : Mover) (now : Running) (at : Place) (p : Projection) (columns : ℕ) → was.catalogue.tables ≡ tables → running was sessions current mover ≡ now
+    → Some p ≡ projection_at tables at → columns ≡ length p.columns → IsSomeAnd (projection_at now.seen.catalogue.tables at) (λ q. columns + 2 ≡ length q.columns + 2)
+steps_are tables was sessions current mover now at p columns same view there long =
+    subst (λ (r : Running). IsSomeAnd (projection_at r.seen.catalogue.tables at) (λ q. columns + 2 ≡ length q.columns + 2)) view
+    (subst (λ (ts : List kept.Table). IsSomeAnd (projection_at ts at) (λ q. columns + 2 ≡ length q.columns + 2)) (sym same)
+    (subst (λ (o : Option Projection). IsSomeAnd o (λ q. columns + 2 ≡ length q.columns + 2)) there (ap (λ (n : ℕ). n + 2) long)))
 
 -- a projection of a valid catalogue has from 1 to 64 columns
 pub steps_fit : (root : Catalogue) (tables : List kept.Table) (at : Place) (p : Projection) (columns : ℕ) → IsValid root → tables ≡ root.tables → Some p ≡ projection_at tables at → columns ≡ length p.columns → (3 ≤ columns + 2) × (columns + 2 ≤ 66)

@@ -195,6 +195,11 @@ pub worked_ends : {D : Type 0} (disk : Ghosts D) (Job : State → State → Type
     → (chain : WorkedTo disk Job Kept Leave start jobs r old now) → All stopped chain.mid → JobsOf disk Job All Leave r old now (answered stopped) start
 worked_ends disk Job All Kept Leave start jobs r stopped chain all = record { done = (chain.mid, all, chain.here); undone = λ wants. absurd (cc); unblamed = tt; any_moment = chain.any_moment }
 
+-- memory was short behind them
+pub worked_short : {D : Type 0} (disk : Ghosts D) (Job : State → State → Type 0) (All : Bool → State → Type 0) (Kept : ℕ → State → Type 0) (Leave : Contents → Type 0) {old now : D} (start : State) (jobs : ℕ) (r : Running)
+    → WorkedTo disk Job Kept Leave start jobs r old now → JobsOf disk Job All Leave r old now (Err fault.Memory) start
+worked_short disk Job All Kept Leave start jobs r chain = record { done = tt; undone = λ wants. (chain.mid, (jobs, chain.done), chain.here); unblamed = tt; any_moment = chain.any_moment }
+
 -- a job failed
 pub worked_fails : {D : Type 0} (disk : Ghosts D) (Job At : State → State → Type 0) (All : Bool → State → Type 0) (Kept : ℕ → State → Type 0) (Leave : Contents → Type 0) {old now new : D} (start : State) (jobs : ℕ) (was is : Running) (spent : Bool) (f : StoreFault)
     → WorkedTo disk Job Kept Leave start jobs was old now → spent ≡ nat_le 1152921504606846976 was.seen.catalogue.next → spent ≡ false → Turns disk was now Job At Kept jobs → Leaving Job Kept Leave start

@@ -1,6 +1,8 @@
 -- The steps of the mover over a running store.
-use Rattle.std.specs.Prelude.{ℕ, ◌≡◌, ◌≤◌, ◌⊎◌, false, List, [], Option, Result, IfErr, OnOk, IsErrOf, map, filter, not}
-use Rattle.std.specs.List.{flat_map}
+use Rattle.std.specs.Prelude.{ℕ, ◌≡◌, ◌≤◌, ◌+◌, ◌⊎◌, Bool, false, List, [], Option, None, Some, Result, Contains, IfErr, OnOk, IsErrOf, IsSomeAnd, is_some, length, map, filter, not}
+use Rattle.std.specs.List.{All, flat_map}
+use Rattle.std.specs.Cmp.Lexicographic.{slice_cmp}
+use Rattle.std.specs.Ordering.{is_lt, nat_cmp}
 use Rattle.col_disk.specs.Faults.{IsUnblamed}
 use Rattle.col_disk.specs.Moved.{Leaves}
 use Rattle.col_disk.specs.declared.disk.Disk.{Ghosts}
@@ -11,6 +13,10 @@ use Rattle.catalog_types.specs.declared.catalogue.Table as kept
 use Rattle.db_model.specs.Mover.{given_up, Installs, MoverSteps}
 use Rattle.db_model.specs.Numbers.{IsDrawn}
 use Rattle.db_model.specs.State.{State}
+use Rattle.mover_policy.specs.First.{all_projections, behind_in, first_in, projection_at}
+use Rattle.mover_policy.specs.Merging.{IsDue, IsNext}
+use Rattle.mover_policy.specs.declared.first.Place.{Place}
+use Rattle.mover_policy.specs.declared.merging.Merge.{Merge}
 use Rattle.store_core.specs.Events.{BeforeOrAfter}
 use Rattle.store_core.specs.Running.{mover_of, IsState, Mover, Running}
 
@@ -38,6 +44,47 @@ abbrev pub Begins : Running → Running → Type 0
 Begins old new =
     ((old.mover.asked ≡ []) × (new ≡ old))
     ⊎ ((steps : ℕ) × (refreshing : Option (List ℕ)) × (3 ≤ steps) × (steps ≤ 66) × (new ≡ with_mover (mover_of old.mover.asked steps refreshing) old))
+
+-- no projection is up to date and has four containers of a level
+abbrev pub NoneIsDue : List kept.Table → Type 0
+NoneIsDue tables = All (λ p. IsDue p → ⊥) (all_projections tables)
+
+-- a job of the projection at a place begins: behind this step it has one for each column, one for the epochs and the last one
+abbrev pub BeginsAt : Place → Option (List ℕ) → Running → Running → Type 0
+BeginsAt at refreshing old new =
+    IsSomeAnd (projection_at old.seen.catalogue.tables at) (λ p. new ≡ with_mover (mover_of old.mover.asked (length p.columns + 2) refreshing) old)
+
+abbrev pub is_less : List ℕ → List ℕ → Bool
+is_less m n = is_lt (slice_cmp nat_cmp m n)
+
+-- the least of some names
+pub record IsLeastOf (names : List (List ℕ)) (name : List ℕ) : Type 0 where
+  pub among : Contains names name
+  pub least : All (λ other. is_less other name ≡ false) names
+
+-- the refresh of a projection that waits begins
+pub record BeginsRefresh (old new : Running) : Type 0 where
+  pub name : List ℕ
+  pub first : IsLeastOf old.mover.asked name
+  pub at : Place
+  pub stale : IsSomeAnd (projection_at old.seen.catalogue.tables at) (IsStaleNamed name)
+  pub begins : BeginsAt at (Some name) old new
+
+-- the merge that comes next begins
+pub record BeginsMerge (old new : Running) : Type 0 where
+  pub merge : Merge
+  pub next : IsNext old.seen.catalogue.tables merge
+  pub begins : BeginsAt merge.at None old new
+
+-- Which job begins: the merge that comes next; where none is due, the refresh of the projection of the least name that waits; where none waits,
+-- none.
+abbrev pub BeginsNext : Running → Running → Type 0
+BeginsNext old new =
+    BeginsMerge old new ⊎ (NoneIsDue old.seen.catalogue.tables × (((old.mover.asked ≡ []) × (new ≡ old)) ⊎ BeginsRefresh old new))
+
+-- some projection is behind
+abbrev pub is_behind : Running → Bool
+is_behind r = is_some (first_in (behind_in r.seen.catalogue.last (all_projections r.seen.catalogue.tables)))
 
 -- what a job is for
 abbrev pub InstallsJob : State → State → Type 0

@@ -1,6 +1,6 @@
 //! The store, and its events.
 
-ghost use Rattle.std.specs.Prelude.{◌≡◌, ◌≤◌, ◌<◌, ℕ, Bool, [], true, not, filter, None, Some, List as Items, length, IfOk, IfErr, IfSome, OnOk, OnErr, IsErrOf, IsSomeAnd};
+ghost use Rattle.std.specs.Prelude.{◌≡◌, ◌≤◌, ◌<◌, ℕ, Bool, [], true, false, not, filter, None, Some, List as Items, length, IfOk, IfErr, IfSome, OnOk, OnErr, IsErrOf, IsSomeAnd};
 ghost use Rattle.std.specs.Bool.{OnTrue};
 ghost use Rattle.std.specs.List.{All, slice_get, slice_index_or};
 ghost use Rattle.common_laws.specs.Causes.{HasCause};
@@ -25,6 +25,7 @@ ghost use Rattle.table_store.specs.Moving.{IsFreshAt};
 ghost use Rattle.folder_model.specs.Reopening.{Reopens};
 ghost use Rattle.store_opening.specs.Opening.{BlamesOpening, IsLeftAlone, IsOpening, IsStartOf, IsStill, WhereBlamed};
 ghost use Rattle.store_core.specs.Running.{IsState, frame_of};
+ghost use Rattle.store_core.specs.Stepping.{is_behind};
 ghost use Rattle.store_core.specs.Waiting.{has_name};
 ghost use Rattle.store_core.specs.Sessions.{with_current, with_own, with_pending};
 ghost use Rattle.store_query.specs.Faults.{IsUnblamed};
@@ -283,6 +284,8 @@ impl Store {
     pub fn move_first<D: Disk>(&mut self, alloc: Global, disk: &mut D) -> Result<bool, StoreFault>
         ensures does { (state : State) → IsState ⟦<D as Disk>⟧ self.old disk.old state → MovesFirstOf ⟦<D as Disk>⟧ no_memory self.old self.new disk.old disk.new result state }
         ensures job { IfOk result (λ moved. OnTrue moved (MovedBehind self.old.seen.catalogue self.new.seen.catalogue)) }
+        ensures behind { IfOk result (λ moved. moved ≡ is_behind self.old) }
+        ensures stays { IfOk result (λ moved. moved ≡ false → self.new ≡ self.old) }
         ensures unblamed { IfErr result (λ fault. (state : State) → IsState ⟦<D as Disk>⟧ self.old disk.old state → IsUnblamedStore fault) }
         ensures same { OnErr result (self.new ≡ self.old) }
         ensures cause { HasCause StoreFault.Disk (D.faults disk.old) (D.faults disk.new) result }

@@ -9,12 +9,14 @@ ghost use Rattle.col_disk.specs.declared.disk.StoreFault.TheVariants.{Memory as 
 ghost use Rattle.db_model.specs.Events.{is_not_named};
 ghost use Rattle.db_model.specs.State.{State};
 ghost use Rattle.mover_policy.specs.First.{all_projections};
+ghost use Rattle.mover_policy.specs.Merging.{IsNext};
 ghost use Rattle.table_jobs.specs.Jobs.{DrawsAnew, DrawsMerged, OfProjection};
 ghost use Rattle.table_jobs.specs.Oldest.{HasFour};
 ghost use Rattle.table_store.specs.Moving.{IsFreshAt};
 ghost use Rattle.store_core.specs.Jobs.{is_of, stale_place, RaisesAllOf, RefreshesAllOf, RefreshesAt, RisesAt};
 ghost use Rattle.store_core.specs.Events.{Does};
 ghost use Rattle.store_core.specs.Running.{IsState};
+ghost use Rattle.store_core.specs.Stepping.{NoneIsDue};
 
 use super::Store;
 use catalog_types::Table;
@@ -50,6 +52,7 @@ impl Store {
     pub(crate) fn next_merge(&self) -> Option<Merge>
         ensures fresh { IfSome result (λ m. IsFreshAt self.now.seen.stores m.at.table m.at.place) }
         ensures four { IfSome result (λ m. OfProjection m.at.table m.at.place self.now.seen.catalogue (λ p. HasFour m.level p.containers)) }
+        ensures next { MatchOption result (NoneIsDue self.now.seen.catalogue.tables) (IsNext self.now.seen.catalogue.tables) }
     {
         next_merge(self.tables.root().tables.as_slice())
     }
@@ -156,10 +159,11 @@ impl Store {
         }
     }
 
-    /// MERGEOUT: as long as some projection has four containers of a level, these give way to one, up to a merge that would draw where the
-    /// numbers of files are spent. Answers whether it stopped there. Where memory is short, some merges may have been done before; over a
-    /// state no file is blamed.
+    /// MERGEOUT: as long as some up-to-date projection has four containers of a level, these give way to one, up to a merge that would draw
+    /// where the numbers of files are spent. Answers whether it stopped there; where it didn't, no such projection is left. Where memory is
+    /// short, some merges may have been done before; over a state no file is blamed.
     pub fn merge_all<D: Disk>(&mut self, alloc: Global, disk: &mut D) -> Result<bool, StoreFault>
+        ensures left { IfOk result (λ stopped. stopped ≡ false → NoneIsDue self.new.seen.catalogue.tables) }
         ensures jobs { (state : State) → IsState ⟦<D as Disk>⟧ self.old disk.old state → RaisesAllOf ⟦<D as Disk>⟧ (λ s. true) self.new disk.old disk.new result state }
         ensures cause { HasCause StoreFault.Disk (D.faults disk.old) (D.faults disk.new) result }
     {
@@ -178,7 +182,7 @@ impl Store {
                 Err(fault) => return Err(fault),
             }
         }
-        Ok(false)
+        Err(StoreFault::Memory)
     }
 
     /// PURGE_TABLE of the table at a place, which has this name: each of its up-to-date projections that has rows deleted up to the ancient

@@ -1,8 +1,8 @@
 //! The steps of the mover.
 
-ghost use Rattle.std.specs.Prelude.{◌≡◌, ◌≤◌, ◌<◌, ◌++◌, [], false, length, Contains, MatchOption, IfErr, IfOk, IfSome, OnErr, OnOk, IsSomeAnd};
+ghost use Rattle.std.specs.Prelude.{◌≡◌, ◌≤◌, ◌<◌, ◌+◌, ◌++◌, ◌∷◌, ◌⊎◌, ℕ, List, [], false, get_or, length, nat_le, Contains, MatchOption, IfErr, IfOk, IfSome, OnErr, OnOk, IsSomeAnd};
 ghost use Rattle.std.specs.Bool.{OnTrue};
-ghost use Rattle.std.specs.List.{slice_get};
+ghost use Rattle.std.specs.List.{All, slice_get};
 ghost use Rattle.common_laws.specs.Causes.{HasCause};
 ghost use Rattle.col_disk.specs.Faults.{IsUnblamed as IsUnblamedStore};
 ghost use Rattle.col_disk.specs.declared.disk.StoreFault.TheVariants.{Memory as no_memory};
@@ -10,7 +10,8 @@ ghost use Rattle.db_model.specs.Numbers.{are_spent};
 ghost use Rattle.db_model.specs.State.{State};
 ghost use Rattle.store_core.specs.Events.{Does};
 ghost use Rattle.store_core.specs.Running.{IsState};
-ghost use Rattle.store_core.specs.Stepping.{all_stale, stale_in, with_asked, Begins, FinishesJob, InstallsJob, IsStaleNamed, MoverStepsOf};
+ghost use Rattle.mover_policy.specs.First.{projection_at};
+ghost use Rattle.store_core.specs.Stepping.{all_stale, is_behind, is_less, stale_in, with_asked, Begins, BeginsAt, BeginsNext, BeginsRefresh, FinishesJob, InstallsJob, IsLeastOf, IsStaleNamed, MoverStepsOf};
 ghost use Rattle.table_jobs.specs.Jobs.{OfProjection};
 
 use super::Store;
@@ -47,18 +48,37 @@ fn all_stale(alloc: Global, tables: &[Table]) -> Result<Vec<Name>, AllocError>
     Ok(out)
 }
 
-/// The place of the least of some names, byte by byte; there is none where there are no names.
+/// Whether a name is less than another, byte by byte.
+fn is_less(name: &Name, other: &Name) -> bool
+    ensures { result ≡ is_less name.now other.now }
+{
+    name.as_slice().cmp(&other.as_slice()).is_lt()
+}
+
+/// The place of the lesser of two of these names; of the first one where neither is.
+fn lesser_of(names: &[Name], best: usize, place: usize) -> usize
+    requires best { best < length names.now }
+    requires place { place < length names.now }
+    ensures within { result < length names.now }
+    ensures least { (seen : List (List ℕ)) → All (λ m. is_less m (get_or names.now best []) ≡ false) seen → All (λ m. is_less m (get_or names.now result []) ≡ false) (seen ++ get_or names.now place [] ∷ []) }
+{
+    if is_less(&names[place], &names[best]) {
+        place
+    } else {
+        best
+    }
+}
+
+/// The place of the least of some names; there is none where there are no names.
 fn least(names: &[Name]) -> Option<usize>
-    ensures { MatchOption result (names.now ≡ []) (λ place. place < length names.now) }
+    ensures { MatchOption result (names.now ≡ []) (λ place. (place < length names.now) × IsLeastOf names.now (get_or names.now place [])) }
 {
     if names.is_empty() {
         return None;
     }
     let mut best = 0;
     for place in 1..names.len() {
-        if names[place].as_slice() < names[best].as_slice() {
-            best = place;
-        }
+        best = lesser_of(names, best, place);
     }
     Some(best)
 }
@@ -120,7 +140,8 @@ impl Store {
 
     /// How many steps the job of the projection at a place has behind its begin: one for each column, one for the epochs, and the last one.
     fn steps_at(&self, at: Place) -> Option<usize>
-        ensures { IfSome result (λ steps. (3 ≤ steps) × (steps ≤ 66)) }
+        ensures fit { IfSome result (λ steps. (3 ≤ steps) × (steps ≤ 66)) }
+        ensures are { IfSome result (λ steps. IsSomeAnd (projection_at self.now.seen.catalogue.tables at) (λ p. steps ≡ length p.columns + 2)) }
     {
         match projection_at(self.tables.root().tables.as_slice(), at) {
             Some(projection) => Some(projection.columns.as_slice().len() + 2),
@@ -131,6 +152,7 @@ impl Store {
     /// The job of the projection at a place begins.
     fn begin_at(&mut self, at: Place, refreshing: Option<Name>) -> Result<(), AllocError>
         ensures begun { OnOk result (Begins self.old self.new) }
+        ensures which { OnOk result (BeginsAt at refreshing self.old self.new) }
         ensures same { OnErr result (self.new ≡ self.old) }
     {
         match self.steps_at(at) {
@@ -145,6 +167,7 @@ impl Store {
     /// The refresh of the projection that waits and has the least name begins, if one waits.
     fn begin_refresh(&mut self, alloc: Global) -> Result<(), AllocError>
         ensures begun { OnOk result (Begins self.old self.new) }
+        ensures which { OnOk result (((self.old.mover.asked ≡ []) × (self.new ≡ self.old)) ⊎ BeginsRefresh self.old self.new) }
         ensures same { OnErr result (self.new ≡ self.old) }
     {
         let asked = self.mover.asked();
@@ -161,6 +184,7 @@ impl Store {
     /// A job begins: the merge that comes next, or else a refresh, if one waits.
     fn begin_job(&mut self, alloc: Global) -> Result<(), AllocError>
         ensures begun { OnOk result (Begins self.old self.new) }
+        ensures which { OnOk result (BeginsNext self.old self.new) }
         ensures same { OnErr result (self.new ≡ self.old) }
     {
         match self.next_merge() {
@@ -251,6 +275,7 @@ impl Store {
     /// One step of the mover: where the numbers of files are spent nothing; else the job in flight goes on, or the projection that comes
     /// first of those that are behind is moved out, or a job begins.
     pub fn step_mover<D: Disk>(&mut self, alloc: Global, disk: &mut D) -> Result<(), StoreFault>
+        ensures begins { OnOk result (nat_le 1152921504606846976 self.old.seen.catalogue.next ≡ false → self.old.mover.busy ≡ 0 → is_behind self.old ≡ false → BeginsNext self.old self.new) }
         ensures steps { (state : State) → IsState ⟦<D as Disk>⟧ self.old disk.old state → MoverStepsOf ⟦<D as Disk>⟧ self.new disk.old disk.new result state }
         ensures cause { HasCause StoreFault.Disk (D.faults disk.old) (D.faults disk.new) result }
     {
@@ -270,6 +295,7 @@ impl Store {
 
     /// The same where no job is in flight and numbers are left.
     fn move_or_begin<D: Disk>(&mut self, alloc: Global, disk: &mut D) -> Result<(), StoreFault>
+        ensures begins { OnOk result (is_behind self.old ≡ false → BeginsNext self.old self.new) }
         ensures steps { (state : State) → IsState ⟦<D as Disk>⟧ self.old disk.old state → are_spent state ≡ false → state.busy ≡ 0 → MoverStepsOf ⟦<D as Disk>⟧ self.new disk.old disk.new result state }
         ensures cause { HasCause StoreFault.Disk (D.faults disk.old) (D.faults disk.new) result }
     {

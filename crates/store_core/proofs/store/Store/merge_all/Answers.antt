@@ -1,7 +1,7 @@
 use Rattle.std.proofs.Common.{◌≤◌, length, arith, subst, sym}
 use Rattle.mover_policy.specs.First.{all_projections}
 use Rattle.store_core.specs.Running.{running, Running}
-use Rattle.store_core.proofs.Raising.{merging_begins, merging_done, merging_fails, merging_more, merging_stops}
+use Rattle.store_core.proofs.Raising.{merging_begins, merging_done, merging_fails, merging_more, merging_short, merging_stops}
 use Rattle.store_core.proofs.Stepping.{gave_up_at}
 use Rattle.store_core.proofs.store.Store.merge_all.Goals as goal
 
@@ -29,4 +29,4 @@ loop-preserved g c = record {
 }
 
 pub returns-clause-jobs : goal.returns-clause-jobs
-returns-clause-jobs g c = λ state here. merging_done g.D.Disk state c.loop.self (c.loop.invariant.chain state here)
+returns-clause-jobs g c = λ state here. merging_short g.D.Disk state c.loop.self (c.loop.invariant.chain state here)
