@@ -8,6 +8,7 @@ use Rattle.col_disk.specs.Moved.{Leaves}
 use Rattle.col_disk.specs.declared.disk.Disk.{Ghosts}
 use Rattle.col_disk.specs.declared.disk.StoreFault.{StoreFault}
 use Rattle.col_disk.specs.declared.disk.StoreFault.TheVariants.{Memory}
+use Rattle.catalog_types.specs.declared.catalogue.Catalogue.{Catalogue}
 use Rattle.catalog_types.specs.declared.catalogue.Projection.{Projection}
 use Rattle.catalog_types.specs.declared.catalogue.Table as kept
 use Rattle.db_model.specs.Mover.{given_up, Installs, MoverSteps}
@@ -17,6 +18,7 @@ use Rattle.mover_policy.specs.First.{all_projections, behind_in, first_in, proje
 use Rattle.mover_policy.specs.Merging.{IsDue, IsNext}
 use Rattle.mover_policy.specs.declared.first.Place.{Place}
 use Rattle.mover_policy.specs.declared.merging.Merge.{Merge}
+use Rattle.table_jobs.specs.Jobs.{DrawsMerged, OfProjection}
 use Rattle.store_core.specs.Events.{BeforeOrAfter}
 use Rattle.store_core.specs.Running.{mover_of, IsState, Mover, Running}
 
@@ -81,6 +83,12 @@ pub record BeginsMerge (old new : Running) : Type 0 where
 abbrev pub BeginsNext : Running → Running → Type 0
 BeginsNext old new =
     BeginsMerge old new ⊎ (NoneIsDue old.seen.catalogue.tables × (((old.mover.asked ≡ []) × (new ≡ old)) ⊎ BeginsRefresh old new))
+
+-- The merge that comes next is made: of all entries that of its projection alone is another one, which has at least two containers less. Where
+-- none is due, nothing is made.
+abbrev pub MergesNext : Catalogue → Catalogue → Type 0
+MergesNext old new =
+    ((m : Merge) × IsNext old.tables m × OfProjection m.at.table m.at.place old (DrawsMerged m.at.table m.at.place old new)) ⊎ (NoneIsDue old.tables × (new ≡ old))
 
 -- some projection is behind
 abbrev pub is_behind : Running → Bool

@@ -1,6 +1,6 @@
 //! The steps of the mover.
 
-ghost use Rattle.std.specs.Prelude.{◌≡◌, ◌≤◌, ◌<◌, ◌+◌, ◌++◌, ◌∷◌, ◌⊎◌, ℕ, List, [], false, get_or, length, nat_le, Contains, MatchOption, IfErr, IfOk, IfSome, OnErr, OnOk, IsSomeAnd};
+ghost use Rattle.std.specs.Prelude.{◌≡◌, ◌≤◌, ◌<◌, ◌+◌, ◌++◌, ◌∷◌, ◌⊎◌, ℕ, List, [], false, get_or, length, nat_le, None, Contains, MatchOption, IfErr, IfOk, IfSome, OnErr, OnOk, IsSomeAnd};
 ghost use Rattle.std.specs.Bool.{OnTrue};
 ghost use Rattle.std.specs.List.{All, slice_get};
 ghost use Rattle.common_laws.specs.Causes.{HasCause};
@@ -11,7 +11,7 @@ ghost use Rattle.db_model.specs.State.{State};
 ghost use Rattle.store_core.specs.Events.{Does};
 ghost use Rattle.store_core.specs.Running.{IsState};
 ghost use Rattle.mover_policy.specs.First.{projection_at};
-ghost use Rattle.store_core.specs.Stepping.{all_stale, is_behind, is_less, stale_in, with_asked, Begins, BeginsAt, BeginsNext, BeginsRefresh, FinishesJob, InstallsJob, IsLeastOf, IsStaleNamed, MoverStepsOf};
+ghost use Rattle.store_core.specs.Stepping.{all_stale, is_behind, is_less, stale_in, with_asked, Begins, BeginsAt, BeginsNext, BeginsRefresh, FinishesJob, InstallsJob, IsLeastOf, IsStaleNamed, MergesNext, MoverStepsOf};
 ghost use Rattle.table_jobs.specs.Jobs.{OfProjection};
 
 use super::Store;
@@ -195,6 +195,7 @@ impl Store {
 
     /// The merge that comes next, if there is one.
     fn merge_due<D: Disk>(&mut self, alloc: Global, disk: &mut D) -> Result<(), StoreFault>
+        ensures merges { OnOk result (MergesNext self.old.seen.catalogue self.new.seen.catalogue) }
         ensures does { (state : State) → IsState ⟦<D as Disk>⟧ self.old disk.old state → Does ⟦<D as Disk>⟧ no_memory self.old self.new disk.old disk.new result state (InstallsJob state) }
         ensures unblamed { IfErr result (λ fault. (state : State) → IsState ⟦<D as Disk>⟧ self.old disk.old state → IsUnblamedStore fault) }
         ensures same { OnErr result (self.new ≡ self.old) }
@@ -236,7 +237,9 @@ impl Store {
     }
 
     /// The projection that the job in flight refreshes, as a name of its own.
-    fn refreshing(&self, alloc: Global) -> Result<Option<Name>, AllocError> {
+    fn refreshing(&self, alloc: Global) -> Result<Option<Name>, AllocError>
+        ensures { IfOk result (λ name. name ≡ self.now.mover.refreshing) }
+    {
         match self.mover.refreshing() {
             Some(name) => Ok(Some(name.copy(alloc)?)),
             None => Ok(None),
@@ -245,6 +248,7 @@ impl Store {
 
     /// What the job in flight is for: what it makes is there after a stop once this has answered Ok.
     fn install<D: Disk>(&mut self, alloc: Global, disk: &mut D) -> Result<(), StoreFault>
+        ensures merges { OnOk result (self.old.mover.refreshing ≡ None → MergesNext self.old.seen.catalogue self.new.seen.catalogue) }
         ensures does { (state : State) → IsState ⟦<D as Disk>⟧ self.old disk.old state → Does ⟦<D as Disk>⟧ no_memory self.old self.new disk.old disk.new result state (InstallsJob state) }
         ensures unblamed { IfErr result (λ fault. (state : State) → IsState ⟦<D as Disk>⟧ self.old disk.old state → IsUnblamedStore fault) }
         ensures same { OnErr result (self.new ≡ self.old) }
@@ -259,6 +263,7 @@ impl Store {
 
     /// The last step of the job in flight.
     fn finish<D: Disk>(&mut self, alloc: Global, disk: &mut D) -> Result<(), StoreFault>
+        ensures merges { OnOk result (self.old.mover.refreshing ≡ None → MergesNext self.old.seen.catalogue self.new.seen.catalogue) }
         ensures does { (state : State) → IsState ⟦<D as Disk>⟧ self.old disk.old state → Does ⟦<D as Disk>⟧ no_memory self.old self.new disk.old disk.new result state (FinishesJob state) }
         ensures unblamed { IfErr result (λ fault. (state : State) → IsState ⟦<D as Disk>⟧ self.old disk.old state → IsUnblamedStore fault) }
         ensures same { OnErr result (self.new ≡ self.old) }
@@ -276,6 +281,7 @@ impl Store {
     /// first of those that are behind is moved out, or a job begins.
     pub fn step_mover<D: Disk>(&mut self, alloc: Global, disk: &mut D) -> Result<(), StoreFault>
         ensures begins { OnOk result (nat_le 1152921504606846976 self.old.seen.catalogue.next ≡ false → self.old.mover.busy ≡ 0 → is_behind self.old ≡ false → BeginsNext self.old self.new) }
+        ensures merges { OnOk result (nat_le 1152921504606846976 self.old.seen.catalogue.next ≡ false → self.old.mover.busy ≡ 1 → self.old.mover.refreshing ≡ None → MergesNext self.old.seen.catalogue self.new.seen.catalogue) }
         ensures steps { (state : State) → IsState ⟦<D as Disk>⟧ self.old disk.old state → MoverStepsOf ⟦<D as Disk>⟧ self.new disk.old disk.new result state }
         ensures cause { HasCause StoreFault.Disk (D.faults disk.old) (D.faults disk.new) result }
     {
