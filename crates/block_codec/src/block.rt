@@ -1,6 +1,6 @@
 //! The values of a block in memory.
 
-ghost use Rattle.std.specs.Prelude.{◌≡◌, ◌<◌, Bool, true, length, map, slice_index_or, IfOk, IfSome};
+ghost use Rattle.std.specs.Prelude.{◌≡◌, ◌<◌, ℤ, Bool, true, length, map, slice_index_or, IfOk, IfSome, IfNone};
 ghost use Rattle.std.specs.List.{All, list_all};
 ghost use Rattle.col_value.specs.declared.value.Value.{Value as Worth};
 ghost use Rattle.col_value.specs.declared.value.Value.TheVariants.{Null};
@@ -73,7 +73,8 @@ pub fn number_value(n: i64) -> Value
 
 /// The number of a lane that stands for a value, if one does.
 pub fn lane_number(value: &Value) -> Option<i64>
-    ensures { IfSome result (λ n. number_value n ≡ value.now) }
+    ensures found { IfSome result (λ n. number_value n ≡ value.now) }
+    ensures none { IfNone result ((n : ℤ) → number_value n ≡ value.now → ⊥) }
 {
     match value {
         Value::Null => Some(i64::MIN),

@@ -1,9 +1,12 @@
-ghost use Rattle.std.specs.Prelude.{◌≡◌, ◌<◌, ◌^◌, length, IfOk};
+ghost use Rattle.std.specs.Prelude.{◌≡◌, ◌<◌, ◌^◌, length, map, IfOk};
 ghost use Rattle.col_bytes.specs.Parts.{Gives};
 ghost use Rattle.block_codec.specs.Blocks.{IsOneBlock};
+ghost use Rattle.block_codec.specs.Held.{number_value};
 ghost use Rattle.enc_plain.specs.Plain.{plain, plain_of};
 
-use block_codec::{Block, BlockCodec, are_one_block, read_count, values_len, vint_len};
+use block_codec::{
+    Block, BlockCodec, are_one_block, numbers_len, read_count, values_len, vint_len,
+};
 use col_bytes::{Stop, put_vint, read_tag, told};
 use col_value::Value;
 use std::alloc::{AllocError, Global};
@@ -22,6 +25,15 @@ pub fn block_len(values: &[Value]) -> usize
     ensures few { result < 2 ^ 27 }
 {
     1 + vint_len(values.len() as u64) + values_len(values)
+}
+
+/// How many bytes the block has of the values that numbers of a lane stand for.
+pub fn numbers_block_len(numbers: &[i64]) -> usize
+    requires { IsOneBlock (map number_value numbers.now) }
+    ensures exact { result ≡ length (plain (map number_value numbers.now)) }
+    ensures few { result < 2 ^ 27 }
+{
+    1 + vint_len(numbers.len() as u64) + numbers_len(numbers)
 }
 
 /// The values of the block that all of the bytes are.
