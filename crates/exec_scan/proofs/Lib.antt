@@ -1,5 +1,6 @@
 pub mod Alive
 pub mod Batched
+pub mod Blames
 pub mod Blocks
 pub mod Filled
 pub mod Gathered

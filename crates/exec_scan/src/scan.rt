@@ -14,7 +14,8 @@ ghost use Rattle.query_cover.specs.Seen.{placed};
 ghost use Rattle.exec_scan.specs.Batches.{IsBatch, rows_at};
 ghost use Rattle.exec_scan.specs.Opened.{IsOpening};
 ghost use Rattle.col_disk.specs.Faults.{IsUnblamed};
-ghost use Rattle.exec_scan.specs.Scanning.{AreLeft, AreOwn, AsksSame, BlamesContainerAt, Gives, HasOpenedAt, IsScanOf, start, steps_left};
+ghost use Rattle.proj_store.specs.Reading.{BlamesRows};
+ghost use Rattle.exec_scan.specs.Scanning.{AreLeft, AreOwn, AsksSame, BlamesContainerAt, Gives, HasOpenedAt, IsAtHand, IsScanOf, start, steps_left};
 
 use crate::batch::{Batch, put_row};
 use crate::opened::{Opened, open};
@@ -185,7 +186,9 @@ impl Scan {
         ensures gives { IfOk result (λ o. (m : Contents) → D.holds disk.old ≡ Some m → (left : List Stamped) → AreLeft m store.now.stored self.old left → Gives m store.now.stored self.old self.new left o) }
         ensures same { IfOk result (λ o. AsksSame self.old self.new) }
         ensures fewer { IfOk result (λ o. OnSome o (steps_left store.now.stored.entry (length store.now.stored.unsaved) self.new < steps_left store.now.stored.entry (length store.now.stored.unsaved) self.old)) }
+        ensures at_hand { IfOk result (λ o. IsAtHand (D.holds disk.old) store.now.stored self.old → IsAtHand (D.holds disk.new) store.now.stored self.new) }
         ensures unblamed { IfErr result (λ fault. (m : Contents) → D.holds disk.old ≡ Some m → (left : List Stamped) → AreLeft m store.now.stored self.old left → IsUnblamed fault) }
+        ensures blamed { IfErr result (λ fault. IsAtHand (D.holds disk.old) store.now.stored self.old → BlamesRows store.now.stored.entry (D.holds disk.old) fault) }
         ensures kept { D.holds disk.new ≡ D.holds disk.old }
         ensures moved { Moved ⟦<D as Disk>⟧ NoName NoName disk.old disk.new }
         ensures cause { HasCause StoreFault.Disk (D.faults disk.old) (D.faults disk.new) result }
@@ -229,7 +232,9 @@ impl Scan {
         ensures gives { IfOk result (λ b. (m : Contents) → D.holds disk.old ≡ Some m → (left : List Stamped) → AreLeft m store.now.stored self.old left → Gives m store.now.stored self.old self.new left (Some b)) }
         ensures same { IfOk result (λ b. AsksSame self.old self.new) }
         ensures fewer { IfOk result (λ b. steps_left store.now.stored.entry (length store.now.stored.unsaved) self.new < steps_left store.now.stored.entry (length store.now.stored.unsaved) self.old) }
+        ensures at_hand { IfOk result (λ b. IsAtHand (D.holds disk.old) store.now.stored self.old → IsAtHand (D.holds disk.new) store.now.stored self.new) }
         ensures unblamed { IfErr result (λ fault. (m : Contents) → D.holds disk.old ≡ Some m → (left : List Stamped) → AreLeft m store.now.stored self.old left → IsUnblamed fault) }
+        ensures blamed { IfErr result (λ fault. IsAtHand (D.holds disk.old) store.now.stored self.old → BlamesRows store.now.stored.entry (D.holds disk.old) fault) }
         ensures kept { D.holds disk.new ≡ D.holds disk.old }
         ensures moved { Moved ⟦<D as Disk>⟧ NoName NoName disk.old disk.new }
         ensures cause { HasCause StoreFault.Disk (D.faults disk.old) (D.faults disk.new) result }

@@ -11,6 +11,7 @@ ghost use Rattle.row_history.specs.History.{visible};
 ghost use Rattle.stored_rows.specs.Stored.{Stores};
 ghost use Rattle.query_cover.specs.Seen.{placed};
 ghost use Rattle.col_disk.specs.Faults.{IsUnblamed};
+ghost use Rattle.proj_store.specs.Reading.{BlamesRows};
 ghost use Rattle.exec_scan.specs.Scanning.{AreOwn};
 
 use crate::batch::Batch;
@@ -56,6 +57,7 @@ pub fn scan_rows<D: Disk>(
     ensures found { IfOk result (λ v. (m : Contents) → D.holds disk.old ≡ Some m → (rows : List Stamped) → Stores m store.now.stored rows → v.items ≡ map (placed places.items) (visible epoch rows)) }
     ensures valid { IfOk result (λ v. All IsRow v.items) }
     ensures unblamed { IfErr result (λ fault. (m : Contents) → D.holds disk.old ≡ Some m → (rows : List Stamped) → Stores m store.now.stored rows → IsUnblamed fault) }
+    ensures blamed { IfErr result (BlamesRows store.now.stored.entry (D.holds disk.old)) }
     ensures kept { D.holds disk.new ≡ D.holds disk.old }
     ensures moved { Moved ⟦<D as Disk>⟧ NoName NoName disk.old disk.new }
     ensures cause { HasCause StoreFault.Disk (D.faults disk.old) (D.faults disk.new) result }

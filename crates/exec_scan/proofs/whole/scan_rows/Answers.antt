@@ -6,7 +6,9 @@ use Rattle.col_disk.proofs.Moving.{moved_join, moved_none}
 use Rattle.col_value.specs.Order.{IsRow}
 use Rattle.col_value.specs.declared.value.Value.{Value}
 use Rattle.exec_scan.specs.Batches.{Shown}
-use Rattle.exec_scan.specs.Scanning.{Gives, IsScanOf, Place}
+use Rattle.common_laws.specs.Maps.{Contents}
+use Rattle.proj_store.specs.Reading.{BlamesRows}
+use Rattle.exec_scan.specs.Scanning.{Gives, IsAtHand, IsScanOf, Place}
 use Rattle.exec_scan.proofs.Gathered.{gathered_all, gathered_more, gathered_none}
 use Rattle.exec_scan.proofs.whole.scan_rows.Goals as goal
 
@@ -14,6 +16,7 @@ pub loop-batch-init : goal.loop-batch-init
 loop-batch-init g c = record {
   gathered = λ m told rows stores. gathered_none m c.args.store.now.stored c.args.epoch c.args.places.items c.new.result.items false c.new-scan.result c.new-out.result.items rows c.new-scan.ensures c.new-out.ensures.items stores;
   scan_of = subst (λ (s : Place). IsScanOf c.args.store.now.stored.entry s) (sym c.new-scan.ensures) (record { own = c.requires; opening = tt; closed = λ none. refl });
+  at_hand = subst (λ (s : Place). IsAtHand (g.D.Disk.holds c.args.disk.now) c.args.store.now.stored s) (sym c.new-scan.ensures) tt;
   epoch_is = ap (λ (s : Place). s.epoch) c.new-scan.ensures;
   places_are = ap (λ (s : Place). s.places) c.new-scan.ensures;
   bounds_are = ap (λ (s : Place). s.bounds) c.new-scan.ensures ∙ c.new.ensures.items;
@@ -37,6 +40,10 @@ returns-in-Err-clause-unblamed g c = λ m told rows stores.
     let was = c.loop-batch.invariant.gathered m told rows stores in
     c.in-Err.ensures.unblamed m (c.loop-batch.invariant.kept ∙ told) was.rest was.left
 
+pub returns-in-Err-clause-blamed : goal.returns-in-Err-clause-blamed
+returns-in-Err-clause-blamed g c =
+    subst (λ (h : Option Contents). BlamesRows c.args.store.now.stored.entry h c.in-Err.fault) c.loop-batch.invariant.kept (c.in-Err.ensures.blamed c.loop-batch.invariant.at_hand)
+
 pub returns-in-Err-clause-moved : goal.returns-in-Err-clause-moved
 returns-in-Err-clause-moved g c = moved_join g.D.Disk c.loop-batch.invariant.moved c.next.ensures.moved
 
@@ -52,6 +59,7 @@ loop-batch-preserved g c =
           (λ left are. subst (λ (o : Option Shown). Gives m p c.loop-batch.scan c.next.new.self left o) c.in-Ok-Some.field-0-is
           (c.in-Ok-Some.ensures.gives m (c.loop-batch.invariant.kept ∙ told) left are)) (c.loop-batch.invariant.gathered m told rows stores);
       scan_of = c.in-Ok-Some.ensures.scan;
+      at_hand = c.in-Ok-Some.ensures.at_hand c.loop-batch.invariant.at_hand;
       epoch_is = c.in-Ok-Some.ensures.same.epoch ∙ c.loop-batch.invariant.epoch_is;
       places_are = c.in-Ok-Some.ensures.same.places ∙ c.loop-batch.invariant.places_are;
       bounds_are = c.in-Ok-Some.ensures.same.bounds ∙ c.loop-batch.invariant.bounds_are;

@@ -6,7 +6,7 @@ use Rattle.col_disk.specs.Moved.{Moved, NoName}
 use Rattle.col_value.specs.Order.{IsRow}
 use Rattle.col_value.specs.declared.row.Stamped.{Stamped}
 use Rattle.stored_rows.specs.Stored.{Stores}
-use Rattle.exec_scan.specs.Scanning.{IsScanOf, steps_left}
+use Rattle.exec_scan.specs.Scanning.{IsAtHand, IsScanOf, steps_left}
 use Rattle.exec_scan.proofs.Gathered.{Gathered}
 use Rattle.exec_scan.proofs.whole.scan_rows.Given as goal
 
@@ -14,6 +14,7 @@ abbrev pub invariant-loop-batch : goal.invariant-loop-batch
 invariant-loop-batch g l = record {
   gathered : (m : Contents) → g.D.Disk.holds l.fn.disk ≡ Some m → (rows : List Stamped) → Stores m l.store.stored rows → Gathered m l.store.stored l.epoch l.fn.places.items l.scan l.out.items rows;
   scan_of : IsScanOf l.store.stored.entry l.scan;
+  at_hand : IsAtHand (g.D.Disk.holds l.disk) l.store.stored l.scan;
   epoch_is : l.scan.epoch ≡ l.epoch;
   places_are : l.scan.places ≡ l.fn.places.items;
   bounds_are : l.scan.bounds ≡ [];

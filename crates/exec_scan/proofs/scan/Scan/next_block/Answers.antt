@@ -12,7 +12,8 @@ use Rattle.row_bounds.specs.declared.bound.Bound.{Bound}
 use Rattle.exec_scan.specs.Opened.{HasOpened, IsOpening}
 use Rattle.exec_scan.specs.Passing.{IsPassed}
 use Rattle.exec_scan.specs.Reading.{OfBlock, ShowsRows}
-use Rattle.exec_scan.specs.Scanning.{AreLeft, Gives, IsScanOf, Place, steps_left}
+use Rattle.exec_scan.specs.Scanning.{AreLeft, Gives, HasOpenedAt, IsAtHand, IsScanOf, Place, steps_left}
+use Rattle.exec_scan.proofs.Blames.{at_hand_on, blames_at, block_blames}
 use Rattle.exec_scan.proofs.Stepping.{at_place, block_gives, block_unblamed, done_fewer, done_gives, handed, next_fewer, next_scan, opening_here, unblamed_at}
 use Rattle.exec_scan.proofs.scan.Scan.next_block.Goals as goal
 
@@ -23,6 +24,9 @@ returns-in-Err-clause-unblamed g c = λ m told left are.
     let was = subst (λ (x : Place). AreLeft m p x left) (sym c.self.view_is) are in
     let there : s.container < length p.entry.containers = subst (λ (x : Place). x.container < length p.entry.containers) (sym c.self.view_is) c.requires.there in
     unblamed_at m (g.D.Disk.holds c.args.disk.now) p s.epoch s.places.items s.bounds.items s.stamps s.container s.block s.opened s.taken left c.in-Err.fault told there was c.in-Err.ensures.blamed
+
+pub returns-in-Err-clause-blamed : goal.returns-in-Err-clause-blamed
+returns-in-Err-clause-blamed g c = λ at. blames_at c.args.store.now.stored.entry c.self.inside.container (g.D.Disk.holds c.args.disk.now) c.in-Err.fault c.in-Err.ensures.blamed
 
 pub returns-then-block-count-clause-gives : goal.returns-then-block-count-clause-gives
 returns-then-block-count-clause-gives g c = λ m told left are.
@@ -68,6 +72,19 @@ returns-in-Err-read_block-clause-unblamed g c = λ m told left are.
     block_unblamed m (g.D.Disk.holds c.args.disk.now) p s.epoch s.places.items s.bounds.items s.stamps s.container s.block s.opened c.in-Ok.opened s.taken shape c.as_slice-2.result.now left c.in-Err-read_block.fault told
     c.entry-shape.ensures.entry c.as_slice-2.ensures there has blames was
 
+pub returns-in-Err-read_block-clause-blamed : goal.returns-in-Err-read_block-clause-blamed
+returns-in-Err-read_block-clause-blamed g c = λ at.
+    let s = c.self.inside in
+    let p = c.args.store.now.stored in
+    let h = g.D.Disk.holds c.args.disk.now in
+    let was = subst (λ (x : Place). IsAtHand h p x) (sym c.self.view_is) at in
+    let has = at_hand_on p s.container s.places.items c.as_slice.result.now s.opened c.take-opened.result h c.in-Ok.opened c.take-opened.ensures.value c.as_slice.ensures.value was c.in-Ok.ensures.held in
+    let entry = get_or c.as_slice-2.result.now s.container blank in
+    let shape = c.entry-shape.result.now in
+    let blames = subst (λ (ps : List (Option ℕ)). (bes : Beside) → HasOpened (written_of shape) entry (length shape.columns) bes ps h c.in-Ok.opened → BlamesContainer (written_of shape) entry h c.in-Err-read_block.fault) c.as_slice-4.ensures.value
+    (subst (λ (x : Option Contents). (bes : Beside) → HasOpened (written_of shape) entry (length shape.columns) bes c.as_slice-4.result.now x c.in-Ok.opened → BlamesContainer (written_of shape) entry x c.in-Err-read_block.fault) c.at_hand.ensures.kept c.in-Err-read_block.ensures.blamed) in
+    block_blames h p s.container s.places.items c.in-Ok.opened shape c.as_slice-2.result.now c.in-Err-read_block.fault c.entry-shape.ensures.entry c.as_slice-2.ensures has blames
+
 pub returns-in-Err-read_block-clause-moved : goal.returns-in-Err-read_block-clause-moved
 returns-in-Err-read_block-clause-moved g c = moved_join g.D.Disk c.at_hand.ensures.moved c.read_block.ensures.moved
 
@@ -80,6 +97,15 @@ returns-clause-scan g c =
     let below : c.next_needed-block.result < blocks (get_or c.as_slice-2.result.now s.container blank).rows = omega (arith, c.if-block-count.false, c.blocks_of-count.ensures) in
     let opening = subst (λ (ps : List (Option ℕ)). IsSomeAnd (slice_get p.entry.containers s.container) (λ k. IsOpening k.rows ps c.in-Ok.opened)) c.as_slice.ensures.value c.in-Ok.ensures.opening in
     next_scan p.entry s.epoch s.places.items s.bounds.items s.stamps s.container s.block c.next_needed-block.result s.opened c.in-Ok.opened s.taken c.entry-shape.result.now c.as_slice-2.result.now c.entry-shape.ensures.entry c.as_slice-2.ensures there below opening scan
+
+pub returns-clause-at_hand : goal.returns-clause-at_hand
+returns-clause-at_hand g c = λ at.
+    let s = c.self.inside in
+    let p = c.args.store.now.stored in
+    let h = g.D.Disk.holds c.args.disk.now in
+    let was = subst (λ (x : Place). IsAtHand h p x) (sym c.self.view_is) at in
+    subst (λ (x : Option Contents). HasOpenedAt p s.container s.places.items x c.in-Ok.opened) (sym (c.read_block.ensures.kept ∙ c.at_hand.ensures.kept))
+    (at_hand_on p s.container s.places.items c.as_slice.result.now s.opened c.take-opened.result h c.in-Ok.opened c.take-opened.ensures.value c.as_slice.ensures.value was c.in-Ok.ensures.held)
 
 pub returns-clause-gives : goal.returns-clause-gives
 returns-clause-gives g c = λ m told left are.
