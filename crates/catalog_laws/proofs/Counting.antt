@@ -1,8 +1,8 @@
 -- How many numbers the files of a catalogue have.
-use Rattle.std.proofs.Common.{◌≡◌, ℕ, ◌+◌, ◌-◌, ◌≤◌, ◌<◌, List, [], ◌∷◌, ◌++◌, length, refl, sym, ◌∙◌, ap, ap₂, arith}
+use Rattle.std.proofs.Common.{◌≡◌, ℕ, ◌+◌, ◌≤◌, ◌<◌, List, [], ◌∷◌, length, refl, arith}
 use Rattle.std.specs.Prelude.{Option, Some, None, IfSome, sum_by}
 use Rattle.std.specs.List.{All, flat_map}
-use Rattle.std.proofs.lemmas.List.Elements.{All-nil, All-cons, All-head, All-tail, All-weaker}
+use Rattle.std.proofs.lemmas.List.Elements.{All-nil, All-cons, All-weaker}
 use Rattle.std.proofs.lemmas.List.Sums.{sum_by-cons, sum_by-append}
 use Rattle.std.specs.Option.{option_map_or}
 use Rattle.catalog_types.specs.declared.catalogue.Container.{Container}
@@ -38,7 +38,7 @@ container_inside next columns lge k is = by k.marks is.vector
     by None has = All-cons (IsInside 0 next) (files k) [] (omega arith, omega arith, is.files.1) (All-nil (IsInside 0 next))
     by (Some m) has = All-cons (IsInside 0 next) (files k) (span_of m ∷ []) (omega arith, omega arith, is.files.1) (All-cons (IsInside 0 next) (span_of m) [] (omega arith, omega arith, omega (arith, has.1)) (All-nil (IsInside 0 next)))
 
-projection_inside : (c : Catalogue) (t : Table) (p : Projection) → IsProjection c t p → All (IsInside 0 c.next) (projection_spans p)
+pub projection_inside : (c : Catalogue) (t : Table) (p : Projection) → IsProjection c t p → All (IsInside 0 c.next) (projection_spans p)
 projection_inside c t p is =
     (all_flat (IsInside 0 c.next) container_spans p.containers).1
     (All-weaker (IsContainer c.next (length p.columns) p.lge) (λ k. All (IsInside 0 c.next) (container_spans k)) (container_inside c.next (length p.columns) p.lge) p.containers is.containers)

@@ -1,9 +1,9 @@
 -- The catalogues that come next: with a table more, a table less, another in the place of one, and another mark.
-use Rattle.std.proofs.Common.{◌≡◌, ◌≢◌, ℕ, zero, suc, ◌+◌, ◌<◌, ◌≤◌, List, [], ◌∷◌, ◌++◌, map, get_or, take, drop, length, refl, sym, ◌∙◌, ap, subst, inl, inr, arith, length-append}
+use Rattle.std.proofs.Common.{◌≡◌, ◌≢◌, ℕ, zero, suc, ◌<◌, ◌≤◌, List, [], ◌∷◌, ◌++◌, map, get_or, take, drop, length, refl, sym, ◌∙◌, ap, subst, inl, inr, arith, length-append}
 use Rattle.std.specs.Prelude.{◌⊎◌}
 use Rattle.std.specs.List.{All, Contains, flat_map, insert, remove, slice_index_or}
 use Rattle.std.proofs.lemmas.List.{take-append-drop, append-nil}
-use Rattle.std.proofs.lemmas.List.Elements.{All-nil, All-cons, All-head, All-tail, All-weaker, All-same, Contains-append_left, Contains-append_right, All-contains_itself}
+use Rattle.std.proofs.lemmas.List.Elements.{All-nil, All-cons, All-head, All-tail, All-weaker, All-same, Contains-append_left, All-contains_itself}
 use Rattle.catalog_types.specs.declared.catalogue.Projection.{Projection}
 use Rattle.catalog_types.specs.declared.catalogue.Table.{Table}
 use Rattle.catalog_types.specs.declared.catalogue.Catalogue.{Catalogue}
@@ -14,7 +14,7 @@ use Rattle.catalog_types.specs.Numbers.{projection_spans, table_spans}
 use Rattle.catalog_types.specs.Parts.{HasReached, IsTable}
 use Rattle.catalog_types.specs.Valid.{IsValid}
 use Rattle.catalog_types.proofs.Pairs.{all_append, all_flat, all_map, pairs_append}
-use Rattle.catalog_laws.specs.Going.{alone, later, AreDrawn, GoesOn, HaveReached, IsFree, IsNext, IsNextEntry, IsOwn, Joins}
+use Rattle.catalog_laws.specs.Going.{alone, later, AreDrawn, GoesOn, HaveReached, IsFree, IsOwn, Joins}
 use Rattle.catalog_laws.proofs.Drawn.{flat_contains}
 use Rattle.catalog_laws.proofs.Keeping.{all_reached_later, all_reached_mark, reached_later, table_kept}
 use Rattle.catalog_laws.proofs.Nexts.{next_valid}
@@ -175,11 +175,11 @@ all_own c t = λ k d lt. record { name = inl (names k d lt); numbers = λ j e be
     spans : All (λ p. All (Contains (table_spans t)) (projection_spans p)) t.projections
     spans = (all_flat (Contains (table_spans t)) projection_spans t.projections).0 (All-contains_itself (table_spans t))
 
--- an entry in the place of another
-pub next_own : (c : Catalogue) (t : Table) (j : ℕ) (old new : Projection) → j < length t.projections → old ≡ get_or t.projections j old → IsNextEntry c.next old new → IsOwn c t new
-next_own c t j old new lt there next = record {
-  name = inl (subst (Contains (names_of t)) (ap (λ (p : Projection). p.name) (sym there) ∙ sym next.name) (names j old lt));
-  numbers = All-weaker (λ s. Contains (projection_spans old) s ⊎ (c.next ≤ s.first)) (λ s. Contains (table_spans t) s ⊎ (c.next ≤ s.first)) wider (projection_spans new) next.numbers;
+-- an entry in the place of another, of its name
+pub next_own : (c : Catalogue) (t : Table) (j : ℕ) (old new : Projection) → j < length t.projections → old ≡ get_or t.projections j old → new.name ≡ old.name → AreDrawn c.next (projection_spans old) (projection_spans new) → IsOwn c t new
+next_own c t j old new lt there name numbers = record {
+  name = inl (subst (Contains (names_of t)) (ap (λ (p : Projection). p.name) (sym there) ∙ sym name) (names j old lt));
+  numbers = All-weaker (λ s. Contains (projection_spans old) s ⊎ (c.next ≤ s.first)) (λ s. Contains (table_spans t) s ⊎ (c.next ≤ s.first)) wider (projection_spans new) numbers;
 }
   where
     names : All (λ p. Contains (names_of t) p.name) t.projections

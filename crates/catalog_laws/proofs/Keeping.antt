@@ -1,5 +1,5 @@
 -- What is so of a table in a catalogue is so in a later one.
-use Rattle.std.proofs.Common.{◌≡◌, ℕ, ◌+◌, ◌<◌, ◌≤◌, Bool, true, false, List, length, subst, arith}
+use Rattle.std.proofs.Common.{◌≡◌, ℕ, ◌<◌, ◌≤◌, Bool, true, false, List, length, arith}
 use Rattle.std.specs.Prelude.{Option, Some, None, IfSome}
 use Rattle.std.specs.Bool.{OnTrue}
 use Rattle.std.specs.List.{All, slice_index_or}
@@ -8,7 +8,6 @@ use Rattle.catalog_types.specs.declared.catalogue.Container.{Container}
 use Rattle.catalog_types.specs.declared.catalogue.Projection.{Projection}
 use Rattle.catalog_types.specs.declared.catalogue.Table.{Table}
 use Rattle.catalog_types.specs.declared.catalogue.Catalogue.{Catalogue}
-use Rattle.catalog_types.specs.Numbers.{file_count}
 use Rattle.catalog_types.specs.Parts.{HasReached, IsContainer, IsProjection, IsTable}
 
 some_below : (next after : ℕ) (o : Option ℕ) → next ≤ after → IfSome o (λ m. (1 ≤ m) × (m < next)) → IfSome o (λ m. (1 ≤ m) × (m < after))
@@ -28,7 +27,7 @@ container_kept next after columns lge k le is = record {
   vector = some_below next after k.marks le is.vector;
 }
 
-projection_kept : (c n : Catalogue) (t : Table) (p : Projection) → c.next ≤ n.next → HasReached n p → IsProjection c t p → IsProjection n t p
+pub projection_kept : (c n : Catalogue) (t : Table) (p : Projection) → c.next ≤ n.next → HasReached n p → IsProjection c t p → IsProjection n t p
 projection_kept c n t p le reached is = record {
   name = is.name;
   some = is.some;

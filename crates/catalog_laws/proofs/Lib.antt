@@ -1,7 +1,10 @@
 pub mod Fitting
+pub mod Apart
+pub mod Stays
 pub mod Counting
 pub mod Replacing
 pub mod Keeping
 pub mod Nexts
 pub mod Drawn
 pub mod Forms
+pub mod Alone

@@ -1,5 +1,5 @@
 -- The next catalogue is valid.
-use Rattle.std.proofs.Common.{◌≡◌, ◌≢◌, ℕ, ◌+◌, ◌^◌, ◌<◌, ◌≤◌, Bool, true, false, List, [], ◌∷◌, ◌++◌, length, refl, sym, ◌∙◌, ap, subst, inl, inr, arith}
+use Rattle.std.proofs.Common.{◌≡◌, ◌≢◌, ℕ, ◌+◌, ◌^◌, ◌<◌, ◌≤◌, Bool, true, false, List, ◌++◌, sym, ◌∙◌, ap, subst, inl, inr, arith}
 use Rattle.std.specs.Prelude.{◌⊎◌}
 use Rattle.std.specs.Bool.{OnTrue}
 use Rattle.std.specs.List.{All, Contains, flat_map}
@@ -11,11 +11,12 @@ use Rattle.catalog_types.specs.declared.span.Span.{Span}
 use Rattle.catalog_types.specs.Lists.{Pairwise}
 use Rattle.catalog_types.specs.Names.{names_of}
 use Rattle.catalog_types.specs.Numbers.{AreApart, HasNumbersOnce, store_count, table_spans}
-use Rattle.catalog_types.specs.Parts.{HasReached, IsTable}
+use Rattle.catalog_types.specs.Parts.{IsTable}
 use Rattle.catalog_types.specs.Reached.{is_past, least_lge}
 use Rattle.catalog_types.specs.Valid.{IsValid}
 use Rattle.catalog_types.proofs.Pairs.{all_append}
 use Rattle.catalog_laws.specs.Going.{IsNext}
+use Rattle.catalog_laws.proofs.Apart.{apart_too}
 use Rattle.catalog_laws.proofs.Fitting.{IsInside}
 use Rattle.catalog_laws.proofs.Counting.{all_inside, numbers_below}
 use Rattle.catalog_laws.proofs.Keeping.{tables_kept}
@@ -34,10 +35,6 @@ flat_swapped R back_too f front old new back was once each =
 
 differ_too : {X : Type 0} (x y : X) → x ≢ y → y ≢ x
 differ_too x y differ is = differ (sym is)
-
-apart_too : (a b : Span) → AreApart a b → AreApart b a
-apart_too a b (inl le) = inr le
-apart_too a b (inr le) = inl le
 
 -- numbers that were drawn are apart from all that were there
 drawn_apart : (next : ℕ) (s : Span) (spans : List Span) → All (IsInside 0 next) spans → next ≤ s.first → All (AreApart s) spans

@@ -34,11 +34,6 @@ IsFree tables n = All (λ m. n ≢ m) (flat_map names_of tables)
 abbrev pub AreDrawn : ℕ → List Span → List Span → Type 0
 AreDrawn first old new = All (λ s. Contains old s ⊎ (first ≤ s.first)) new
 
--- an entry has the name of another; its files have numbers of the other's, or that were drawn from a number on
-pub record IsNextEntry (first : ℕ) (old new : Projection) : Type 0 where
-  pub name : new.name ≡ old.name
-  pub numbers : AreDrawn first (projection_spans old) (projection_spans new)
-
 -- tables before a place have names below this one, those from there on names above it
 pub record IsPlace (tables : List Table) (place : ℕ) (n : List ℕ) : Type 0 where
   pub before : All (λ t. IsBelow t.name n) (take place tables)

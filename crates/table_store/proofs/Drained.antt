@@ -105,11 +105,6 @@ some_weaker P Q (Some x) h is = h x is
 pub at_weaker : {X : Type 0} (stores : List (List X)) (i j : ℕ) (P Q : X → Type 0) → ((x : X) → P x → Q x) → AtPlace stores i j P → AtPlace stores i j Q
 at_weaker stores i j P Q h at = some_weaker (λ ps. IsSomeAnd (slice_get ps j) P) (λ ps. IsSomeAnd (slice_get ps j) Q) (slice_get stores i) (λ ps here. some_weaker P Q (slice_get ps j) h here) at
 
-pub entry_within : (pss : List (List Projected)) (ts : List kept.Table) (i j : ℕ) (P : Projected → Type 0) → map (λ ps. map (λ p. p.entry) ps) pss ≡ map (λ t. t.projections) ts → AtPlace pss i j P → IsSomeAnd (slice_get ts i) (λ t. j < length t.projections)
-entry_within pss ts i j P same at =
-    some_weaker (λ t. IsSomeAnd (slice_get t.projections j) (λ p. Unit {0})) (λ t. j < length t.projections) (slice_get ts i) (λ t is. within t.projections j (λ p. Unit {0}) is)
-    (in_tables (λ p. Unit {0}) pss ts i j same (at_weaker pss i j P (λ p. Unit {0}) (λ p is. tt) at))
-
 -- the shape at a place
 shape_in : (ps : List Projection) (ss : List Shape) (j : ℕ) (P : Projection → Type 0) (s : Shape) → ss ≡ map shape_of ps → IsSomeAnd (slice_get ps j) (λ p. shape_of p ≡ s) → slice_get ss j ≡ Some s
 shape_in [] ss j P s same at = absurd at

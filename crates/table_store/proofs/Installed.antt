@@ -4,7 +4,7 @@ use Rattle.std.specs.Prelude.{Some, Result, Err, IsSomeAnd}
 use Rattle.std.specs.Bool.{OnTrue, OnFalse}
 use Rattle.std.specs.List.{All, slice_get}
 use Rattle.std.proofs.lemmas.Option.{same_Some}
-use Rattle.std.proofs.lemmas.List.{get_or-map, get_or_default, length-map}
+use Rattle.std.proofs.lemmas.List.{get_or_default, length-map}
 use Rattle.std.proofs.lemmas.List.Elements.{All-nil}
 use Rattle.common_laws.specs.Maps.{Contents}
 use Rattle.col_disk.specs.Moved.{Looks, Moved, NoName}
@@ -34,7 +34,7 @@ use Rattle.store_commit.specs.Making.{Makes}
 use Rattle.table_store.specs.Held.{at_epoch, projections_of}
 use Rattle.table_store.specs.Installing.{HoldsTable, IsRenewal, IsRenewalAt}
 use Rattle.table_store.specs.Moving.{with_entry, with_entry_at}
-use Rattle.table_store.proofs.Moved.{all_changed, at_place, entry_at, is_at, map_changed, nothing_later, ReadIsStored, stored_at}
+use Rattle.table_store.proofs.Moved.{all_changed, at_place, entry_at, map_changed, nothing_later, ReadIsStored, stored_at}
 use Rattle.table_store.proofs.Makes.{move_makes, wrote_only}
 
 -- ---- the projection
@@ -155,20 +155,7 @@ pub read_only : {D F : Type 0} (disk : Ghosts D) (short : F) {old new : D} (was 
 read_only disk short {old} {new} was is f d e stands looks =
     wrote_only disk short {W = NoName} was is f d e stands (no_file stands.root) (moved_read disk {W = NoName} {R = NoName} looks)
 
--- where the projection stands among those that are read
-pub renewed_there : (root : Catalogue) (stores : List (List Projected)) (i j : ℕ) (entry : Projection) → map (λ ps. map (λ p. p.entry) ps) stores ≡ map (λ t. t.projections) root.tables → IsRenewalAt stores i j entry
-    → IsSomeAnd (slice_get root.tables i) (λ t. j < length t.projections)
-renewed_there root stores i j entry entries own =
-    let (parts, lt, parts_are, inner) = at_place stores i (λ ps. IsSomeAnd (slice_get ps j) (λ p. IsRenewal p.entry entry)) own in
-    let (p, below, p_is, is) = at_place parts j (λ q. IsRenewal q.entry entry) inner in
-    let within : i < length root.tables = omega (arith, lt, sym (length-map stores (λ ps. map (λ p. p.entry) ps)) ∙ ap length entries ∙ length-map root.tables (λ t. t.projections)) in
-    let blank : kept.Table = record { name = []; columns = []; projections = [] } in
-    let t : kept.Table = get_or root.tables i blank in
-    let here : map (λ p. p.entry) parts ≡ t.projections =
-    ap (map (λ (p : Projected). p.entry)) parts_are ∙ sym (get_or-map (λ (ps : List Projected). map (λ p. p.entry) ps) stores i parts [] lt)
-    ∙ ap (λ (es : List (List Projection)). get_or es i []) entries ∙ get_or-map (λ (u : kept.Table). u.projections) root.tables i blank [] within in
-    is_at root.tables i t (λ u. j < length u.projections) within (get_or_default root.tables i blank t within) (omega (arith, below, sym (length-map parts (λ (p : Projected). p.entry)) ∙ ap length here))
-
+-- where the projection stands
 pub renewed_table : (tables : List (List Loaded)) (i j : ℕ) (entry : Projection) → IsRenewalAt (map projections_of tables) i j entry → i < length tables
 renewed_table tables i j entry own =
     let (ps, lt, ps_are, inner) = at_place (map projections_of tables) i (λ qs. IsSomeAnd (slice_get qs j) (λ p. IsRenewal p.entry entry)) own in

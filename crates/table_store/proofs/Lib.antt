@@ -19,4 +19,5 @@ pub mod Wider
 pub mod Nexts
 pub mod Counted
 pub mod Drained
+pub mod Shapes
 pub mod Drains

@@ -214,19 +214,6 @@ is_at [] i x P lt is p = absurd (omega (arith, lt))
 is_at {X} (y ∷ xs) zero x P lt is p = subst P is p
 is_at (y ∷ xs) (suc i) x P lt is p = is_at xs i x P (omega (arith, lt)) is p
 
-pub entry_there : (root : Catalogue) (stores : List (List Projected)) (i j : ℕ) → map (λ ps. map (λ p. p.entry) ps) stores ≡ map (λ t. t.projections) root.tables → IsFreshAt stores i j
-    → IsSomeAnd (slice_get root.tables i) (λ t. j < length t.projections)
-entry_there root stores i j entries fresh =
-    let (parts, lt, parts_are, inner) = at_place stores i (λ ps. IsSomeAnd (slice_get ps j) (λ p. p.entry.fresh ≡ true)) fresh in
-    let (p, below, p_is, is) = at_place parts j (λ q. q.entry.fresh ≡ true) inner in
-    let within : i < length root.tables = omega (arith, lt, sym (length-map stores (λ ps. map (λ p. p.entry) ps)) ∙ ap length entries ∙ length-map root.tables (λ t. t.projections)) in
-    let blank : kept.Table = record { name = []; columns = []; projections = [] } in
-    let t : kept.Table = get_or root.tables i blank in
-    let here : map (λ p. p.entry) parts ≡ t.projections =
-    ap (map (λ (p : Projected). p.entry)) parts_are ∙ sym (get_or-map (λ (ps : List Projected). map (λ p. p.entry) ps) stores i parts [] lt)
-    ∙ ap (λ (es : List (List Projection)). get_or es i []) entries ∙ get_or-map (λ (u : kept.Table). u.projections) root.tables i blank [] within in
-    is_at root.tables i t (λ u. j < length u.projections) within (get_or_default root.tables i blank t within) (omega (arith, below, sym (length-map parts (λ (p : Projected). p.entry)) ∙ ap length here))
-
 -- ---- what was made ready
 
 both_at : {X : Type 0} (xs : List X) (i : ℕ) (P Q : X → Type 0) → IsSomeAnd (slice_get xs i) P → IsSomeAnd (slice_get xs i) Q → IsSomeAnd (slice_get xs i) (λ x. P x × Q x)

@@ -2,6 +2,7 @@
 use Rattle.std.proofs.Common.{◌≡◌, ℕ, zero, suc, ◌+◌, ◌<◌, ◌≤◌, Bool, true, false, List, [], ◌∷◌, ◌++◌, get_or, take, drop, length, cond, refl, sym, ◌∙◌, ap, subst, arith}
 use Rattle.std.specs.Prelude.{Result, Ok, Err, IfOk, IsSomeAnd}
 use Rattle.std.specs.List.{All, slice_get}
+use Rattle.std.proofs.lemmas.List.{get_or_default}
 use Rattle.std.proofs.lemmas.List.Edits.{get_or-insert_at, length-insert}
 use Rattle.std.proofs.lemmas.List.Elements.{All-append, All-cons, All-drop, All-map, All-take}
 use Rattle.col_value.specs.declared.column.Column.{Column}
@@ -11,15 +12,17 @@ use Rattle.catalog_types.specs.declared.catalogue.Table as kept
 use Rattle.catalog_types.specs.declared.catalogue.Catalogue.{Catalogue}
 use Rattle.catalog_types.specs.Numbers.{projection_spans, table_spans}
 use Rattle.catalog_types.specs.Valid.{IsValid}
-use Rattle.catalog_laws.specs.Going.{alone, later, GoesOn, HaveReached, IsFree, IsNextEntry, IsOwn, Joins}
+use Rattle.catalog_laws.specs.Entries.{IsEntryAfter, KeepsShape}
+use Rattle.catalog_laws.specs.Going.{alone, later, GoesOn, HaveReached, IsFree, IsOwn, Joins}
+use Rattle.catalog_laws.proofs.Alone.{entry_kept}
 use Rattle.catalog_laws.proofs.Forms.{all_own, bare_own, next_own, with_another_mark, with_one_less, with_one_more, with_other_projections}
 use Rattle.proj_store.specs.Widening.{new_column, with_columns}
 use Rattle.sound_laws.specs.Moves.{change_at}
 use Rattle.table_store.specs.Creating.{with_mark, with_table, without_table}
-use Rattle.table_store.specs.Moving.{with_entry, with_entry_at}
+use Rattle.table_store.specs.Moving.{with_entry, with_entry_at, KeepsRulesAt, KeepsShapeAt}
 use Rattle.table_store.specs.Shaping.{with_projection, with_projection_at, without_projection, without_projection_at}
 use Rattle.table_store.specs.Widening.{has_all, wide_entry, wide_table, with_column_at}
-use Rattle.table_store.proofs.Moved.{all_changed, at_place}
+use Rattle.table_store.proofs.Moved.{all_changed, at_place, is_at}
 
 -- ---- of what may be there
 
@@ -84,19 +87,47 @@ mark_put root c last mark valid goes le reached is = subst IsValid (sym is) (wit
 
 -- ---- a table with other projections
 
+table_put : (root c : Catalogue) (last next i : ℕ) (f : kept.Table → kept.Table) (t : kept.Table) → IsValid root → GoesOn root last next → i < length root.tables → t ≡ get_or root.tables i t
+    → c ≡ later last next (change_at i f root.tables) root → IsValid (alone last root.ahm next (f t)) → (f t).name ≡ t.name → All (IsOwn root t) (f t).projections → IsValid c
+table_put root c last next i f t valid goes lt there is own same all =
+    let split : change_at i f root.tables ≡ take i root.tables ++ f t ∷ drop (suc i) root.tables = change_split i f root.tables t lt there in
+    subst IsValid (sym (is ∙ ap (λ (ts : List kept.Table). later last next ts root) split)) (with_other_projections root last next i t (f t) valid goes lt there own same all)
+
 table_changed : (root c : Catalogue) (last next i : ℕ) (f : kept.Table → kept.Table) (t : kept.Table) → IsValid root → GoesOn root last next → i < length root.tables → t ≡ get_or root.tables i t
     → c ≡ later last next (change_at i f root.tables) root → IsValidAt c i → (f t).name ≡ t.name → All (IsOwn root t) (f t).projections → IsValid c
 table_changed root c last next i f t valid goes lt there is own same all =
-    let split : change_at i f root.tables ≡ take i root.tables ++ f t ∷ drop (suc i) root.tables = change_split i f root.tables t lt there in
-    subst IsValid (sym (is ∙ ap (λ (ts : List kept.Table). later last next ts root) split))
-    (with_other_projections root last next i t (f t) valid goes lt there (subst (λ (k : Catalogue). IsValidAt k i) is own (f t) (changed_there i f root.tables t lt there)) same all)
+    table_put root c last next i f t valid goes lt there is (subst (λ (k : Catalogue). IsValidAt k i) is own (f t) (changed_there i f root.tables t lt there)) same all
 
-pub entry_put : (root c : Catalogue) (last version i j : ℕ) (entry : Projection) → IsValid root → GoesOn root last (version + 1)
-    → IsSomeAnd (slice_get root.tables i) (λ t. IsSomeAnd (slice_get t.projections j) (λ p. IsNextEntry root.next p entry)) → c ≡ with_entry_at last version i j entry root → IsValidAt c i → IsValid c
-entry_put root c last version i j entry valid goes there is own =
-    let (t, lt, t_is, inner) = at_place root.tables i (λ t. IsSomeAnd (slice_get t.projections j) (λ p. IsNextEntry root.next p entry)) there in
-    let (p, below, p_is, next) = at_place t.projections j (λ p. IsNextEntry root.next p entry) inner in
-    table_changed root c last (version + 1) i (with_entry j entry) t valid goes lt t_is is own refl (all_changed (IsOwn root t) j entry t.projections (next_own root t j p entry below p_is next) (all_own root t))
+-- an entry that keeps the rules, in the place of another
+
+pub shape_there : (root : Catalogue) (i j : ℕ) (entry : Projection) → KeepsShapeAt root i j entry → IsSomeAnd (slice_get root.tables i) (λ t. j < length t.projections)
+shape_there root i j entry shape =
+    let (t, lt, t_is, inner) = at_place root.tables i (λ t. IsSomeAnd (slice_get t.projections j) (λ p. KeepsShape p entry)) shape in
+    let (p, below, p_is, keeps) = at_place t.projections j (λ p. KeepsShape p entry) inner in
+    is_at root.tables i t (λ u. j < length u.projections) lt t_is below
+
+-- what stands at its place
+pub shape_at : (root : Catalogue) (i j : ℕ) (entry : Projection) (t : kept.Table) (p : Projection) → KeepsShapeAt root i j entry → t ≡ get_or root.tables i t → p ≡ get_or t.projections j p
+    → (i < length root.tables) × (j < length t.projections) × KeepsShape p entry
+shape_at root i j entry t p shape t_is p_is =
+    let (u, lt, u_is, inner) = at_place root.tables i (λ v. IsSomeAnd (slice_get v.projections j) (λ q. KeepsShape q entry)) shape in
+    let same : u ≡ t = u_is ∙ get_or_default root.tables i u t lt ∙ sym t_is in
+    let (q, below, q_is, keeps) = at_place t.projections j (λ q. KeepsShape q entry) (subst (λ (v : kept.Table). IsSomeAnd (slice_get v.projections j) (λ q. KeepsShape q entry)) same inner) in
+    (lt, below, subst (λ (x : Projection). KeepsShape x entry) (q_is ∙ get_or_default t.projections j q p below ∙ sym p_is) keeps)
+
+pub rules_at : (root : Catalogue) (last next i j : ℕ) (entry : Projection) (t : kept.Table) (p : Projection) → i < length root.tables → t ≡ get_or root.tables i t → j < length t.projections → p ≡ get_or t.projections j p
+    → IsEntryAfter root last next p entry → KeepsRulesAt root last next i j entry
+rules_at root last next i j entry t p lt t_is below p_is keeps =
+    is_at root.tables i t (λ u. IsSomeAnd (slice_get u.projections j) (λ q. IsEntryAfter root last next q entry)) lt t_is (is_at t.projections j p (λ q. IsEntryAfter root last next q entry) below p_is keeps)
+
+pub entry_put : (root c : Catalogue) (last version i j : ℕ) (entry : Projection) → IsValid root → GoesOn root last (version + 1) → KeepsRulesAt root last (version + 1) i j entry → c ≡ with_entry_at last version i j entry root → IsValid c
+entry_put root c last version i j entry valid goes rules is =
+    let (t, lt, t_is, inner) = at_place root.tables i (λ t. IsSomeAnd (slice_get t.projections j) (λ p. IsEntryAfter root last (version + 1) p entry)) rules in
+    let (p, below, p_is, keeps) = at_place t.projections j (λ p. IsEntryAfter root last (version + 1) p entry) inner in
+    let alone_too : IsValid (alone last root.ahm (version + 1) (with_entry j entry t)) =
+    subst (λ (ps : List Projection). IsValid (alone last root.ahm (version + 1) (record t { projections = ps }))) (sym (change_split j (λ q. entry) t.projections p below p_is)) (entry_kept root last (version + 1) i j t p entry valid goes lt t_is below p_is keeps) in
+    table_put root c last (version + 1) i (with_entry j entry) t valid goes lt t_is is alone_too refl
+    (all_changed (IsOwn root t) j entry t.projections (next_own root t j p entry below p_is keeps.shape.name keeps.numbers.drawn) (all_own root t))
 
 pub projection_put : (root c : Catalogue) (last i place : ℕ) (entry : Projection) → IsValid root → GoesOn root last (root.next + 1) → IsSomeAnd (slice_get root.tables i) (λ t. place ≤ length t.projections)
     → IsFree root.tables entry.name → projection_spans entry ≡ [] → c ≡ with_projection_at last i place entry root → IsValidAt c i → IsValid c

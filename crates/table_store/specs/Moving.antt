@@ -4,6 +4,7 @@ use Rattle.std.specs.List.{slice_get}
 use Rattle.common_laws.specs.Maps.{Contents}
 use Rattle.stored_rows.specs.Stored.{Projected, IsLoaded}
 use Rattle.moveout_job.specs.OnDisk.{IsMovedOut, KeepsStored}
+use Rattle.catalog_laws.specs.Entries.{IsEntryAfter, KeepsShape}
 use Rattle.catalog_types.specs.declared.catalogue.Projection.{Projection}
 use Rattle.catalog_types.specs.declared.catalogue.Table as kept
 use Rattle.catalog_types.specs.declared.catalogue.Catalogue.{Catalogue}
@@ -16,6 +17,14 @@ with_entry j entry t = record t { projections = change_at j (λ p. entry) t.proj
 -- the catalogue with another entry at a place, whose version is the number before its next one
 abbrev pub with_entry_at : ℕ → ℕ → ℕ → ℕ → Projection → Catalogue → Catalogue
 with_entry_at last version i j entry c = record { last = last; ahm = c.ahm; next = version + 1; tables = change_at i (with_entry j entry) c.tables }
+
+-- an entry is one of the projection at a place of a table
+abbrev pub KeepsShapeAt : Catalogue → ℕ → ℕ → Projection → Type 0
+KeepsShapeAt root i j entry = IsSomeAnd (slice_get root.tables i) (λ t. IsSomeAnd (slice_get t.projections j) (λ p. KeepsShape p entry))
+
+-- it can stand there in the next catalogue, with this last epoch and next number
+abbrev pub KeepsRulesAt : Catalogue → ℕ → ℕ → ℕ → ℕ → Projection → Type 0
+KeepsRulesAt root last next i j entry = IsSomeAnd (slice_get root.tables i) (λ t. IsSomeAnd (slice_get t.projections j) (λ p. IsEntryAfter root last next p entry))
 
 -- the projection at a place of the table at a place is up to date
 abbrev pub IsFreshAt : List (List Projected) → ℕ → ℕ → Type 0

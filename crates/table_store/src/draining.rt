@@ -17,7 +17,7 @@ ghost use Rattle.stored_rows.specs.Stored.{IsLoaded};
 ghost use Rattle.table_store.specs.Draining.{put_all, GoesOn, IsDraft, IsDraftOf, IsPlaced};
 ghost use Rattle.table_store.specs.Faults.{IsReadable};
 ghost use Rattle.table_store.specs.Held.{projections_of};
-ghost use Rattle.table_store.specs.Moving.{with_entry_at};
+ghost use Rattle.table_store.specs.Moving.{with_entry_at, KeepsShapeAt};
 
 use crate::moving::entry_copy;
 use crate::next::into_entry_at;
@@ -111,7 +111,7 @@ fn with_moved(
     written: Written,
 ) -> Result<Draft, AllocError>
     requires valid { IsValid draft.root }
-    requires there { IsSomeAnd (slice_get draft.root.tables table) (λ t. place < length t.projections) }
+    requires shape { KeepsShapeAt draft.root table place written.entry }
     requires low { written.next < 2 ^ 62 }
     ensures root { IfOk result (λ d. d.root ≡ with_entry_at last written.next table place written.entry draft.root) }
     ensures valid { IfOk result (λ d. IsValid d.root) }

@@ -4,14 +4,13 @@ ghost use Rattle.std.specs.Prelude.{◌≡◌, ◌≤◌, ◌<◌, ◌^◌, [], 
 ghost use Rattle.std.specs.List.{slice_get};
 ghost use Rattle.catalog_types.specs.Numbers.{projection_spans, table_spans};
 ghost use Rattle.catalog_types.specs.Valid.{IsValid};
-ghost use Rattle.catalog_laws.specs.Going.{IsNextEntry};
 ghost use Rattle.table_store.specs.Creating.{with_mark, with_table, without_table};
-ghost use Rattle.table_store.specs.Moving.{with_entry_at};
+ghost use Rattle.table_store.specs.Moving.{with_entry_at, KeepsRulesAt, KeepsShapeAt};
 ghost use Rattle.table_store.specs.Shaping.{with_projection_at, without_projection_at};
 ghost use Rattle.table_store.specs.Widening.{with_column_at};
 
 use crate::{creating, dropping, marking, moving, shaping, widening};
-use catalog_laws::{goes_on, have_reached, is_free, is_next_entry, joins, valid_at};
+use catalog_laws::{goes_on, have_reached, is_entry_after, is_free, joins, valid_at};
 use catalog_types::{Catalogue, Projection, Table};
 use col_value::{Column, Value};
 use std::alloc::{AllocError, Global};
@@ -83,16 +82,25 @@ pub fn with_mark(
     marking::with_mark(alloc, root, last, mark)
 }
 
-/// Whether an entry is one of the projection at a place of a table, with numbers that this one has or that weren't drawn.
-fn renews(root: &Catalogue, table: usize, place: usize, entry: &Projection) -> bool
-    ensures { IsTrue result → IsSomeAnd (slice_get root.now.tables table) (λ t. IsSomeAnd (slice_get t.projections place) (λ p. IsNextEntry root.now.next p entry.now)) }
+/// Whether an entry of the projection at a place of a table keeps the rules in the next catalogue. Its containers are tested, and no other
+/// projection: of the epochs of their rows and marks no job is told more than that it wrote them.
+fn keeps_rules(
+    alloc: Global,
+    root: &Catalogue,
+    last: u64,
+    next: u64,
+    table: usize,
+    place: usize,
+    entry: &Projection,
+) -> bool
+    requires valid { IsValid root.now }
+    requires shape { KeepsShapeAt root.now table place entry.now }
+    ensures { IsTrue result → KeepsRulesAt root.now last next table place entry.now }
 {
-    match root.tables.as_slice().get(table) {
-        Some(t) => match t.projections.as_slice().get(place) {
-            Some(old) => is_next_entry(root.next, old, entry),
-            None => false,
-        },
-        None => false,
+    let old = &root.tables.as_slice()[table].projections.as_slice()[place];
+    match is_entry_after(alloc, root, last, next, old, entry) {
+        Ok(keeps) => keeps,
+        Err(AllocError) => false,
     }
 }
 
@@ -108,7 +116,7 @@ pub fn into_entry_at(
     entry: Projection,
 ) -> Result<Catalogue, AllocError>
     requires valid { IsValid root }
-    requires there { IsSomeAnd (slice_get root.tables table) (λ t. place < length t.projections) }
+    requires shape { KeepsShapeAt root table place entry }
     requires version { version < 2 ^ 62 }
     ensures catalogue { IfOk result (λ c. c ≡ with_entry_at last version table place entry root) }
     ensures valid { IfOk result (λ c. IsValid c) }
@@ -116,11 +124,10 @@ pub fn into_entry_at(
     if !goes_on(&root, last, version + 1) {
         return Err(AllocError);
     }
-    if !renews(&root, table, place, &entry) {
+    if !keeps_rules(alloc, &root, last, version + 1, table, place, &entry) {
         return Err(AllocError);
     }
-    let next = moving::with_entry_at(alloc, root, last, version, table, place, entry);
-    valid_at(alloc, next, table)
+    Ok(moving::with_entry_at(alloc, root, last, version, table, place, entry))
 }
 
 /// The same, of a catalogue that stays.
@@ -134,7 +141,7 @@ pub fn with_entry_at(
     entry: Projection,
 ) -> Result<Catalogue, AllocError>
     requires valid { IsValid root.now }
-    requires there { IsSomeAnd (slice_get root.now.tables table) (λ t. place < length t.projections) }
+    requires shape { KeepsShapeAt root.now table place entry }
     requires version { version < 2 ^ 62 }
     ensures catalogue { IfOk result (λ c. c ≡ with_entry_at last version table place entry root.now) }
     ensures valid { IfOk result (λ c. IsValid c) }

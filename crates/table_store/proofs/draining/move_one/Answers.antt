@@ -5,9 +5,9 @@ use Rattle.folder_model.specs.Projections.{shape_of}
 use Rattle.proj_store.specs.Loaded.{Loaded}
 use Rattle.stored_rows.specs.Stored.{Projected}
 use Rattle.moveout_job.specs.OnDisk.{IsMovedOut}
-use Rattle.table_store.specs.Draining.{put_all}
 use Rattle.table_store.specs.Moving.{with_entry_at}
-use Rattle.table_store.proofs.Drained.{all_kept, at_weaker, below_there, draft_moved, draft_still, entry_within, fresh_of, goes_moved, later_is, readable_there, spare_from, stored_there}
+use Rattle.table_store.proofs.Drained.{at_weaker, below_there, draft_moved, draft_still, fresh_of, goes_moved, later_is, readable_there, spare_from, stored_there}
+use Rattle.table_store.proofs.Shapes.{draft_shape_at}
 use Rattle.table_store.proofs.draining.move_one.Goals as goal
 
 pub returns-then-not-is_behind-clause-draft : goal.returns-then-not-is_behind-clause-draft
@@ -38,13 +38,12 @@ returns-in-Err-clause-unblamed g c = λ m n d was now of.
     c.in-Err.ensures.unblamed m n was now (fresh_of c.args.store.now.catalogue.last p.stored.entry late)
     (readable_there c.args.store.now c.args.draft c.args.table c.args.place p.stored m d c.requires.draft of at) (below_there c.args.store.now c.args.draft c.args.table c.args.place p.stored c.requires.draft at)
 
-pub with_moved-requires-clause-there : goal.with_moved-requires-clause-there
-with_moved-requires-clause-there g c =
+pub with_moved-requires-clause-shape : goal.with_moved-requires-clause-shape
+with_moved-requires-clause-shape g c =
     let p = c.index-as_slice-place.result in
     let s = c.args.store.now in
     let at = stored_there c.tables.result.now s.stores c.args.table c.args.place c.index-tables-table.result p c.tables.ensures c.requires.there c.index-tables-table.is (c.index-as_slice-place.is ∙ ap (λ (ps : List Loaded). get_or ps c.args.place p) c.as_slice.ensures) in
-    entry_within (put_all c.args.draft.moved.items s.stores) c.args.draft.root.tables c.args.table c.args.place (λ q. p.stored ≡ q) c.requires.draft.entries
-    (all_kept c.args.draft.moved.items s.stores c.args.table c.args.place (λ q. p.stored ≡ q) c.requires.draft.before at)
+    draft_shape_at c.last-last.result c.in-Ok.written.next c.args.table c.args.place s c.args.draft p.stored c.in-Ok.written.entry c.requires.draft at c.in-Ok.ensures.entry
 
 pub returns-in-Ok-with_moved-clause-draft : goal.returns-in-Ok-with_moved-clause-draft
 returns-in-Ok-with_moved-clause-draft g c =

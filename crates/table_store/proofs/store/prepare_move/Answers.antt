@@ -5,16 +5,20 @@ use Rattle.col_disk.proofs.Moving.{moved_join, moved_read}
 use Rattle.proj_store.specs.Loaded.{Loaded}
 use Rattle.table_store.specs.Held.{projections_of}
 use Rattle.table_store.proofs.Drawn.{move_draws, move_job}
-use Rattle.table_store.proofs.Moved.{drawn_later, entry_there, fresh_table, fresh_place, rewritten}
+use Rattle.table_store.proofs.Moved.{drawn_later, fresh_table, fresh_place, rewritten}
 use Rattle.col_disk.specs.Faults.{IsUnblamed}
+use Rattle.table_store.proofs.Shapes.{moved_shape_at}
 use Rattle.table_store.proofs.Unblamed.{moved_unblamed, of_disk}
 use Rattle.table_store.proofs.store.prepare_move.Goals as goal
 
 pub returns-in-Err-load-clause-moved : goal.returns-in-Err-load-clause-moved
 returns-in-Err-load-clause-moved g c = moved_join g.D.Disk c.moveout.ensures.moved (moved_read g.D.Disk c.load.ensures.looks)
 
-pub with_entry_at-requires-clause-there : goal.with_entry_at-requires-clause-there
-with_entry_at-requires-clause-there g c = entry_there c.args.root.now (map projections_of c.args.tables.now) c.args.table c.args.place c.requires.held.entries c.requires.fresh
+pub with_entry_at-requires-clause-shape : goal.with_entry_at-requires-clause-shape
+with_entry_at-requires-clause-shape g c =
+    let p = c.index-as_slice-place.result in
+    let p_is : p ≡ get_or c.index-tables-table.result c.args.place p = c.index-as_slice-place.is ∙ ap (λ (qs : List Loaded). get_or qs c.args.place p) c.as_slice.ensures in
+    moved_shape_at c.args.last c.args.root.now.next c.in-Ok.out.next c.args.table c.args.place c.args.root.now c.args.tables.now c.index-tables-table.result p c.in-Ok.out.entry c.requires.held c.requires.fresh c.index-tables-table.is p_is c.in-Ok.ensures.entry
 
 pub returns-in-Ok-with_entry_at-clause-moved_out : goal.returns-in-Ok-with_entry_at-clause-moved_out
 returns-in-Ok-with_entry_at-clause-moved_out g c =
