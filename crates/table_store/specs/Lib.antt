@@ -7,5 +7,6 @@ pub mod Installing
 pub mod Drawing
 pub mod Shaping
 pub mod Faults
+pub mod Blamed
 pub mod Widening
 pub mod Draining

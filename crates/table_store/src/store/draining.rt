@@ -8,6 +8,7 @@ ghost use Rattle.db_model.specs.Database.{Database};
 ghost use Rattle.db_model.specs.Mover.{behind};
 ghost use Rattle.store_commit.specs.Making.{Makes};
 ghost use Rattle.store_commit.specs.Seen.{Stands};
+ghost use Rattle.table_store.specs.Blamed.{BlamesDrained};
 ghost use Rattle.table_store.specs.Draining.{all_caught_up, DrawsMany};
 
 use super::{TableStore, version_of};
@@ -24,6 +25,7 @@ impl TableStore {
         ensures made { (d : Database) → Stands ⟦<D as Disk>⟧ self.old disk.old d → Makes ⟦<D as Disk>⟧ no_memory self.old self.new disk.old disk.new result d (all_caught_up d) }
         ensures drawn { OnOk result ((d : Database) → Stands ⟦<D as Disk>⟧ self.old disk.old d → DrawsMany (length (behind d)) self.old.catalogue self.new.catalogue) }
         ensures unblamed { IfErr result (λ fault. (d : Database) → Stands ⟦<D as Disk>⟧ self.old disk.old d → IsUnblamed fault) }
+        ensures blamed { IfErr result (BlamesDrained self.old (D.holds disk.new)) }
         ensures same { OnErr result (self.new ≡ self.old) }
         ensures cause { HasCause StoreFault.Disk (D.faults disk.old) (D.faults disk.new) result }
     {

@@ -7,6 +7,9 @@ use Rattle.table_store.specs.Held.{projections_of}
 use Rattle.table_store.proofs.Drawn.{move_draws, move_job}
 use Rattle.table_store.proofs.Moved.{drawn_later, entry_there, fresh_table, fresh_place, rewritten}
 use Rattle.col_disk.specs.Faults.{IsUnblamed}
+use Rattle.col_disk.specs.declared.disk.StoreFault.{StoreFault}
+use Rattle.table_store.specs.Blamed.{BlamesMovedAt}
+use Rattle.table_store.proofs.Moves.{disk_moved_at, moved_blamed, written_blamed}
 use Rattle.table_store.proofs.Unblamed.{moved_unblamed, of_disk}
 use Rattle.table_store.proofs.store.prepare_move.Goals as goal
 
@@ -75,3 +78,18 @@ returns-in-Err-load-clause-unblamed g c = λ m n was now all.
 
 pub returns-in-Ok-with_entry_at-clause-version : goal.returns-in-Ok-with_entry_at-clause-version
 returns-in-Ok-with_entry_at-clause-version g c = omega (arith, ap (λ (k : Catalogue). k.next) c.in-Ok-with_entry_at.ensures.catalogue)
+
+pub returns-in-Err-clause-blamed : goal.returns-in-Err-clause-blamed
+returns-in-Err-clause-blamed g c =
+    let tables = map projections_of c.args.tables.now in
+    subst (λ (f : StoreFault). BlamesMovedAt c.args.last c.args.root.now.next tables c.args.table c.args.place (g.D.Disk.holds c.moveout.new.disk) f) (sym c.from.ensures)
+    (disk_moved_at c.args.last c.args.root.now.next tables c.args.table c.args.place (g.D.Disk.holds c.moveout.new.disk) c.in-Err.fault)
+
+pub returns-in-Err-load-clause-blamed : goal.returns-in-Err-load-clause-blamed
+returns-in-Err-load-clause-blamed g c =
+    let ps = c.index-tables-table.result in
+    let p = c.index-as_slice-place.result in
+    let p_is : p ≡ get_or ps c.args.place p = c.index-as_slice-place.is ∙ ap (λ (qs : List Loaded). get_or qs c.args.place p) c.as_slice.ensures in
+    moved_blamed c.args.last c.args.root.now.next c.args.tables.now c.args.table c.args.place ps p (g.D.Disk.holds c.load.new.disk) c.in-Err-load.fault c.requires.fresh c.index-tables-table.is p_is
+    (written_blamed c.args.last c.args.root.now.next c.in-Ok.out.next p.stored c.in-Ok.out.entry c.in-Ok-entry_copy.copy (g.D.Disk.holds c.moveout.new.disk) (g.D.Disk.holds c.load.new.disk) c.in-Err-load.fault
+    c.in-Ok.ensures.entry c.in-Ok.ensures.upto c.in-Ok-entry_copy.ensures c.in-Err-load.ensures.blamed c.load.ensures.looks.contents)

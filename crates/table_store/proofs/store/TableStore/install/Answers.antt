@@ -1,5 +1,6 @@
 use Rattle.std.proofs.Common.{◌≤◌, ◌<◌, map, length, set, rules, sym, ◌∙◌, ap, subst, arith}
-use Rattle.std.specs.Prelude.{Err}
+use Rattle.std.specs.Prelude.{Err, Option}
+use Rattle.common_laws.specs.Maps.{Contents}
 use Rattle.col_disk.specs.declared.disk.StoreFault.{StoreFault}
 use Rattle.col_disk.specs.declared.disk.StoreFault.TheVariants as fault
 use Rattle.store_commit.specs.Seen.{Seen}
@@ -11,6 +12,8 @@ use Rattle.table_store.specs.Installing.{IsRenewalAt}
 use Rattle.table_store.specs.Moving.{with_entry_at}
 use Rattle.table_store.proofs.Installed.{install_made, nothing_done, read_only, renewed_there, renewed_table, renewed_place}
 use Rattle.table_store.proofs.Makes.{move_held, move_seen, store_done, store_makes}
+use Rattle.proj_store.specs.Reading.{BlamesLoad}
+use Rattle.table_store.proofs.Moves.{disk_loads}
 use Rattle.table_store.proofs.Unblamed.{load_unblamed}
 use Rattle.catalog_types.specs.declared.catalogue.Catalogue.{Catalogue}
 use Rattle.table_store.proofs.store.TableStore.install.Goals as goal
@@ -89,3 +92,11 @@ returns-clause-made g c = λ d stands holds.
 
 pub settle-requires-clause-drawn : goal.settle-requires-clause-drawn
 settle-requires-clause-drawn g c = omega (arith, ap (λ (k : Catalogue). k.next) c.in-Ok-with_entry_at.ensures.catalogue)
+
+pub returns-in-Err-clause-blamed : goal.returns-in-Err-clause-blamed
+returns-in-Err-clause-blamed g c = subst (λ (h : Option Contents). BlamesLoad c.args.entry.containers h c.in-Err.fault) (sym c.read_again.ensures.looks.contents) c.in-Err.ensures.blamed
+
+pub returns-in-Err-settle-clause-blamed : goal.returns-in-Err-settle-clause-blamed
+returns-in-Err-settle-clause-blamed g c =
+    let h = g.D.Disk.holds c.settle.new.disk in
+    subst (λ (f : StoreFault). BlamesLoad c.args.entry.containers h f) (sym c.from.ensures) (disk_loads c.args.entry.containers h c.in-Err-settle.fault)

@@ -15,6 +15,8 @@ use Rattle.table_store.proofs.Moved.{fresh_table, fresh_place, rewritten_catalog
 use Rattle.table_store.proofs.Makes.{move_short, move_made, move_seen, move_held, store_makes, store_done}
 use Rattle.col_disk.specs.Faults.{IsUnblamed}
 use Rattle.table_store.specs.Faults.{IsReadable}
+use Rattle.table_store.specs.Blamed.{BlamesMovedAt}
+use Rattle.table_store.proofs.Moves.{disk_moved_at}
 use Rattle.table_store.proofs.Unblamed.{move_unblamed, of_disk}
 use Rattle.table_store.proofs.store.TableStore.move_out.Goals as goal
 
@@ -104,3 +106,17 @@ returns-in-Err-clause-unblamed g c = λ d stands.
 
 pub returns-in-Err-settle-clause-unblamed : goal.returns-in-Err-settle-clause-unblamed
 returns-in-Err-settle-clause-unblamed g c = λ d stands. subst IsUnblamed (sym c.from.ensures) (of_disk c.in-Err-settle.fault)
+
+pub returns-in-Err-clause-blamed : goal.returns-in-Err-clause-blamed
+returns-in-Err-clause-blamed g c =
+    let h = g.D.Disk.holds c.prepare_move.new.disk in
+    let i = c.args.table in
+    let j = c.args.place in
+    subst (λ (s : Seen). BlamesMovedAt s.catalogue.last s.catalogue.next s.stores i j h c.in-Err.fault) c.self.view_is
+    (subst (λ (ts : List (List Loaded)). BlamesMovedAt c.self.inside.last c.self.inside.root.next (map projections_of ts) i j h c.in-Err.fault) c.as_slice.ensures.value c.in-Err.ensures.blamed)
+
+pub returns-in-Err-settle-clause-blamed : goal.returns-in-Err-settle-clause-blamed
+returns-in-Err-settle-clause-blamed g c =
+    let s = c.args.self.now in
+    subst (λ (f : StoreFault). BlamesMovedAt s.catalogue.last s.catalogue.next s.stores c.args.table c.args.place (g.D.Disk.holds c.settle.new.disk) f) (sym c.from.ensures)
+    (disk_moved_at s.catalogue.last s.catalogue.next s.stores c.args.table c.args.place (g.D.Disk.holds c.settle.new.disk) c.in-Err-settle.fault)
