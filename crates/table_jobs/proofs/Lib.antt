@@ -7,3 +7,4 @@ pub mod Remade
 pub mod Made
 pub mod There
 pub mod Purges
+pub mod Renewed

@@ -18,6 +18,7 @@ ghost use Rattle.db_model.specs.Database.{Database};
 ghost use Rattle.store_commit.specs.Seen.{Stands};
 ghost use Rattle.table_store.specs.Installing.{IsRenewal};
 ghost use Rattle.table_store.specs.Moving.{IsFreshAt};
+ghost use Rattle.table_jobs.specs.Blamed.{BlamesMerge};
 ghost use Rattle.table_jobs.specs.Jobs.{DrawsMerged, MakesRise, OfProjection};
 
 use col_disk::{Disk, DiskFault, StoreFault};
@@ -110,6 +111,7 @@ pub fn merge<D: Disk>(
     ensures made { (d : Database) → Stands ⟦<D as Disk>⟧ store.old disk.old d → MakesRise ⟦<D as Disk>⟧ no_memory store.old store.new disk.old disk.new result d table place }
     ensures drawn { OnOk result (OfProjection table place store.old.catalogue (DrawsMerged table place store.old.catalogue store.new.catalogue)) }
     ensures unblamed { IfErr result (λ fault. (d : Database) → Stands ⟦<D as Disk>⟧ store.old disk.old d → IsUnblamed fault) }
+    ensures blamed { IfErr result (λ fault. OfProjection table place store.old.catalogue (BlamesMerge (D.holds disk.old) (D.holds disk.new) fault)) }
     ensures same { OnErr result (store.new ≡ store.old) }
     ensures cause { HasCause StoreFault.Disk (D.faults disk.old) (D.faults disk.new) result }
 {
