@@ -1,9 +1,10 @@
 //! A moveout of all projections, and the end of all sessions.
 
-ghost use Rattle.std.specs.Prelude.{◌≡◌, ◌≤◌, ℕ, length, nat_le, is_some};
+ghost use Rattle.std.specs.Prelude.{◌≡◌, ◌≤◌, ℕ, length, nat_le, is_some, IfErr};
 ghost use Rattle.common_laws.specs.Causes.{HasCause};
 ghost use Rattle.db_model.specs.State.{State};
 ghost use Rattle.mover_policy.specs.First.{all_projections, behind_in, first_in};
+ghost use Rattle.table_store.specs.Blamed.{BlamesDrained};
 ghost use Rattle.store_core.specs.Moving.{MovesAllOf};
 ghost use Rattle.store_core.specs.Running.{IsState};
 ghost use Rattle.store_core.specs.Sessions.{eight_dropped, with_none};
@@ -59,6 +60,7 @@ impl Store {
     /// there. Where memory is short, nothing changed but the mover's job, which is dropped; over a state no file is blamed.
     pub fn move_all<D: Disk>(&mut self, alloc: Global, disk: &mut D) -> Result<bool, StoreFault>
         ensures moves { (state : State) → IsState ⟦<D as Disk>⟧ self.old disk.old state → MovesAllOf ⟦<D as Disk>⟧ self.new disk.old disk.new result state }
+        ensures blamed { IfErr result (BlamesDrained self.old.seen (D.holds disk.new)) }
         ensures cause { HasCause StoreFault.Disk (D.faults disk.old) (D.faults disk.new) result }
     {
         self.projections_fit();

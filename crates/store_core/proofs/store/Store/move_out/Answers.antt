@@ -4,10 +4,11 @@ use Rattle.state_laws.proofs.Reached.{risen_state}
 use Rattle.store_core.proofs.Events.{move_does}
 use Rattle.store_core.proofs.Raising.{moved_rises}
 use Rattle.std.proofs.Common.{sym, subst}
-use Rattle.std.specs.Prelude.{OnOk}
+use Rattle.std.specs.Prelude.{IfErr, OnOk}
 use Rattle.std.proofs.lemmas.Result.{IfErr-weaker}
 use Rattle.store_commit.specs.Seen.{Stands}
 use Rattle.store_core.specs.Running.{Running}
+use Rattle.table_store.specs.Blamed.{BlamesMovedAt}
 use Rattle.table_store.specs.Drawing.{DrawsJob}
 use Rattle.store_core.proofs.store.Store.move_out.Goals as goal
 
@@ -22,3 +23,7 @@ returns-clause-job g c = subst (λ (r : Running). OnOk c.move_out.result (DrawsJ
 pub returns-clause-unblamed : goal.returns-clause-unblamed
 returns-clause-unblamed g c =
     IfErr-weaker c.move_out.result _ _ (λ fault none state here. none state.database (subst (λ (r : Running). Stands g.D.Disk r.seen c.args.disk.now state.database) (sym c.self.view_is) here.database)) c.move_out.ensures.unblamed
+
+pub returns-clause-blamed : goal.returns-clause-blamed
+returns-clause-blamed g c =
+    subst (λ (r : Running). IfErr c.move_out.result (BlamesMovedAt r.seen.catalogue.last r.seen.catalogue.next r.seen.stores c.args.table c.args.place (g.D.Disk.holds c.move_out.new.disk))) c.self.view_is c.move_out.ensures.blamed
