@@ -81,7 +81,7 @@ all_drawn first k is = All-cons (λ s. from first s ≡ true) (files k) (mark k.
     by None le = All-nil (λ s. from first s ≡ true)
     by (Some m) le = All-cons (λ s. from first s ≡ true) (span_of m) [] (passes_from first m le) (All-nil (λ s. from first s ≡ true))
 
-drawn_whole : (first : ℕ) (k : Container) → IsDrawn first k → drawn_of first k ≡ container_spans k
+pub drawn_whole : (first : ℕ) (k : Container) → IsDrawn first k → drawn_of first k ≡ container_spans k
 drawn_whole first k is = whole (from first) (container_spans k) (all_drawn first k is)
 
 -- each number of a container that has another's files is one of that one's, or was drawn

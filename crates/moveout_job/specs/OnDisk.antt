@@ -1,5 +1,5 @@
 -- A projection all of whose rows and marks are on disk.
-use Rattle.std.specs.Prelude.{ℕ, ◌≡◌, ◌⊎◌, ◌≤◌, ◌<◌, ◌+◌, ◌^◌, ◌++◌, Bool, true, false, List, length, Option, Some, IfSome}
+use Rattle.std.specs.Prelude.{ℕ, ◌≡◌, ◌⊎◌, ◌≤◌, ◌<◌, ◌+◌, ◌^◌, ◌++◌, Bool, true, false, List, [], ◌∷◌, length, Option, Some, IfSome}
 use Rattle.std.specs.List.{All, AllZip}
 use Rattle.common_laws.specs.Bags.{SameBag}
 use Rattle.common_laws.specs.Maps.{Contents}
@@ -36,6 +36,13 @@ pub record IsRemarked (next after : ℕ) (old new : Container) : Type 0 where
   pub level : new.level ≡ old.level
   pub stored : new.stored ≡ old.stored
   pub marks : (new.marks ≡ old.marks) ⊎ IfSome new.marks (IsNewNumber next after)
+
+-- the same of containers, one after the other: their numbers are drawn in their order
+abbrev pub AreRemarked : ℕ → ℕ → List Container → List Container → Type 0
+AreRemarked next after [] [] = after ≡ next
+AreRemarked next after [] (j ∷ js) = ⊥
+AreRemarked next after (k ∷ ks) [] = ⊥
+AreRemarked next after (k ∷ ks) (j ∷ js) = (mid : ℕ) × (next ≤ mid) × IsRemarked next mid k j × AreRemarked mid after ks js
 
 -- the entry with these containers and one more behind them, if one was made, which has all rows up to an epoch
 abbrev pub moved_to : ℕ → List Container → Option Container → Projection → Projection

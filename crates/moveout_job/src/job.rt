@@ -2,6 +2,7 @@
 
 ghost use Rattle.std.specs.Prelude.{◌≡◌, ◌≤◌, ◌+◌, ◌*◌, map, length, IfOk};
 ghost use Rattle.common_laws.specs.Causes.{HasCause};
+ghost use Rattle.catalog_laws.specs.Entries.{HasNumbersBelow, KeepsNumbers};
 ghost use Rattle.col_disk.specs.Moved.{Moved, NoName};
 ghost use Rattle.proj_store.specs.Sound.{IsLoadable};
 ghost use Rattle.write_store.specs.Memory.{stamp};
@@ -52,6 +53,7 @@ pub fn moveout<D: Disk>(
     ensures entry { IfOk result (λ r. IsMovedOut last next r.next p.now.stored.entry r.entry) }
     ensures held { IfOk result (λ r. KeepsStored next p.now.stored r.entry (D.holds disk.old) (D.holds disk.new)) }
     ensures below { IfOk result (λ r. IsListedBelow next p.now.stored.entry → IsListedBelow r.next r.entry) }
+    ensures numbers { IfOk result (λ r. HasNumbersBelow next p.now.stored.entry → KeepsNumbers next p.now.stored.entry r.entry) }
     ensures upto { IfOk result (λ r. r.next ≤ next + 2 * (length p.now.stored.entry.columns + 1) + 1 + length p.now.stored.entry.containers) }
     ensures count { IfOk result (λ r. length r.entry.containers ≤ length p.now.stored.entry.containers + 1) }
     ensures loadable { IfOk result (λ r. IsLoadable r.entry) }

@@ -6,7 +6,7 @@ ghost use Rattle.common_laws.specs.Causes.{HasCause};
 ghost use Rattle.col_disk.specs.Moved.{Moved, NoName};
 ghost use Rattle.ros_container.specs.Encodings.{written_of};
 ghost use Rattle.container_writer.specs.Writing.{DataFrom};
-ghost use Rattle.moveout_job.specs.OnDisk.{IsRemarked, Remarks, RemarksEach, beside};
+ghost use Rattle.moveout_job.specs.OnDisk.{AreRemarked, IsRemarked, Remarks, RemarksEach, beside};
 
 use crate::marks::vector_with;
 use catalog_types::Container;
@@ -87,6 +87,7 @@ pub fn mark_each<D: Disk>(
 ) -> Result<AllRemarked, DiskFault>
     ensures held { IfOk result (λ r. RemarksEach (written_of p.now.stored.entry) next r.next p.now.stored.entry.containers p.now.stored.beside r.containers.items (D.holds disk.old) (D.holds disk.new)) }
     ensures each { IfOk result (λ r. AllZip (IsRemarked next r.next) p.now.stored.entry.containers r.containers.items) }
+    ensures ordered { IfOk result (λ r. AreRemarked next r.next p.now.stored.entry.containers r.containers.items) }
     ensures next { IfOk result (λ r. next ≤ r.next) }
     ensures upto { IfOk result (λ r. r.next ≤ next + length p.now.stored.entry.containers) }
     ensures moved { Moved ⟦<D as Disk>⟧ (DataFrom next) NoName disk.old disk.new }

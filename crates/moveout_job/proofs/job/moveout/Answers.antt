@@ -7,6 +7,7 @@ use Rattle.ros_container.specs.Encodings.{written_of}
 use Rattle.container_writer.specs.Ordered.{stamped_of}
 use Rattle.container_writer.specs.Writing.{listed, HoldsBag, AreNumbered}
 use Rattle.moveout_job.specs.OnDisk.{moved_to}
+use Rattle.moveout_job.proofs.Drawn.{keeps_numbers}
 use Rattle.moveout_job.proofs.Renewed.{later_data}
 use Rattle.moveout_job.proofs.Assembled.{of_entry, moves_out, lists_below, loads, counts}
 use Rattle.moveout_job.proofs.job.moveout.Goals as goal
@@ -38,6 +39,17 @@ returns-in-Ok-moved_entry-clause-below g c =
     let after = c.in-Ok-write_stamped.written.next in
     let is : c.in-Ok-moved_entry.entry ≡ moved_to c.args.last js made p.entry = of_entry c.args.last js made c.entry-2.result.now p.entry c.in-Ok-moved_entry.entry c.in-Ok-moved_entry.ensures c.entry-2.ensures.entry in
     lists_below c.args.last c.args.next mid after p.entry c.in-Ok-moved_entry.entry js made is c.in-Ok-mark_each.ensures.next c.in-Ok-mark_each.ensures.each
+    (subst (λ (e : Projection). AreNumbered (length e.columns) mid after made) c.entry.ensures.entry c.in-Ok-write_stamped.ensures.numbers)
+
+pub returns-in-Ok-moved_entry-clause-numbers : goal.returns-in-Ok-moved_entry-clause-numbers
+returns-in-Ok-moved_entry-clause-numbers g c =
+    let p = c.args.p.now.stored in
+    let js = c.in-Ok-mark_each.marked.containers.items in
+    let made = c.in-Ok-write_stamped.written.container in
+    let mid = c.in-Ok-mark_each.marked.next in
+    let after = c.in-Ok-write_stamped.written.next in
+    let is : c.in-Ok-moved_entry.entry ≡ moved_to c.args.last js made p.entry = of_entry c.args.last js made c.entry-2.result.now p.entry c.in-Ok-moved_entry.entry c.in-Ok-moved_entry.ensures c.entry-2.ensures.entry in
+    keeps_numbers c.args.last c.args.next mid after p.entry c.in-Ok-moved_entry.entry js made is c.in-Ok-mark_each.ensures.ordered
     (subst (λ (e : Projection). AreNumbered (length e.columns) mid after made) c.entry.ensures.entry c.in-Ok-write_stamped.ensures.numbers)
 
 pub returns-in-Ok-moved_entry-clause-count : goal.returns-in-Ok-moved_entry-clause-count
