@@ -1,17 +1,24 @@
 //! Writing the numbers of a lane by how far they are above a base, and counting their bytes.
 
-ghost use Rattle.std.specs.Prelude.{◌≡◌, ◌≤◌, ◌*◌, ◌++◌, length, map, IfOk, OnOk};
+ghost use Rattle.std.specs.Prelude.{◌≡◌, ◌≤◌, ◌+◌, ◌*◌, ◌++◌, length, map, IfOk};
 ghost use Rattle.std.specs.List.{All, flat_map};
+ghost use Rattle.std.specs.Vec.{vec_len, vec_capacity};
 ghost use Rattle.block_codec.specs.Held.{number_value};
 ghost use Rattle.enc_delta.specs.Delta.{IsDelta, delta, delta_block, delta_spelling};
 ghost use Rattle.enc_delta.specs.Above.{IsAbove};
 
 use crate::base::lane_base;
-use crate::delta::put_delta;
+use crate::delta::put_reserved;
 use crate::read::TAG;
 use block_codec::vint_len;
 use col_bytes::{put_be8, put_vint};
 use std::alloc::{AllocError, Global};
+
+/// How many bytes the longest delta takes.
+const LONGEST: usize = 10;
+
+/// More bytes than stand in front of the deltas: the tag, how many there are, the base.
+const HEAD: usize = 16;
 
 /// 0 for NULL, else one more than how far the number is above the base.
 #[inline(always)]
@@ -26,15 +33,15 @@ fn delta_of(base: i64, n: i64) -> u64
     }
 }
 
-/// Appends the delta of each number.
-fn put_deltas(out: &mut Vec<u8>, base: i64, numbers: &[i64]) -> Result<(), AllocError>
-    requires { All (IsAbove base) (map number_value numbers.now) }
-    ensures { OnOk result (out.new.items ≡ out.old.items ++ flat_map (delta_spelling base) (map number_value numbers.now)) }
+/// Appends the delta of each number where there is room for the longest.
+fn put_deltas(out: &mut Vec<u8>, base: i64, numbers: &[i64])
+    requires above { All (IsAbove base) (map number_value numbers.now) }
+    requires room { vec_len out.old + 10 * length numbers.now ≤ vec_capacity out.old }
+    ensures { out.new.items ≡ out.old.items ++ flat_map (delta_spelling base) (map number_value numbers.now) }
 {
     for n in numbers {
-        put_delta(out, delta_of(base, *n))?;
+        put_reserved(out, delta_of(base, *n));
     }
-    Ok(())
 }
 
 /// How many bytes the deltas of the numbers take.
@@ -65,10 +72,12 @@ pub fn encode_numbers(alloc: Global, numbers: &[i64]) -> Result<Vec<u8>, AllocEr
     ensures { IfOk result (λ b. b.items ≡ delta_block (map number_value numbers.now)) }
 {
     let base = lane_base(numbers);
-    let mut out = Vec::with_capacity(alloc, numbers.len())?;
+    let room = LONGEST * numbers.len();
+    let mut out = Vec::with_capacity(alloc, HEAD + room)?;
     out.push(TAG)?;
     put_vint(&mut out, numbers.len() as u64)?;
     put_be8(&mut out, base)?;
-    put_deltas(&mut out, base, numbers)?;
+    out.reserve(room)?;
+    put_deltas(&mut out, base, numbers);
     Ok(out)
 }

@@ -1,4 +1,4 @@
-use Rattle.std.proofs.Common.{◌≡◌, ◌≤◌, ◌*◌, ◌++◌, length, take}
+use Rattle.std.proofs.Common.{◌≡◌, ◌≤◌, ◌*◌, length, take}
 use Rattle.std.specs.List.{flat_map}
 use Rattle.block_codec.specs.Held.{number_value}
 use Rattle.enc_delta.specs.Delta.{delta_spelling}

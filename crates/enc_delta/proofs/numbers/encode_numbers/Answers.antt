@@ -7,8 +7,8 @@ use Rattle.enc_delta.specs.Delta.{base_of}
 use Rattle.enc_delta.proofs.Least.{each_above}
 use Rattle.enc_delta.proofs.numbers.encode_numbers.Goals as goal
 
-pub put_deltas-requires : goal.put_deltas-requires
-put_deltas-requires c =
+pub put_deltas-requires-clause-above : goal.put_deltas-requires-clause-above
+put_deltas-requires-clause-above c =
     let vs = map number_value c.args.numbers.now in
     let fits : FitsSigned w64 c.lane_base-base.result = search rules in
     let e : to_z w64 (of_z w64 c.lane_base-base.result) ≡ base_of vs = to_z-of_z w64 c.lane_base-base.result fits ∙ c.lane_base-base.ensures in
