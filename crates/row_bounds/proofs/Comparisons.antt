@@ -1,5 +1,5 @@
 -- A true comparison of two values, with its sides exchanged, and as a bound.
-use Rattle.std.proofs.Common.{◌≡◌, ◌⊎◌, ℕ, Bool, true, false, cond, List, Option, Some, None, inl, inr, refl, sym, ap, ap₂, ◌∙◌}
+use Rattle.std.proofs.Common.{◌≡◌, ℕ, Bool, true, false, cond, List, Option, Some, None, refl, sym, ap, ap₂, ◌∙◌}
 use Rattle.std.specs.Prelude.{◌&&◌}
 use Rattle.std.specs.List.{slice_index_or}
 use Rattle.std.specs.Option.{IfSome}
@@ -174,10 +174,6 @@ pub eq_lies : (c : Cmp) (least v w : Value) → c ≡ Cmp.Eq → least ≡ w →
 eq_lies c least v w is same e =
     let equal : is_true (compared Cmp.Eq (widened v) (widened w)) ≡ true = ap (λ (d : Cmp). is_true (compared d (widened v) (widened w))) (sym is) ∙ e in
     ap₂ (λ (a b : Bool). a && b) (ap (λ (x : Value). is_le (value_cmp x v)) same ∙ eq_on v w equal) (eq_up v w equal)
-
-pub on_lies : (c : Cmp) (v w : Value) → (c ≡ Cmp.Gt) ⊎ (c ≡ Cmp.Ge) → is_true (compared c (widened v) (widened w)) ≡ true → (is_le (value_cmp w v) && true) ≡ true
-on_lies c v w (inl is) e = ap (λ (b : Bool). b && true) (gt_on v w (ap (λ (d : Cmp). is_true (compared d (widened v) (widened w))) (sym is) ∙ e))
-on_lies c v w (inr is) e = ap (λ (b : Bool). b && true) (ge_on v w (ap (λ (d : Cmp). is_true (compared d (widened v) (widened w))) (sym is) ∙ e))
 
 -- what is true of a column and a literal, is so of each row where the comparison is
 pub set_bound : (c : Cmp) (a b : Expr) (column : ℕ) (w : Wide) (o : Option Bound) → ((row : List Value) → value_of (of_row row) a ≡ widened (slice_index_or row column value.Null)) → ((row : List Value) → value_of (of_row row) b ≡ w)

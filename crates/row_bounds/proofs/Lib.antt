@@ -3,3 +3,5 @@ pub mod Comparisons
 pub mod Parts
 pub mod Fronts
 pub mod Hulls
+pub mod Nearest
+pub mod Bits

@@ -1,12 +1,14 @@
 //! The bounds that conditions set.
 
-ghost use Rattle.std.specs.Prelude.{◌≡◌, ◌<◌, true, List, IfOk, OnOk};
+ghost use Rattle.std.specs.Prelude.{◌≡◌, ◌<◌, ◌≤◌, ◌<ℤ◌, ◌≤ℤ◌, ℕ, ℤ, true, List, IfOk, OnOk};
 ghost use Rattle.std.specs.List.{All, list_any, slice_index_or};
 ghost use Rattle.std.specs.Option.{IfSome};
+ghost use Rattle.std.specs.Ordering.{is_le};
 ghost use Rattle.col_value.specs.declared.value.Value.{Value as Item};
 ghost use Rattle.col_value.specs.declared.value.Value.TheVariants.{Null};
 ghost use Rattle.col_value.specs.declared.wide.Wide.{Wide as Worth};
-ghost use Rattle.col_value.specs.Order.{widened};
+ghost use Rattle.col_value.specs.Order.{value_cmp, widened};
+ghost use Rattle.sql_tree.specs.declared.tree.Cmp.{Cmp as Comparison};
 ghost use Rattle.sql_bound.specs.Outputs.{is_kept};
 ghost use Rattle.sql_bound.specs.Values.{compared, is_true, of_row, value_of};
 ghost use Rattle.row_bounds.specs.Bounds.{lies_in, within};
@@ -244,15 +246,79 @@ fn bound_at(
             }))
         },
         Cmp::Ne => Ok(None),
-        Cmp::Lt | Cmp::Le => Ok(Some(Bound {
-            column,
-            least: None,
-            greatest: Some(value),
-        })),
-        Cmp::Gt | Cmp::Ge => Ok(Some(Bound {
-            column,
-            least: Some(value),
-            greatest: None,
-        })),
+        Cmp::Lt => Ok(Some(up_to(column, before(value)))),
+        Cmp::Le => Ok(Some(up_to(column, value))),
+        Cmp::Gt => Ok(Some(from_on(column, behind(value)))),
+        Cmp::Ge => Ok(Some(from_on(column, value))),
     }
+}
+
+/// The values of a column up to one.
+fn up_to(column: usize, greatest: Value) -> Bound
+    ensures { (result.column ≡ column) × ((v : Item) → is_le (value_cmp v greatest) ≡ true → lies_in result v ≡ true) }
+{
+    Bound {
+        column,
+        least: None,
+        greatest: Some(greatest),
+    }
+}
+
+/// The values of a column from one on.
+fn from_on(column: usize, least: Value) -> Bound
+    ensures { (result.column ≡ column) × ((v : Item) → is_le (value_cmp least v) ≡ true → lies_in result v ≡ true) }
+{
+    Bound {
+        column,
+        least: Some(least),
+        greatest: None,
+    }
+}
+
+/// A value up to which all stand that are less than another one of their kind: of numbers, days and truth values the one before it, so
+/// that it is out of the bound itself; of texts, which have none before them, the text.
+fn before(value: Value) -> Value
+    ensures { (v : Item) → is_true (compared Comparison.Lt (widened v) (widened value)) ≡ true → is_le (value_cmp v result) ≡ true }
+{
+    match value {
+        Value::Null => Value::Null,
+        Value::Bool(_) => Value::Bool(false),
+        Value::Int(n) => Value::Int(number_before(n)),
+        Value::Date(d) => Value::Date(d.saturating_sub(1)),
+        Value::Text(t) => Value::Text(t),
+    }
+}
+
+/// A value from which on all stand that are greater than another one of their kind, as `before` has it for those that are less.
+fn behind(value: Value) -> Value
+    ensures { (v : Item) → is_true (compared Comparison.Gt (widened v) (widened value)) ≡ true → is_le (value_cmp result v) ≡ true }
+{
+    match value {
+        Value::Null => Value::Null,
+        Value::Bool(_) => Value::Bool(true),
+        Value::Int(n) => Value::Int(number_behind(n)),
+        Value::Date(d) => Value::Date(day_behind(d)),
+        Value::Text(t) => Value::Text(t),
+    }
+}
+
+/// The number before another one; the least number for itself.
+fn number_before(n: i64) -> i64
+    ensures { (k : ℤ) → k <ℤ n → k ≤ℤ result }
+{
+    if n == i64::MIN { n } else { n - 1 }
+}
+
+/// The number behind another one; the greatest number for itself.
+fn number_behind(n: i64) -> i64
+    ensures { (k : ℤ) → n <ℤ k → result ≤ℤ k }
+{
+    if n == i64::MAX { n } else { n + 1 }
+}
+
+/// The day behind another one; the greatest one that a day's number has room for, for itself.
+fn day_behind(d: u32) -> u32
+    ensures { (k : ℕ) → d < k → result ≤ k }
+{
+    if d == u32::MAX { d } else { d + 1 }
 }
