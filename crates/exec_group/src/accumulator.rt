@@ -1,7 +1,8 @@
 //! An aggregate that takes one value after another.
 
-ghost use Rattle.std.specs.Prelude.{◌≡◌, ◌+◌, [], Some, if◌then◌else◌, IfOk, OnOk, IsErrOf};
+ghost use Rattle.std.specs.Prelude.{◌≡◌, ◌+◌, [], None, Some, if◌then◌else◌, IfOk, OnOk, IsErrOf};
 ghost use Rattle.col_value.specs.Order.{wide_cmp, wide_kind};
+ghost use Rattle.col_value.specs.declared.wide.Wide.TheVariants as wide;
 ghost use Rattle.sql_bound.specs.Outputs.{greater, lesser, number_or_zero};
 ghost use Rattle.expr_value.specs.Worths.{wide_of};
 ghost use Rattle.exec_group.specs.Accumulators.{accumulated, added, greatest_with, least_with, or_null, sum_or_null, taken, worth_or_null};
@@ -63,6 +64,44 @@ impl Accumulator {
             Accumulator::Values(n) if !value.is_null() => raises(n),
             Accumulator::Sum(Some(total)) if !value.is_null() => total.adds(number_or_zero(value)),
             _ => false,
+        }
+    }
+
+    /// Takes a row more, in which its argument is a number: mostly by raising the sum where it stands.
+    #[inline(always)]
+    pub fn take_number(&mut self, alloc: Global, n: i64) -> Result<(), AllocError>
+        ensures { OnOk result (self.new ≡ taken self.old (wide.Int n)) }
+    {
+        if self.adds(n) {
+            return Ok(());
+        }
+        self.take(alloc, &Worth::Int(i128::from(n)))
+    }
+
+    /// Adds a number to a sum, where that isn't too great with it; answers whether it did.
+    #[inline(always)]
+    fn adds(&mut self, n: i64) -> bool
+        ensures { self.new ≡ (if result then taken self.old (wide.Int n) else self.old) }
+    {
+        match self {
+            Accumulator::Sum(Some(total)) => total.adds(i128::from(n)),
+            Accumulator::Sum(None) => self.begins(n),
+            _ => false,
+        }
+    }
+
+    /// Begins a sum with a number; answers whether it did.
+    #[inline(always)]
+    fn begins(&mut self, n: i64) -> bool
+        requires { self.old ≡ accumulator.Sum None }
+        ensures { self.new ≡ (if result then taken self.old (wide.Int n) else self.old) }
+    {
+        match Total::none().with(i128::from(n)) {
+            Some(total) => {
+                *self = Accumulator::Sum(Some(total));
+                true
+            },
+            None => false,
         }
     }
 

@@ -308,6 +308,22 @@ fn take_each(
     Ok(())
 }
 
+/// Lets the accumulator of a group take a number.
+#[inline(always)]
+fn take_number_at(
+    list: &mut Vec<Accumulator>,
+    alloc: Global,
+    group: usize,
+    n: i64,
+) -> Result<(), AllocError>
+    ensures { OnOk result (list.new.items ≡ put_at list.old.items group (wide.Int n)) }
+{
+    if group < list.len() {
+        list[group].take_number(alloc, n)?;
+    }
+    Ok(())
+}
+
 /// Takes numbers, each in its group.
 #[inline(never)]
 fn take_numbers(
@@ -320,7 +336,7 @@ fn take_numbers(
     ensures { OnOk result (list.new.items ≡ put_each (λ n. wide.Int n) groups.now numbers.now list.old.items) }
 {
     for (i, n) in numbers.iter().enumerate() {
-        take_at(list, alloc, groups[i], &Worth::Int(i128::from(*n)))?;
+        take_number_at(list, alloc, groups[i], *n)?;
     }
     Ok(())
 }

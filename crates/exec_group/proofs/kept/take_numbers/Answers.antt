@@ -12,5 +12,5 @@ loop-i-preserved c =
     let column = c.args.list.now.items in
     let i = c.loop-i.i in
     let inside : i < length groups = omega (arith, c.loop-i-test.true, c.requires) in
-    let after : c.take_at.new.list.items ≡ put_at (put_each f (take i groups) (take i numbers) column) (get_or groups i 0) (f (get_or numbers i (pos 0))) = search rules in
+    let after : c.take_number_at.new.list.items ≡ put_at (put_each f (take i groups) (take i numbers) column) (get_or groups i 0) (f (get_or numbers i (pos 0))) = search rules in
     after ∙ put_next f groups numbers column i (pos 0) inside c.loop-i-test.true ∙ ap (λ n. put_each f (take n groups) (take n numbers) column) (sym (add-one i))
