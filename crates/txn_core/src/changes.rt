@@ -116,16 +116,6 @@ impl Changes {
         self.deletes.as_slice()
     }
 
-    /// The pending rows and the pending deletes themselves.
-    pub fn into_parts(self) -> (Vec<Row>, Vec<Asked>)
-        ensures rows { result.0.items ≡ self.rows }
-        ensures valid { All IsRow result.0.items }
-        ensures deletes { result.1.items ≡ self.deletes }
-    {
-        let Changes { rows, deletes, .. } = self;
-        (rows, deletes)
-    }
-
     /// The pending rows are given up and handed over. It takes no memory.
     pub(crate) fn take_rows(&mut self, alloc: Global) -> Vec<Row>
         ensures rows { result.items ≡ self.old.rows }

@@ -57,14 +57,6 @@ impl Session {
         self.changes.as_slice()
     }
 
-    /// The changes themselves.
-    pub fn into_changes(self) -> Vec<Changes>
-        ensures { result.items ≡ self }
-    {
-        let Session { changes } = self;
-        changes
-    }
-
     /// Whether rows or deletes are pending.
     pub fn has_changes(&self) -> bool
         ensures { result ≡ has_changes self.now }
