@@ -9,6 +9,7 @@ use Rattle.col_value.specs.declared.wide.Wide.{Wide}
 use Rattle.sql_bound.specs.Values.{is_null}
 use Rattle.exec_group.specs.Columns.{padded, put_at, put_each}
 use Rattle.exec_group.specs.Counted.{counted_at, counted_each, counts_as}
+use Rattle.exec_group.specs.Groups.{kept_at}
 use Rattle.exec_group.specs.declared.accumulator.Accumulator.{Accumulator}
 use Rattle.exec_group.specs.declared.accumulator.Accumulator.TheVariants as accumulator
 use Rattle.exec_group.proofs.Together.{all_from, pad_more, places_from}
@@ -59,3 +60,8 @@ pub counted_further : (groups : List ℕ) (at n : ℕ) (first now next : List �
 counted_further groups at n first now next was is =
     is ∙ ap (λ (gs : List ℕ). counted_each (take n gs) now) (all_from groups at) ∙ ap (counted_each (take n (drop at groups))) was
     ∙ sym (fold-append counted_at first (take at groups) (take n (drop at groups))) ∙ sym (ap (λ (gs : List ℕ). counted_each gs first) (take-add at n groups))
+
+pub no_count_is_great : (counts : List ℕ) (g : ℕ) → kept_at (counts_as counts) g ≡ accumulator.TooGreat → ⊥
+no_count_is_great [] g e = cc
+no_count_is_great (n ∷ counts) zero e = cc
+no_count_is_great (n ∷ counts) (suc g) e = no_count_is_great counts g e

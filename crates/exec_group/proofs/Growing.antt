@@ -11,11 +11,10 @@ use Rattle.sql_bound.specs.declared.query.BoundQuery.{BoundQuery}
 use Rattle.sql_bound.specs.Outputs.{aggregate_over, group_keys, members, IsGreatSum}
 use Rattle.exec_group.specs.Accumulators.{accumulated, accumulated_over, worth_or_null}
 use Rattle.exec_group.specs.Columns.{padded}
-use Rattle.exec_group.specs.Groups.{Held, AreGroups, FitsAt, HasGreatSum, HoldsGroups, IsGreatAt, kept_at, kept_in, one_group, worths_at, worths_upto}
+use Rattle.exec_group.specs.Groups.{AreGroups, DoneGroups, FitsAt, HasGreatSum, Held, HoldsGroups, IsGreatAt, kept_at, kept_in, one_group, worths_at, worths_upto}
 use Rattle.exec_group.specs.declared.accumulator.Accumulator.{Accumulator}
 use Rattle.exec_group.specs.declared.accumulator.Accumulator.TheVariants as accumulator
 use Rattle.exec_group.specs.declared.accumulator.Accumulator.TheVariants.{TooGreat}
-use Rattle.exec_group.specs.declared.groups.Grouped.{Grouped}
 use Rattle.exec_group.proofs.Together.{Column}
 use Rattle.exec_group.proofs.Entering.{Groups}
 use Rattle.exec_group.proofs.More.{great_over, is_great, no_values, worth_over}
@@ -93,7 +92,7 @@ module _ (q : BoundQuery) (rows : Groups) (h : Held) (held : HoldsGroups q rows 
   abbrev found : Groups
   found = group_keys q.keys rows
 
-  pub groups_done : (g : Grouped) → g.keys ≡ h.keys → g.aggs ≡ worths_upto h.columns (length h.keys) → ((i : ℕ) → i < length h.keys → FitsAt h.columns i) → AreGroups q rows g
+  pub groups_done : (g : DoneGroups) → g.keys ≡ h.keys → g.aggs ≡ worths_upto h.columns (length h.keys) → ((i : ℕ) → i < length h.keys → FitsAt h.columns i) → AreGroups q rows g
   groups_done g keys aggs fits = record {
     keys = keys ∙ held.keys;
     aggs =

@@ -11,3 +11,4 @@ pub mod Pairing
 pub mod Spans
 pub mod Together
 pub mod Totals
+mod Done

@@ -10,7 +10,6 @@ use Rattle.exec_group.specs.Columns.{each_put}
 use Rattle.exec_group.specs.Accumulators.{accumulated, accumulated_over, worth_or_null}
 use Rattle.exec_group.specs.declared.accumulator.Accumulator.{Accumulator}
 use Rattle.exec_group.specs.declared.accumulator.Accumulator.TheVariants as accumulator
-use Rattle.exec_group.specs.declared.groups.Grouped.{Grouped}
 
 -- the keys of the groups in the order in which they were met, and of each aggregate what it keeps in each of them
 pub record Held : Type 0 where
@@ -26,8 +25,13 @@ pub record HoldsGroups (q : BoundQuery) (rows : List (List Value)) (h : Held) : 
   pub keys : h.keys ≡ group_keys q.keys rows
   pub columns : h.columns ≡ map (kept_in q.keys rows (group_keys q.keys rows)) q.aggs
 
+-- groups that are done: the key of each, and beside it its aggregates
+pub record DoneGroups : Type 0 where
+  pub keys : List (List Value)
+  pub aggs : List (List Wide)
+
 -- these are the groups of the rows, each with its aggregates
-pub record AreGroups (q : BoundQuery) (rows : List (List Value)) (g : Grouped) : Type 0 where
+pub record AreGroups (q : BoundQuery) (rows : List (List Value)) (g : DoneGroups) : Type 0 where
   pub keys : g.keys ≡ group_keys q.keys rows
   pub aggs : g.aggs ≡ map (λ key. map (aggregate_over (members q.keys key rows)) q.aggs) (group_keys q.keys rows)
 

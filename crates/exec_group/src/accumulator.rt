@@ -1,6 +1,6 @@
 //! An aggregate that takes one value after another.
 
-ghost use Rattle.std.specs.Prelude.{◌≡◌, ◌+◌, [], None, Some, if◌then◌else◌, IfOk, OnOk, IsErrOf};
+ghost use Rattle.std.specs.Prelude.{◌≡◌, ◌+◌, [], false, true, None, Some, if◌then◌else◌, IfOk, OnOk, IsErrOf};
 ghost use Rattle.col_value.specs.Order.{wide_cmp, wide_kind};
 ghost use Rattle.col_value.specs.declared.wide.Wide.TheVariants as wide;
 ghost use Rattle.sql_bound.specs.Outputs.{greater, lesser, number_or_zero};
@@ -130,13 +130,38 @@ impl Accumulator {
         ensures in_range { OnOk result (self.now ≡ accumulator.TooGreat → ⊥) }
         ensures great { IsErrOf result GroupFault.SumOutOfRange → self.now ≡ accumulator.TooGreat }
     {
+        if self.is_great() {
+            return Err(GroupFault::SumOutOfRange);
+        }
+        Ok(self.worth_or_null(alloc)?)
+    }
+
+    /// Whether it is a sum that is too great.
+    pub fn is_great(&self) -> bool
+        ensures great { result ≡ true → self.now ≡ accumulator.TooGreat }
+        ensures fits { result ≡ false → self.now ≡ accumulator.TooGreat → ⊥ }
+    {
+        match self {
+            Accumulator::TooGreat => true,
+            Accumulator::Rows(_)
+            | Accumulator::Values(_)
+            | Accumulator::Sum(_)
+            | Accumulator::Least(_)
+            | Accumulator::Greatest(_) => false,
+        }
+    }
+
+    /// The aggregate's value; NULL also where it is a sum that is too great.
+    pub fn worth_or_null(&self, alloc: Global) -> Result<Wide, AllocError>
+        ensures { IfOk result (λ w. w ≡ worth_or_null self.now) }
+    {
         match self {
             Accumulator::Rows(n) => Ok(Wide::Int(i128::from(*n))),
             Accumulator::Values(n) => Ok(Wide::Int(i128::from(*n))),
             Accumulator::Sum(total) => Ok(sum_or_null(total)),
-            Accumulator::TooGreat => Err(GroupFault::SumOutOfRange),
-            Accumulator::Least(found) => Ok(or_null(alloc, found)?),
-            Accumulator::Greatest(found) => Ok(or_null(alloc, found)?),
+            Accumulator::TooGreat => Ok(Wide::Null),
+            Accumulator::Least(found) => or_null(alloc, found),
+            Accumulator::Greatest(found) => or_null(alloc, found),
         }
     }
 }

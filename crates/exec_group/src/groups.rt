@@ -1,6 +1,6 @@
 //! Groups, each found by its key.
 
-ghost use Rattle.std.specs.Prelude.{◌≡◌, ℕ, ◌<◌, ◌++◌, ◌∷◌, List, [], true, get_or, length, map, set, IfOk, OnOk, IsErrOf};
+ghost use Rattle.std.specs.Prelude.{◌≡◌, ℕ, ◌<◌, ◌++◌, ◌∷◌, List, [], false, true, get_or, length, map, set, IfOk, OnOk, IsErrOf};
 ghost use Rattle.std.specs.List.{All};
 ghost use Rattle.col_value.specs.Order.{IsRow};
 ghost use Rattle.col_value.specs.declared.value.Value.{Value};
@@ -9,7 +9,7 @@ ghost use Rattle.sql_bound.specs.declared.query.BoundQuery.{BoundQuery};
 ghost use Rattle.sql_bound.specs.Outputs.{keys_of};
 ghost use Rattle.exec_group.specs.Accumulators.{accumulated, argument_in, is_bounded_aggregate};
 ghost use Rattle.exec_group.specs.Columns.{each_put, padded, put_at, put_each, row_of, AreRowsAt};
-ghost use Rattle.exec_group.specs.Groups.{AreGroups, FitsAt, HasGreatSum, HoldsGroups, IsGreatAt, IsPut, one_group, worths_at, worths_upto};
+ghost use Rattle.exec_group.specs.Groups.{AreGroups, FitsAt, HasGreatSum, HoldsGroups, IsGreatAt, IsPut, one_group, worths_at};
 ghost use Rattle.exec_group.specs.declared.fault.GroupFault.{GroupFault};
 
 use crate::GroupFault;
@@ -17,7 +17,7 @@ use crate::argument::argument_of;
 use crate::held_keys::Keys;
 use crate::kept::Kept;
 use block_codec::Block;
-use col_value::{List, Row, Value, Wide, WideRow};
+use col_value::{List, Value, Wide};
 use expr_value::Worth;
 use sql_bound::{Aggregate, BoundQuery};
 use std::alloc::{AllocError, Global};
@@ -38,11 +38,49 @@ impl Model for Groups {
     ghost view = { λ g. record { keys = g.keys; columns = g.columns.items } };
 }
 
-/// Groups that are done: the GROUP BY columns of each, and beside them its aggregates.
+/// Groups that are done, none of whose sums is too great. Contracts see the GROUP BY columns of each, and beside them its aggregates; they
+/// are made when they are asked for.
 #[derive(Drop)]
 pub struct Grouped {
-    pub keys: List<Row>,
-    pub aggs: List<WideRow>,
+    keys: Keys,
+    columns: Vec<Kept>,
+}
+
+impl Model for Grouped {
+    ghost use Rattle.std.specs.Prelude.{length};
+    ghost use Rattle.exec_group.specs.Groups.{DoneGroups, worths_upto};
+
+    ghost Value = { DoneGroups };
+
+    ghost view = { λ g. record { keys = g.keys; aggs = worths_upto g.columns.items (length g.keys) } };
+}
+
+impl Grouped {
+    /// How many there are.
+    #[tactic(auto, using(crate::proofs::Done::worths_count))]
+    pub fn len(&self) -> usize
+        ensures keys { result ≡ length self.now.keys }
+        ensures aggs { result ≡ length self.now.aggs }
+    {
+        self.keys.len()
+    }
+
+    /// Puts the GROUP BY columns and the aggregates of the group at a place into two lists, in the place of what they hold.
+    #[tactic(auto, using(crate::proofs::Done::worths_there))]
+    pub fn copy_group(
+        &self,
+        alloc: Global,
+        group: usize,
+        keys: &mut Vec<Value>,
+        aggs: &mut Vec<Wide>,
+    ) -> Result<(), AllocError>
+        requires { group < length self.now.keys }
+        ensures keys { OnOk result (keys.new.items ≡ get_or self.now.keys group []) }
+        ensures aggs { OnOk result (aggs.new.items ≡ get_or self.now.aggs group []) }
+    {
+        self.keys.copy_key(alloc, group, keys)?;
+        copy_worths(alloc, self.columns.as_slice(), group, aggs)
+    }
 }
 
 impl Groups {
@@ -147,21 +185,17 @@ impl Groups {
         )
     }
 
-    /// The groups of all rows taken, and a fault where a SUM passes what a result holds in one of them.
-    pub fn finish(self, alloc: Global) -> Result<Grouped, GroupFault>
+    /// The groups of all rows taken, and a fault where a SUM passes what a result holds in one of them. It takes no memory.
+    pub fn finish(self) -> Result<Grouped, GroupFault>
         ensures groups { IfOk result (λ g. (q : BoundQuery) (rows : List (List Value)) → HoldsGroups q rows self → AreGroups q rows g) }
         ensures in_range { OnOk result ((q : BoundQuery) (rows : List (List Value)) → HoldsGroups q rows self → HasGreatSum q rows → ⊥) }
         ensures great { IsErrOf result GroupFault.SumOutOfRange → (q : BoundQuery) (rows : List (List Value)) → HoldsGroups q rows self → HasGreatSum q rows }
     {
         let Groups { keys, columns } = self;
-        let aggs = match worths(alloc, columns.as_slice(), keys.len()) {
-            Ok(aggs) => aggs,
-            Err(fault) => return Err(fault),
-        };
-        Ok(Grouped {
-            keys: List::new(keys.into_rows(alloc)?),
-            aggs: List::new(aggs),
-        })
+        if !all_fit(columns.as_slice(), keys.len()) {
+            return Err(GroupFault::SumOutOfRange);
+        }
+        Ok(Grouped { keys, columns })
     }
 }
 
@@ -299,45 +333,44 @@ fn put_places(
     Ok(())
 }
 
-/// The values of the aggregates in a group, and a fault where a sum is too great there.
-fn worths_in(alloc: Global, columns: &[Kept], group: usize) -> Result<WideRow, GroupFault>
-    ensures values { IfOk result (λ r. r ≡ worths_at columns.now group) }
-    ensures in_range { OnOk result (FitsAt columns.now group) }
-    ensures great { IsErrOf result GroupFault.SumOutOfRange → IsGreatAt columns.now group }
+/// Whether no sum is too great in a group.
+fn fit_at(columns: &[Kept], group: usize) -> bool
+    ensures fit { result ≡ true → FitsAt columns.now group }
+    ensures great { result ≡ false → IsGreatAt columns.now group }
 {
-    match column_worths(alloc, columns, group) {
-        Ok(values) => Ok(List::new(values)),
-        Err(fault) => Err(fault),
-    }
-}
-
-fn column_worths(alloc: Global, columns: &[Kept], group: usize) -> Result<Vec<Wide>, GroupFault>
-    ensures values { IfOk result (λ v. v.items ≡ worths_at columns.now group) }
-    ensures in_range { OnOk result (FitsAt columns.now group) }
-    ensures great { IsErrOf result GroupFault.SumOutOfRange → IsGreatAt columns.now group }
-{
-    let mut out = Vec::with_capacity(alloc, columns.len())?;
     for column in columns {
-        match column.worth_at(alloc, group) {
-            Ok(value) => out.push(value)?,
-            Err(fault) => return Err(fault),
+        if column.is_great_at(group) {
+            return false;
         }
     }
-    Ok(out)
+    true
 }
 
-/// The same in each of the first groups.
-fn worths(alloc: Global, columns: &[Kept], count: usize) -> Result<Vec<WideRow>, GroupFault>
-    ensures values { IfOk result (λ v. v.items ≡ worths_upto columns.now count) }
-    ensures in_range { OnOk result ((g : ℕ) → g < count → FitsAt columns.now g) }
-    ensures great { IsErrOf result GroupFault.SumOutOfRange → (g : ℕ) × (g < count) × IsGreatAt columns.now g }
+/// Whether none is in each of the first groups.
+fn all_fit(columns: &[Kept], count: usize) -> bool
+    ensures fit { result ≡ true → (g : ℕ) → g < count → FitsAt columns.now g }
+    ensures great { result ≡ false → (g : ℕ) × (g < count) × IsGreatAt columns.now g }
 {
-    let mut out = Vec::with_capacity(alloc, count)?;
     for group in 0..count {
-        match worths_in(alloc, columns, group) {
-            Ok(values) => out.push(values)?,
-            Err(fault) => return Err(fault),
+        if !fit_at(columns, group) {
+            return false;
         }
     }
-    Ok(out)
+    true
+}
+
+/// Puts the values of the aggregates in a group into a list, in the place of what it holds.
+fn copy_worths(
+    alloc: Global,
+    columns: &[Kept],
+    group: usize,
+    out: &mut Vec<Wide>,
+) -> Result<(), AllocError>
+    ensures { OnOk result (out.new.items ≡ worths_at columns.now group) }
+{
+    out.clear();
+    for column in columns {
+        out.push(column.worth_at(alloc, group)?)?;
+    }
+    Ok(())
 }

@@ -1,6 +1,6 @@
 //! The keys of groups, in the order in which they were met.
 
-ghost use Rattle.std.specs.Prelude.{◌≡◌, ◌++◌, ◌∷◌, [], Some, None, replicate, length, position, IfOk, OnOk};
+ghost use Rattle.std.specs.Prelude.{◌≡◌, ◌++◌, ◌∷◌, [], Some, None, get_or, replicate, length, position, IfOk, OnOk};
 ghost use Rattle.std.specs.Option.{IfSome};
 ghost use Rattle.sql_bound.specs.Outputs.{keys_of, same_keys};
 ghost use Rattle.exec_group.specs.Codes.{Tells};
@@ -10,7 +10,7 @@ ghost use Rattle.exec_group.specs.Groups.{met_one, AreEntered};
 use crate::cells::key_at;
 use crate::codes::{Codes, codes_of_one, codes_of_two};
 use crate::number_keys::{
-    enter_numbers, find_number, find_row_number, key_lane, number_of, number_rows, rows_of,
+    enter_numbers, find_number, find_row_number, key_lane, number_of, put_number, rows_of,
 };
 use crate::runs::has_key_twice;
 use block_codec::Block;
@@ -313,16 +313,46 @@ impl Keys {
         self.enter_words(alloc, keys, columns, places)
     }
 
-    /// The keys, given back.
-    pub fn into_rows(self, alloc: Global) -> Result<Vec<Row>, AllocError>
-        ensures { IfOk result (λ v. v.items ≡ self) }
+    /// Puts the key at a place into a list, in the place of what it holds; none where there is no such key.
+    pub fn copy_key(
+        &self,
+        alloc: Global,
+        place: usize,
+        out: &mut Vec<Value>,
+    ) -> Result<(), AllocError>
+        ensures { OnOk result (out.new.items ≡ get_or self.now place []) }
     {
-        let Keys { form } = self;
-        match form {
-            Form::Numbers(numbers) => number_rows(alloc, numbers.numbers()),
-            Form::Rows(rows) => Ok(rows.into_keys()),
+        out.clear();
+        match &self.form {
+            Form::Numbers(numbers) => put_number(out, numbers.numbers(), place),
+            Form::Rows(rows) => put_row(alloc, out, rows.keys(), place),
         }
     }
+}
+
+/// Puts the row at a place of some rows behind a list.
+fn put_row(
+    alloc: Global,
+    out: &mut Vec<Value>,
+    rows: &[Row],
+    place: usize,
+) -> Result<(), AllocError>
+    ensures { OnOk result (out.new.items ≡ out.old.items ++ get_or rows.now place []) }
+{
+    match rows.get(place) {
+        Some(row) => put_values(alloc, out, row.as_slice()),
+        None => Ok(()),
+    }
+}
+
+/// Puts values behind a list.
+fn put_values(alloc: Global, out: &mut Vec<Value>, values: &[Value]) -> Result<(), AllocError>
+    ensures { OnOk result (out.new.items ≡ out.old.items ++ values.now) }
+{
+    for value in values {
+        out.push(value.copy(alloc)?)?;
+    }
+    Ok(())
 }
 
 /// So many times a value.

@@ -1,6 +1,6 @@
 //! What one aggregate keeps, group by group.
 
-ghost use Rattle.std.specs.Prelude.{◌≡◌, ℕ, ◌+◌, ◌<◌, ◌≤◌, List, true, [], Some, get_or, length, map, set, take, IfOk, OnOk, IsErrOf};
+ghost use Rattle.std.specs.Prelude.{◌≡◌, ℕ, ◌+◌, ◌<◌, ◌≤◌, List, false, true, [], Some, get_or, length, map, set, take, IfOk, OnOk};
 ghost use Rattle.std.specs.List.{All};
 ghost use Rattle.std.specs.Option.{IfSome};
 ghost use Rattle.col_value.specs.Order.{IsRow};
@@ -12,12 +12,11 @@ ghost use Rattle.exec_group.specs.Columns.{padded, put_at, put_each, row_of, tak
 ghost use Rattle.exec_group.specs.Counted.{counted_each, counts_as};
 ghost use Rattle.exec_group.specs.Groups.{kept_at};
 ghost use Rattle.exec_group.specs.declared.accumulator.Accumulator.TheVariants.{Rows, TooGreat};
-ghost use Rattle.exec_group.specs.declared.fault.GroupFault.{GroupFault};
 ghost use Rattle.sql_bound.specs.Values.{number_in};
 
+use crate::Accumulator;
 use crate::columns::{take_place, take_run};
 use crate::lanes::lane_of;
-use crate::{Accumulator, GroupFault};
 use block_codec::Block;
 use col_value::Wide;
 use expr_value::Worth;
@@ -115,11 +114,21 @@ impl Kept {
         }
     }
 
-    /// The aggregate's value in a group; NULL where there is no such group.
-    pub fn worth_at(&self, alloc: Global, group: usize) -> Result<Wide, GroupFault>
-        ensures value { IfOk result (λ w. w ≡ worth_or_null (kept_at self.now group)) }
-        ensures in_range { OnOk result (kept_at self.now group ≡ TooGreat → ⊥) }
-        ensures great { IsErrOf result GroupFault.SumOutOfRange → kept_at self.now group ≡ TooGreat }
+    /// Whether the aggregate is a sum that is too great in a group.
+    #[tactic(auto, using(crate::proofs::Counting::no_count_is_great))]
+    pub fn is_great_at(&self, group: usize) -> bool
+        ensures great { result ≡ true → kept_at self.now group ≡ TooGreat }
+        ensures fits { result ≡ false → kept_at self.now group ≡ TooGreat → ⊥ }
+    {
+        match &self.form {
+            Form::Counts(_) => false,
+            Form::Each(list) => is_great_in(list.as_slice(), group),
+        }
+    }
+
+    /// The aggregate's value in a group; NULL where there is no such group, or where it is a sum that is too great.
+    pub fn worth_at(&self, alloc: Global, group: usize) -> Result<Wide, AllocError>
+        ensures { IfOk result (λ w. w ≡ worth_or_null (kept_at self.now group)) }
     {
         match &self.form {
             Form::Counts(counts) => Ok(count_worth(counts.as_slice(), group)),
@@ -128,10 +137,20 @@ impl Kept {
     }
 }
 
+/// Whether the accumulator of a group is a sum that is too great.
+fn is_great_in(list: &[Accumulator], group: usize) -> bool
+    ensures great { result ≡ true → kept_at list.now group ≡ TooGreat }
+    ensures fits { result ≡ false → kept_at list.now group ≡ TooGreat → ⊥ }
+{
+    match list.get(group) {
+        Some(accumulator) => accumulator.is_great(),
+        None => false,
+    }
+}
+
 /// The count of a group; NULL where there is no such group.
 fn count_worth(counts: &[u64], group: usize) -> Wide
-    ensures value { result ≡ worth_or_null (kept_at (counts_as counts.now) group) }
-    ensures in_range { kept_at (counts_as counts.now) group ≡ TooGreat → ⊥ }
+    ensures { result ≡ worth_or_null (kept_at (counts_as counts.now) group) }
 {
     match counts.get(group) {
         Some(n) => Wide::Int(i128::from(*n)),
@@ -139,14 +158,12 @@ fn count_worth(counts: &[u64], group: usize) -> Wide
     }
 }
 
-/// The value of a group's accumulator; NULL where there is no such group.
-fn worth_in(alloc: Global, list: &[Accumulator], group: usize) -> Result<Wide, GroupFault>
-    ensures value { IfOk result (λ w. w ≡ worth_or_null (kept_at list.now group)) }
-    ensures in_range { OnOk result (kept_at list.now group ≡ TooGreat → ⊥) }
-    ensures great { IsErrOf result GroupFault.SumOutOfRange → kept_at list.now group ≡ TooGreat }
+/// The value of a group's accumulator; NULL where there is no such group, or where it is a sum that is too great.
+fn worth_in(alloc: Global, list: &[Accumulator], group: usize) -> Result<Wide, AllocError>
+    ensures { IfOk result (λ w. w ≡ worth_or_null (kept_at list.now group)) }
 {
     match list.get(group) {
-        Some(accumulator) => accumulator.worth(alloc),
+        Some(accumulator) => accumulator.worth_or_null(alloc),
         None => Ok(Wide::Null),
     }
 }

@@ -1,6 +1,6 @@
 //! Keys that are numbers, or NULL, in the order in which they were met.
 
-ghost use Rattle.std.specs.Prelude.{◌≡◌, ℕ, slice_index_or, Some, get_or, map, position, IfOk, IfNone, OnOk};
+ghost use Rattle.std.specs.Prelude.{◌≡◌, ◌++◌, [], ℕ, slice_index_or, Some, get_or, map, position, IfOk, IfNone, OnOk};
 ghost use Rattle.std.specs.Option.{IfSome};
 ghost use Rattle.block_codec.specs.Held.{number_value};
 ghost use Rattle.col_value.specs.declared.value.Value.TheVariants.{Null};
@@ -164,18 +164,24 @@ fn number_row(alloc: Global, n: i64) -> Result<Row, AllocError>
     Ok(List::new(Vec::from_array(alloc, [number_value(n)])?))
 }
 
-/// The rows of numbers.
-pub fn number_rows(alloc: Global, numbers: &[i64]) -> Result<Vec<Row>, AllocError>
-    ensures { IfOk result (λ v. v.items ≡ map number_key numbers.now) }
+/// Puts the key that the number at a place stands for behind a list.
+pub fn put_number(out: &mut Vec<Value>, numbers: &[i64], place: usize) -> Result<(), AllocError>
+    ensures { OnOk result (out.new.items ≡ out.old.items ++ get_or (map number_key numbers.now) place []) }
 {
-    let mut out = Vec::with_capacity(alloc, numbers.len())?;
-    for n in numbers {
-        out.push(number_row(alloc, *n)?)?;
+    match numbers.get(place) {
+        Some(n) => put_value(out, *n),
+        None => Ok(()),
     }
-    Ok(out)
 }
 
-/// The same, each found by its digest.
+fn put_value(out: &mut Vec<Value>, n: i64) -> Result<(), AllocError>
+    ensures { OnOk result (out.new.items ≡ out.old.items ++ number_key n) }
+{
+    out.push(number_value(n))?;
+    Ok(())
+}
+
+/// The rows of numbers, each found by its digest.
 pub fn rows_of(alloc: Global, numbers: &[i64]) -> Result<KeyTable, AllocError>
     ensures { IfOk result (λ t. t ≡ map number_key numbers.now) }
 {

@@ -8,8 +8,7 @@ use Rattle.col_value.specs.Order.{IsRow, IsValue}
 use Rattle.col_value.specs.declared.value.Value.{Value}
 use Rattle.col_value.specs.declared.value.Value.TheVariants.{Null}
 use Rattle.col_value.specs.declared.wide.Wide.{Wide}
-use Rattle.exec_group.specs.Groups.{AreGroups, HasGreatSum}
-use Rattle.exec_group.specs.declared.groups.Grouped.{Grouped}
+use Rattle.exec_group.specs.Groups.{AreGroups, DoneGroups, HasGreatSum}
 use Rattle.query_laws.proofs.AtMost.{group_fits, group_is_row, members_are_rows}
 use Rattle.query_laws.specs.Scopes.{IsGroupOf, is_shown}
 use Rattle.sql_bound.specs.declared.query.BoundQuery.{BoundQuery}
@@ -31,8 +30,6 @@ next_scope keys aggs i k a h is g are =
     ap₂ scopes_of (drop-cons keys i k h ∙ ap (λ (x : List Value). x ∷ drop (suc i) keys) (sym is)) (drop-cons aggs i a g ∙ ap (λ (x : List Wide). x ∷ drop (suc i) aggs) (sym are))
     ∙ ap (λ (j : ℕ). scope_of k a ∷ scopes_of (drop j keys) (drop j aggs)) (sym (add-one i))
 
-pub scopes_end : (keys : List (List Value)) (aggs : List (List Wide)) (i : ℕ) → length aggs ≤ i → scopes_of (drop i keys) (drop i aggs) ≡ []
-scopes_end keys aggs i past = ap (scopes_of (drop i keys)) (drop_all i aggs past) ∙ none (drop i keys)
   where
     none : (ks : List (List Value)) → scopes_of ks [] ≡ []
     none [] = refl
@@ -112,7 +109,7 @@ same_list : {X : Type 0} (xs : List X) → map (λ x. x) xs ≡ xs
 same_list [] = refl
 same_list {X} (x ∷ xs) = ap (λ (l : List X). x ∷ l) (same_list xs)
 
-module _ (q : BoundQuery) (rows : List (List Value)) (g : Grouped) (are : AreGroups q rows g) where
+module _ (q : BoundQuery) (rows : List (List Value)) (g : DoneGroups) (are : AreGroups q rows g) where
   abbrev aggs_of : List Value → List Wide
   aggs_of group = map (aggregate_over (members q.keys group rows)) q.aggs
 
@@ -154,7 +151,7 @@ module _ (q : BoundQuery) (rows : List (List Value)) (g : Grouped) (are : AreGro
                 | false ↦ omega (arith, at_most p xs)
               ]
 
-pub groups_put_out : (q : BoundQuery) (inputs : List (List (List Value))) (g : Grouped) → q.grouped ≡ true → AreGroups q (kept q inputs) g → shown q (scopes_of g.keys g.aggs) ≡ output q inputs
+pub groups_put_out : (q : BoundQuery) (inputs : List (List (List Value))) (g : DoneGroups) → q.grouped ≡ true → AreGroups q (kept q inputs) g → shown q (scopes_of g.keys g.aggs) ≡ output q inputs
 groups_put_out q inputs g grouped are =
     ap (shown q) (scopes_are q (kept q inputs) g are)
     ∙ ap (λ (t : Bool). map (items_in q) (if t then group_scopes q (kept q inputs) else tuple_scopes q.windows q (kept q inputs))) (sym grouped)

@@ -50,7 +50,7 @@ pub fn output(
         }
         return Ok(rows);
     }
-    match groups.finish(alloc) {
+    match groups.finish() {
         Ok(grouped) => Ok(of_groups(alloc, query, &grouped)?),
         Err(GroupFault::SumOutOfRange) => Err(QueryFault::SumOutOfRange),
         Err(GroupFault::Memory) => Err(QueryFault::Memory),
@@ -70,10 +70,10 @@ fn of_groups(
 {
     let mut out = Vec::new(alloc);
     let mut bar = None;
-    for (i, keys) in groups.keys.as_slice().iter().enumerate() {
-        let Some(aggs) = groups.aggs.as_slice().get(i) else {
-            return Ok(out);
-        };
+    let mut keys = Vec::new(alloc);
+    let mut aggs = Vec::new(alloc);
+    for group in 0..groups.len() {
+        groups.copy_group(alloc, group, &mut keys, &mut aggs)?;
         add_shown(
             alloc,
             query,

@@ -7,10 +7,10 @@ use Rattle.query_order.specs.Enough.{AreFew}
 use Rattle.query_run.specs.Outputs.{IsBar, scopes_of, shown}
 use Rattle.query_run.proofs.output.of_groups.Given as goal
 
-abbrev pub invariant-loop-i : goal.invariant-loop-i
-invariant-loop-i l = record {
-  sofar : SoFar l.query l.out.items (shown l.query (scopes_of (drop l.i l.groups.keys) (drop l.i l.groups.aggs))) (shown l.query (scopes_of l.groups.keys l.groups.aggs));
+abbrev pub invariant-loop-group : goal.invariant-loop-group
+invariant-loop-group l = record {
+  sofar : SoFar l.query l.out.items (shown l.query (scopes_of (drop l.group l.groups.keys) (drop l.group l.groups.aggs))) (shown l.query (scopes_of l.groups.keys l.groups.aggs));
   few : AreFew l.query.limit l.out.items;
   bar : IfSome l.bar (IsBar l.query.order l.query.limit l.out.items);
-  fit : All (IsGroupOf l.query) (scopes_of (drop l.i l.groups.keys) (drop l.i l.groups.aggs));
+  fit : All (IsGroupOf l.query) (scopes_of (drop l.group l.groups.keys) (drop l.group l.groups.aggs));
 }
