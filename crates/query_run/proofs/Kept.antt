@@ -3,8 +3,8 @@ use Rattle.std.proofs.Common.{◌≡◌, ℕ, ◌+◌, ◌<◌, ◌≤◌, ◌++
 use Rattle.std.specs.Prelude.{slice_index_or}
 use Rattle.std.specs.List.{list_all}
 use Rattle.std.proofs.Math.ListN.{get_or-map}
-use Rattle.std.proofs.lemmas.List.{take_all, take_more}
-use Rattle.std.proofs.lemmas.List.Elements.{All-filter}
+use Rattle.std.proofs.lemmas.List.{append-nil, take_all, take_more}
+use Rattle.std.proofs.lemmas.List.Elements.{All-filter, filter-append}
 use Rattle.block_codec.specs.Held.{picked}
 use Rattle.col_value.specs.Order.{IsRow, wide_cmp, wide_kind, widened}
 use Rattle.col_value.specs.declared.value.Value.{Value}
@@ -90,3 +90,23 @@ word_told cmp literal words codes place = sym (told (picked words codes) place) 
     each : (cs : List ℕ) → map f (picked words cs) ≡ map (λ p. get_or (map f words) p false) cs
     each [] = refl
     each (c ∷ cs) = ap₂ (λ (b : Bool) (bs : List Bool). b ∷ bs) (sym (told words c)) (each cs)
+
+-- of the first conditions those that are told, with one more that is, and with one that isn't
+module _ (told : Expr → Bool) (columns : Columns) (keep : List Expr) (k : ℕ) (e : Expr) (places kept : List ℕ) (h : k < length keep) (is : e ≡ get_or keep k e) (before : kept ≡ filter (λ i. is_kept (filter told (take k keep)) (row_of columns i)) places) where
+  with_next : (b : Bool) → told e ≡ b → filter told (take (k + 1) keep) ≡ filter told (take k keep) ++ (if b then e ∷ [] else [])
+  with_next b f =
+      ap (filter told) (take_more keep k e h ∙ ap (λ (x : Expr). take k keep ++ x ∷ []) (sym is)) ∙ filter-append told (take k keep) (e ∷ [])
+      ∙ ap (λ (c : Bool). filter told (take k keep) ++ (if c then e ∷ [] else [])) f
+
+  pub told_more : (next : List ℕ) → told e ≡ true → next ≡ filter (is_true_at columns e) kept → next ≡ filter (λ i. is_kept (filter told (take (k + 1) keep)) (row_of columns i)) places
+  told_more next f more =
+      more ∙ ap (filter (is_true_at columns e)) before
+      ∙ filter_next (λ i. is_kept (filter told (take k keep)) (row_of columns i)) (is_true_at columns e) (λ i. is_kept (filter told (take (k + 1) keep)) (row_of columns i)) places (λ i.
+      ap (λ (es : List Expr). is_kept es (row_of columns i)) (with_next true f) ∙ all_more (λ x. is_true_at columns x i) (filter told (take k keep)) e)
+
+  pub told_not : told e ≡ false → kept ≡ filter (λ i. is_kept (filter told (take (k + 1) keep)) (row_of columns i)) places
+  told_not f = before ∙ ap (λ (es : List Expr). filter (λ i. is_kept es (row_of columns i)) places) (sym (with_next false f ∙ append-nil (filter told (take k keep))))
+
+pub told_done : (told : Expr → Bool) (columns : Columns) (keep : List Expr) (k : ℕ) (places kept : List ℕ) → length keep ≤ k → kept ≡ filter (λ i. is_kept (filter told (take k keep)) (row_of columns i)) places
+    → kept ≡ filter (λ i. is_kept (filter told keep) (row_of columns i)) places
+told_done told columns keep k places kept past is = is ∙ ap (λ (es : List Expr). filter (λ i. is_kept (filter told es) (row_of columns i)) places) (take_all k keep past)

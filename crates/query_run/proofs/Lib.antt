@@ -12,3 +12,5 @@ pub mod Together
 pub mod Lonely
 pub mod Behind
 pub mod Kept
+pub mod Pairs
+pub mod Finding

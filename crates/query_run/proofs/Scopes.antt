@@ -30,11 +30,6 @@ next_scope keys aggs i k a h is g are =
     ap₂ scopes_of (drop-cons keys i k h ∙ ap (λ (x : List Value). x ∷ drop (suc i) keys) (sym is)) (drop-cons aggs i a g ∙ ap (λ (x : List Wide). x ∷ drop (suc i) aggs) (sym are))
     ∙ ap (λ (j : ℕ). scope_of k a ∷ scopes_of (drop j keys) (drop j aggs)) (sym (add-one i))
 
-  where
-    none : (ks : List (List Value)) → scopes_of ks [] ≡ []
-    none [] = refl
-    none (k ∷ ks) = refl
-
 pub keys_end : (keys : List (List Value)) (aggs : List (List Wide)) (i : ℕ) → length keys ≤ i → scopes_of (drop i keys) (drop i aggs) ≡ []
 keys_end keys aggs i past = ap (λ (ks : List (List Value)). scopes_of ks (drop i aggs)) (drop_all i keys past)
 

@@ -1,6 +1,6 @@
 //! Which rows that stand in columns meet the conditions.
 
-ghost use Rattle.std.specs.Prelude.{◌≡◌, ℕ, ◌+◌, ◌<◌, ◌≤◌, ◌++◌, ◌∷◌, [], true, if◌then◌else◌, filter, map, slice_index_or, IfOk, OnOk, vec_len, vec_capacity};
+ghost use Rattle.std.specs.Prelude.{◌≡◌, ℕ, ◌+◌, ◌<◌, ◌≤◌, ◌++◌, ◌∷◌, [], true, if◌then◌else◌, filter, length, map, slice_index_or, IfOk, OnOk, vec_len, vec_capacity};
 ghost use Rattle.std.specs.List.{All};
 ghost use Rattle.std.specs.Option.{IfSome};
 ghost use Rattle.block_codec.specs.Held.{number_value, picked};
@@ -11,19 +11,37 @@ ghost use Rattle.exec_group.specs.Columns.{row_of, AreRowsAt};
 ghost use Rattle.sql_bound.specs.Bounds.{is_narrow};
 ghost use Rattle.sql_bound.specs.Outputs.{is_kept};
 ghost use Rattle.query_run.specs.Outputs.{is_marked};
+ghost use Rattle.query_run.specs.Ready.{is_told};
 ghost use Rattle.sql_bound.specs.Values.{Scope, compared, holds, is_true, of_row, value_of};
 
 use crate::past::numbers_of;
 use block_codec::Block;
 use col_value::{Value, Wide};
 use exec_group::{row_at, worth_at};
+use expr_places::looks_between;
 use expr_value::{Sight, Worth, is_true};
 use sql_bound::Expr;
 use sql_tree::Cmp;
 use std::alloc::{AllocError, Global};
 use std::cmp::Ordering;
 
-/// Whether a comparison of a column with a literal holds in the row at a place; None where it isn't such a one.
+/// Whether a comparison of two columns holds in the row at a place, where no value has to be made for it.
+fn columns_compared_at(
+    i: usize,
+    cmp: Cmp,
+    j: usize,
+    columns: &[Option<Block>],
+    place: usize,
+) -> Option<bool>
+    ensures { IfSome result (λ holds. holds ≡ is_true (compared cmp (widened (slice_index_or (row_of columns.now place) i Null)) (widened (slice_index_or (row_of columns.now place) j Null)))) }
+{
+    match (worth_at(columns, i, place), worth_at(columns, j, place)) {
+        (Some(a), Some(b)) => Some(a.compared(cmp, &b).is_true()),
+        _ => None,
+    }
+}
+
+/// Whether a comparison of a column with a literal or another column holds in the row at a place; None where it isn't such a one.
 fn column_compared_at(
     a: &Expr,
     cmp: Cmp,
@@ -38,11 +56,12 @@ fn column_compared_at(
             Some(worth) => Some(worth.compared(cmp, &Worth::of_wide(value)).is_true()),
             None => None,
         },
+        (Expr::Col(i), Expr::Col(j)) => columns_compared_at(*i, cmp, *j, columns, place),
         _ => None,
     }
 }
 
-/// Whether a condition is true in the row at a place, where it compares a column with a literal.
+/// Whether a condition is true in the row at a place, where it compares a column with a literal or another column.
 fn holds_in(e: &Expr, columns: &[Option<Block>], place: usize) -> Option<bool>
     ensures { IfSome result (λ holds. holds ≡ is_true (value_of (of_row (row_of columns.now place)) e.now)) }
 {
@@ -361,7 +380,6 @@ fn kept_by(
 }
 
 /// The places of the rows in which all conditions are true.
-
 pub fn kept_places(
     alloc: Global,
     keep: &[Expr],
@@ -374,6 +392,27 @@ pub fn kept_places(
 {
     let mut kept = Vec::from_slice(alloc, places)?;
     for e in keep {
+        kept = kept_by(alloc, e, columns, kept.as_slice())?;
+    }
+    Ok(kept)
+}
+
+/// The places of the rows in which all conditions are true that these columns tell.
+pub fn told_places(
+    alloc: Global,
+    keep: &[Expr],
+    columns: &[Option<Block>],
+    places: &[usize],
+) -> Result<Vec<usize>, AllocError>
+    requires narrow { All (λ e. is_narrow [] e ≡ true) keep.now }
+    requires rows { AreRowsAt columns.now places.now }
+    ensures { IfOk result (λ v. v.items ≡ filter (λ i. is_kept (filter (is_told (length columns.now)) keep.now) (row_of columns.now i)) places.now) }
+{
+    let mut kept = Vec::from_slice(alloc, places)?;
+    for e in keep {
+        if !looks_between(e, 0, columns.len()) {
+            continue;
+        }
         kept = kept_by(alloc, e, columns, kept.as_slice())?;
     }
     Ok(kept)

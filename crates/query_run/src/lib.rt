@@ -9,16 +9,21 @@
 //! The tuples of a query with windows are held in the columns that it uses, and the windows' values stand beside them at the end.
 //! A `Run` is the same where the rows of the first FROM item come one by one, and are not held: `HasTaken` in `specs/Runs.antt` says
 //! what came. They may come in columns: where the query has no other item, no row is made of them, and an output row only of those that don't
-//! stand behind the bar by the first key of ORDER BY; where it has, no row is made of one that joins none of the next item's.
+//! stand behind the bar by the first key of ORDER BY. Where each other item is joined by one column of numbers, the tuples are made in columns, too, of the rows' places
+//! (`IsNumbered` in `specs/Joining.antt`); elsewhere no row is made of one that joins none of the next item's.
 #![tactic(auto)]
 
 mod bar;
 mod collected;
+mod columned;
 mod equated;
 mod fault;
 mod filter;
+mod gather;
+mod joining;
 mod lane;
 mod laws;
+mod numbered;
 mod output;
 mod past;
 mod printing;

@@ -1,0 +1,15 @@
+use Rattle.std.proofs.Common.{◌≡◌, List, arith, rules}
+use Rattle.std.specs.Prelude.{slice_index_or}
+use Rattle.col_value.specs.declared.value.Value.{Value}
+use Rattle.col_value.specs.declared.value.Value.TheVariants.{Null}
+use Rattle.query_laws.proofs.Sequences.{all_next}
+use Rattle.query_run.proofs.Finding.{all_seen}
+use Rattle.query_run.proofs.columned.is_null_in.Goals as goal
+
+pub loop-row-preserved : goal.loop-row-preserved
+loop-row-preserved c =
+    let here : slice_index_or c.row-item.result c.args.column Null ≡ Null = search rules in
+    all_next (λ (r : List Value). slice_index_or r c.args.column Null ≡ Null) c.args.rows.now c.loop-row.row-index c.row-item.result c.loop-row-test.true c.row-item.is c.loop-row.invariant here
+
+pub returns : goal.returns
+returns c = λ yes. all_seen (λ (r : List Value). slice_index_or r c.args.column Null ≡ Null) c.args.rows.now c.loop-row.row-index (omega (arith, c.loop-row-test.false)) c.loop-row.invariant
