@@ -10,6 +10,7 @@ mod columns;
 mod marking;
 mod order;
 mod ordering;
+mod packing;
 mod ranks;
 mod refs;
 mod values;

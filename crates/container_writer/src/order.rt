@@ -35,6 +35,14 @@ fn order_on(a: &Row, b: &Row, columns: &[usize]) -> Ordering
     Ordering::Equal
 }
 
+/// Whether a row stands before another in a container, or at its place.
+pub fn have_risen(shape: &Projection, a: &Row, b: &Row) -> bool {
+    match order_on(a, b, shape.sort.as_slice()) {
+        Ordering::Equal => a.order(b).is_le(),
+        order => order.is_lt(),
+    }
+}
+
 /// The order of two rows in a container. It takes no memory.
 pub fn container_order(shape: &Projection, a: &Keyed, b: &Keyed) -> Ordering
     ensures { result ≡ container_cmp shape.now (asked_of a.now) (asked_of b.now) }

@@ -8,32 +8,12 @@ ghost use Rattle.common_laws.specs.Bags.{SameBag};
 ghost use Rattle.ros_container.specs.Rows.{AreWide};
 ghost use Rattle.container_writer.specs.Ordered.{asked_of, container_cmp, restamp, stamped_of};
 
-use crate::order::container_order;
-use crate::ranks::{order_columns, rank_of};
+use crate::order::{container_order, have_risen};
+use crate::packing::{Packed, packed_ranks, packing_of};
 use crate::refs::{Keyed, Ranks, StampedRef};
 use catalog_types::Projection;
-use col_value::Row;
 use std::alloc::{AllocError, Global};
 use std::cmp::Ordering;
-
-/// The rank of a row by the column at a place, if there is one.
-fn rank_at(row: &Row, columns: &[usize], place: usize) -> u64 {
-    match columns.get(place) {
-        Some(column) => match row.as_slice().get(*column) {
-            Some(value) => rank_of(value).at,
-            None => 0,
-        },
-        None => 0,
-    }
-}
-
-fn ranks_of(row: &Row, columns: &[usize]) -> Ranks {
-    Ranks {
-        first: rank_at(row, columns, 0),
-        second: rank_at(row, columns, 1),
-        third: rank_at(row, columns, 2),
-    }
-}
 
 fn by_ranks(a: &Ranks, b: &Ranks) -> Ordering {
     match a.first.cmp(&b.first) {
@@ -45,12 +25,26 @@ fn by_ranks(a: &Ranks, b: &Ranks) -> Ordering {
     }
 }
 
+/// Whether the rows stand in the order of a container as they come.
+fn are_rising(shape: &Projection, rows: &[StampedRef]) -> bool {
+    let mut rest = rows;
+    while let [a, later @ ..] = rest {
+        if let [b, ..] = later {
+            if !have_risen(shape, a.row, b.row) {
+                return false;
+            }
+        }
+        rest = later;
+    }
+    true
+}
+
 /// The rows with their ranks by some columns, where each has so many values.
 fn with_ranks<'a>(
     alloc: Global,
     rows: Vec<StampedRef<'a>>,
     columns: usize,
-    order: &[usize],
+    packing: &[Packed],
 ) -> Result<Vec<Keyed<'a>>, AllocError>
     ensures same { IfOk result (λ v. map restamp v.items ≡ map stamped_of rows.entry.items) }
     ensures wide { IfOk result (λ v. AreWide columns (map asked_of v.items)) }
@@ -60,7 +54,7 @@ fn with_ranks<'a>(
         if stamped.row.as_slice().len() != columns {
             return Err(AllocError);
         }
-        let ranks = ranks_of(stamped.row, order);
+        let ranks = packed_ranks(stamped.row, packing);
         out.push(Keyed { ranks, stamped })?;
     }
     Ok(out)
@@ -95,7 +89,11 @@ pub fn ordered<'a>(
     ensures ascending { IfOk result (λ v. IsSorted (λ a b. container_cmp shape.now (asked_of a) (asked_of b)) v.items) }
 {
     let columns = shape.columns.as_slice().len();
-    let order = order_columns(alloc, shape)?;
-    let near = near_order(with_ranks(alloc, rows, columns, order.as_slice())?)?;
+    let packing = if are_rising(shape, rows.as_slice()) {
+        Vec::new(alloc)
+    } else {
+        packing_of(alloc, shape, rows.as_slice())?
+    };
+    let near = near_order(with_ranks(alloc, rows, columns, packing.as_slice())?)?;
     in_order(shape, near)
 }

@@ -55,7 +55,7 @@ fn column_values(alloc: Global, rows: &[Keyed], column: usize) -> Result<Vec<Val
 {
     let mut out = Vec::with_capacity(alloc, rows.len())?;
     for row in rows {
-        out.push(value_of(alloc, row.stamped.row, column)?)?;
+        out.push_reserved(value_of(alloc, row.stamped.row, column)?);
     }
     Ok(out)
 }
@@ -66,7 +66,7 @@ fn epoch_values(alloc: Global, rows: &[Keyed]) -> Result<Vec<Value>, AllocError>
 {
     let mut out = Vec::with_capacity(alloc, rows.len())?;
     for row in rows {
-        out.push(number_of(row.stamped.ins)?)?;
+        out.push_reserved(number_of(row.stamped.ins)?);
     }
     Ok(out)
 }

@@ -1,4 +1,5 @@
-use Rattle.std.proofs.Common.{◌≡◌, map, take}
+use Rattle.std.proofs.Common.{◌≡◌, ◌+◌, ◌-◌, ◌≤◌, length, map, take}
+use Rattle.std.specs.Vec.{vec_len, vec_capacity}
 use Rattle.std.specs.List.{All}
 use Rattle.col_value.specs.Order.{IsValue}
 use Rattle.ros_container.specs.Rows.{column_values}
@@ -7,6 +8,7 @@ use Rattle.container_writer.proofs.values.column_values.Given as goal
 
 abbrev pub invariant-loop-row : goal.invariant-loop-row
 invariant-loop-row l = record {
+  room : vec_len l.out + (length l.rows - l.row-index) ≤ vec_capacity l.out;
   same : l.out.items ≡ column_values l.column (map asked_of (take l.row-index l.rows));
   values : All IsValue l.out.items;
 }
