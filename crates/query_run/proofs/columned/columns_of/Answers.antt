@@ -1,5 +1,5 @@
 use Rattle.std.proofs.Common.{arith}
-use Rattle.query_run.proofs.Finding.{all_up_to, none_up_to, one_up_to}
+use Rattle.query_run.proofs.Finding.{all_up_to, one_up_to}
 use Rattle.query_run.proofs.columned.columns_of.Goals as goal
 
 pub loop-column-preserved : goal.loop-column-preserved

@@ -1,4 +1,4 @@
-use Rattle.std.proofs.Common.{◌≡◌, true, List, map, subst, sym}
+use Rattle.std.proofs.Common.{◌≡◌, true, map, subst, sym}
 use Rattle.std.specs.List.{All}
 use Rattle.std.specs.Ordering.{is_lt}
 use Rattle.std.specs.Prelude.{IsSomeAnd}
