@@ -51,12 +51,12 @@ fn owned(alloc: Global, cell: Cell) -> Result<Value, AllocError>
     }
 }
 
-/// The value of a row in a column, by its number where it has one.
-fn unlent(alloc: Global, spot: &Spot, column: usize) -> Result<Value, AllocError>
+/// The value of a row in a column, by its word where it lends one.
+fn unnumbered(alloc: Global, spot: &Spot, column: usize) -> Result<Value, AllocError>
     ensures { IfOk result (λ v. v ≡ slice_index_or (asked_on spot.now).row column Null) }
 {
-    match spot.number(column) {
-        Some(n) => Ok(number_value(n)),
+    match spot.lent(column) {
+        Some(value) => value.copy(alloc),
         None => owned(alloc, spot.cell(column)),
     }
 }
@@ -66,9 +66,9 @@ fn value_at(alloc: Global, rows: &Rows, place: usize, column: usize) -> Result<V
     ensures { IfOk result (λ v. v ≡ slice_index_or (asked_at rows.now place).row column Null) }
 {
     let spot = rows.spot(place);
-    match spot.lent(column) {
-        Some(value) => value.copy(alloc),
-        None => unlent(alloc, &spot, column),
+    match spot.number(column) {
+        Some(n) => Ok(number_value(n)),
+        None => unnumbered(alloc, &spot, column),
     }
 }
 
@@ -101,7 +101,7 @@ fn column_values(
     let mut out = Vec::with_capacity(alloc, places.len())?;
     for place in places {
         let value = value_at(alloc, rows, *place, column)?;
-        out.push(fitting(value)?)?;
+        out.push_reserved(fitting(value)?);
     }
     Ok(out)
 }
@@ -112,7 +112,7 @@ fn epoch_values(alloc: Global, rows: &Rows, places: &[usize]) -> Result<Vec<Valu
 {
     let mut out = Vec::with_capacity(alloc, places.len())?;
     for place in places {
-        out.push(fitting(number_of(epoch_at(rows, *place))?)?)?;
+        out.push_reserved(fitting(number_of(epoch_at(rows, *place))?)?);
     }
     Ok(out)
 }
