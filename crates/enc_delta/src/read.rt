@@ -46,7 +46,40 @@ fn lane_of(base: i64, delta: u64) -> Result<i64, Stop>
     }
 }
 
-/// The delta at the front, of three bytes or more as a varint is read.
+/// The delta at the front, of five bytes or more as a varint is read.
+#[tactic(auto, unfolding(col_bytes::specs::Fronts::groups_at))]
+#[inline(always)]
+fn read_five(bytes: &[u8]) -> Result<(u64, &[u8]), Stop>
+    ensures { Gives (λ x. (x.0, x.1.now)) result (vint_at bytes.now) }
+{
+    if let [a, b, c, d, high, rest @ ..] = bytes {
+        if *a >= 128 && *b >= 128 && *c >= 128 && *d >= 128 && *high < 128 && *high > 0 {
+            let upper = u64::from(*d - 128) + 128 * u64::from(*high);
+            let upper = u64::from(*c - 128) + 128 * upper;
+            let upper = u64::from(*b - 128) + 128 * upper;
+            return Ok((u64::from(*a - 128) + 128 * upper, rest));
+        }
+    }
+    read_vint(bytes)
+}
+
+/// The delta at the front, of four bytes or more.
+#[tactic(auto, unfolding(col_bytes::specs::Fronts::groups_at))]
+#[inline(always)]
+fn read_four(bytes: &[u8]) -> Result<(u64, &[u8]), Stop>
+    ensures { Gives (λ x. (x.0, x.1.now)) result (vint_at bytes.now) }
+{
+    if let [a, b, c, high, rest @ ..] = bytes {
+        if *a >= 128 && *b >= 128 && *c >= 128 && *high < 128 && *high > 0 {
+            let upper = u64::from(*c - 128) + 128 * u64::from(*high);
+            let upper = u64::from(*b - 128) + 128 * upper;
+            return Ok((u64::from(*a - 128) + 128 * upper, rest));
+        }
+    }
+    read_five(bytes)
+}
+
+/// The delta at the front, of three bytes or more.
 #[tactic(auto, unfolding(col_bytes::specs::Fronts::groups_at))]
 #[inline(always)]
 fn read_longer(bytes: &[u8]) -> Result<(u64, &[u8]), Stop>
@@ -58,7 +91,7 @@ fn read_longer(bytes: &[u8]) -> Result<(u64, &[u8]), Stop>
             return Ok((u64::from(*low - 128) + 128 * upper, rest));
         }
     }
-    read_vint(bytes)
+    read_four(bytes)
 }
 
 /// The delta at the front. Most take one byte, two or three.
