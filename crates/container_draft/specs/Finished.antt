@@ -1,7 +1,10 @@
 -- The container that a draft became.
-use Rattle.std.specs.Prelude.{ℕ, ◌≡◌, ◌≤◌, ◌+◌, [], length, Option, Some, None, IfSome}
+use Rattle.std.specs.Prelude.{ℕ, List, ◌≡◌, ◌≤◌, ◌+◌, [], length, Option, Some, None, IfSome}
 use Rattle.std.specs.Option.{option_map_or}
+use Rattle.common_laws.specs.Maps.{Contents}
 use Rattle.catalog_types.specs.declared.catalogue.Container.{Container}
+use Rattle.del_vector.specs.declared.mark.Mark.{Mark}
+use Rattle.stored_rows.specs.Held.{HoldsVector}
 use Rattle.container_draft.specs.Draft.{Drafted}
 
 -- It has the rows of the draft and stores so many columns; its files have the draft's numbers, and its delete vector, if it has one,
@@ -19,3 +22,7 @@ pub record IsFinished (columns height next after : ℕ) (d : Drafted) (k : Conta
 abbrev pub AreFinished : ℕ → ℕ → ℕ → ℕ → Drafted → Option Container → Type 0
 AreFinished columns height next after d None = (d.rows ≡ []) × (after ≡ next)
 AreFinished columns height next after d (Some k) = IsFinished columns height next after d k
+
+-- a container has a delete vector on disk
+abbrev pub HasVector : Contents → Container → Type 0
+HasVector m k = (marks : List Mark) × HoldsVector m k marks

@@ -1,6 +1,6 @@
 //! The draft, and its step.
 
-ghost use Rattle.std.specs.Prelude.{◌≡◌, ◌≤◌, ◌<◌, ◌+◌, ◌*◌, ◌^◌, List, length, map, max, Some, IfOk, OnOk, OnErr};
+ghost use Rattle.std.specs.Prelude.{◌≡◌, ◌≤◌, ◌<◌, ◌+◌, ◌*◌, ◌^◌, List, length, map, max, Some, IfOk, IfSome, OnOk, OnErr};
 ghost use Rattle.common_laws.specs.Causes.{HasCause};
 ghost use Rattle.common_laws.specs.Maps.{Contents};
 ghost use Rattle.col_disk.specs.Moved.{Moved, NoName, Named, Either};
@@ -15,7 +15,7 @@ ghost use Rattle.stored_rows.specs.Held.{HoldsRows};
 ghost use Rattle.stored_rows.specs.Listed.{vector_file};
 ghost use Rattle.container_writer.specs.Writing.{listed};
 ghost use Rattle.merge_rows.specs.Places.{asked_of};
-ghost use Rattle.container_draft.specs.Finished.{AreFinished};
+ghost use Rattle.container_draft.specs.Finished.{AreFinished, HasVector};
 ghost use Rattle.container_draft.specs.Placed.{seen, all_at};
 ghost use Rattle.container_draft.specs.Reading.{del_of};
 
@@ -137,6 +137,7 @@ impl Draft {
         requires deletes { length dels.now ≡ length self.now.rows }
         ensures held { IfOk result (λ w. (m n : Contents) → D.holds disk.old ≡ Some m → D.holds disk.new ≡ Some n → IsDraft m (written_of shape.now) self.now → length shape.now.columns < self.now.done → self.now.base + file_count (length shape.now.columns) ≤ next → (rows : List Stamped) → map asked_of rows ≡ self.now.rows → map del_of rows ≡ dels.now → HoldsRows n (written_of shape.now) (listed w.container) rows) }
         ensures numbers { IfOk result (λ w. AreFinished (length shape.now.columns) level next w.next self.now w.container) }
+        ensures vector { IfOk result (λ w. (n : Contents) → D.holds disk.new ≡ Some n → IfSome w.container (HasVector n)) }
         ensures low { IfOk result (λ w. w.next ≤ max next (2 ^ 61)) }
         ensures moved { Moved ⟦<D as Disk>⟧ (Named (vector_file next)) NoName disk.old disk.new }
         ensures cause { HasCause DiskFault.Failed (D.faults disk.old) (D.faults disk.new) result }

@@ -1,6 +1,6 @@
 //! The end of a draft: its entry, and its delete vector.
 
-ghost use Rattle.std.specs.Prelude.{◌≡◌, ◌≤◌, ◌<◌, ◌+◌, ◌*◌, ◌^◌, ℕ, List, length, map, Some, IfOk};
+ghost use Rattle.std.specs.Prelude.{◌≡◌, ◌≤◌, ◌<◌, ◌+◌, ◌*◌, ◌^◌, ℕ, List, length, map, Some, IfOk, IfSome};
 ghost use Rattle.std.specs.List.{All};
 ghost use Rattle.std.specs.Option.{option_map_or};
 ghost use Rattle.common_laws.specs.Causes.{HasCause};
@@ -15,7 +15,7 @@ ghost use Rattle.stored_rows.specs.Listed.{vector_file};
 ghost use Rattle.container_writer.specs.Writing.{listed};
 ghost use Rattle.merge_rows.specs.Places.{asked_of};
 ghost use Rattle.container_draft.specs.Draft.{IsDraft};
-ghost use Rattle.container_draft.specs.Finished.{AreFinished};
+ghost use Rattle.container_draft.specs.Finished.{AreFinished, HasVector};
 ghost use Rattle.container_draft.specs.Placed.{asked_at, all_at, seen};
 ghost use Rattle.container_draft.specs.Reading.{del_of};
 
@@ -102,6 +102,7 @@ pub fn write_end<D: Disk>(
     requires some { 0 < length places.now }
     ensures held { IfOk result (λ w. (done : ℕ) (m n : Contents) → D.holds disk.old ≡ Some m → D.holds disk.new ≡ Some n → IsDraft m (written_of shape.now) (seen rows.now places.now base done) → length shape.now.columns < done → base + file_count (length shape.now.columns) ≤ next → (all : List Stamped) → map asked_of all ≡ all_at rows.now places.now → map del_of all ≡ dels.now → HoldsRows n (written_of shape.now) (listed w.container) all) }
     ensures numbers { IfOk result (λ w. (done : ℕ) → AreFinished (length shape.now.columns) level next w.next (seen rows.now places.now base done) w.container) }
+    ensures vector { IfOk result (λ w. (n : Contents) → D.holds disk.new ≡ Some n → IfSome w.container (HasVector n)) }
     ensures low { IfOk result (λ w. w.next ≤ 2 ^ 61) }
     ensures moved { Moved ⟦<D as Disk>⟧ (Named (vector_file next)) NoName disk.old disk.new }
     ensures cause { HasCause DiskFault.Failed (D.faults disk.old) (D.faults disk.new) result }

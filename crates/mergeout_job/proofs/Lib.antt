@@ -3,3 +3,4 @@ pub mod Growing
 pub mod Installed
 pub mod Picks
 pub mod Put
+pub mod Vectors

@@ -1,6 +1,7 @@
 //! A mergeout, and its calls.
 
 ghost use Rattle.std.specs.Prelude.{◌≡◌, ◌≤◌, ◌<◌, ◌+◌, ◌*◌, ◌^◌, ◌++◌, List, length, map, sum_by, Some, IfOk, IfErr, OnOk, OnErr};
+ghost use Rattle.std.specs.List.{All};
 ghost use Rattle.common_laws.specs.Causes.{HasCause};
 ghost use Rattle.common_laws.specs.Maps.{Contents};
 ghost use Rattle.catalog_types.specs.Numbers.{file_count};
@@ -14,7 +15,7 @@ ghost use Rattle.proj_store.specs.Sound.{IsLoadable};
 ghost use Rattle.container_draft.specs.Draft.{IsDraft, one_more};
 ghost use Rattle.container_draft.specs.Keeping.{dels_at};
 ghost use Rattle.container_draft.specs.Reading.{deletes_in};
-ghost use Rattle.moveout_job.specs.OnDisk.{IsListedBelow};
+ghost use Rattle.moveout_job.specs.OnDisk.{IsKeptOrHasVector, IsListedBelow};
 ghost use Rattle.mergeout_job.specs.Job.{Mergeout};
 ghost use Rattle.mergeout_job.specs.Merged.{with_containers, IsMerged};
 ghost use Rattle.mergeout_job.specs.Oldest.{AreFour, HasFour, oldest};
@@ -208,6 +209,7 @@ impl MergeJob {
         requires numbers { self.now.draft.base + file_count (length p.now.stored.entry.columns) ≤ next }
         ensures entry { IfOk result (λ r. IsMerged next r.next self.now p.now.stored.entry r.entry) }
         ensures keeps { IfOk result (λ r. (m n : Contents) → D.holds disk.old ≡ Some m → D.holds disk.new ≡ Some n → IsListedBelow next p.now.stored.entry → IsMerging m p.now.stored self.now.merge → IsDraft m (written_of p.now.stored.entry) self.now.draft → length p.now.stored.entry.columns < self.now.draft.done → KeepsFrom self.now.merge.mark m n p.now.stored r.entry) }
+        ensures vectors { IfOk result (λ r. (n : Contents) → D.holds disk.new ≡ Some n → All (IsKeptOrHasVector r.next n p.now.stored.entry.containers) r.entry.containers) }
         ensures count { IfOk result (λ r. length r.entry.containers + 2 ≤ length p.now.stored.entry.containers) }
         ensures levels { IfOk result (λ r. sum_by (λ k. 4 ^ k.level) p.now.stored.entry.containers ≤ p.now.stored.entry.born → sum_by (λ k. 4 ^ k.level) r.entry.containers ≤ r.entry.born) }
         ensures below { IfOk result (λ r. IsListedBelow next p.now.stored.entry → IsListedBelow r.next r.entry) }

@@ -47,8 +47,8 @@ vector_low next mid k j is low = by is.marks
     of None drawn = tt
     of (Some n) drawn = drawn.low
 
-    by : (j.marks ≡ k.marks) ⊎ IfSome j.marks (IsNewNumber next mid) → HasVectorNumber j
-    by (inl same) = subst (λ (o : Option ℕ). IfSome o (λ n. n < 2 ^ 62)) (sym same) low
+    by : ((j.marks ≡ k.marks) × (j.greatest_mark ≡ k.greatest_mark)) ⊎ IfSome j.marks (IsNewNumber next mid) → HasVectorNumber j
+    by (inl (same, greatest)) = subst (λ (o : Option ℕ). IfSome o (λ n. n < 2 ^ 62)) (sym same) low
     by (inr drawn) = of j.marks drawn
 
 pub files_low : (columns : List ProjColumn) (next mid : ℕ) (k j : Container) → IsRemarked next mid k j → IsReadable columns k → IsReadable columns j
@@ -107,8 +107,8 @@ remarked_below next mid k j le is low = record { files = let same = is.base in l
     of None drawn = tt
     of (Some n) drawn = drawn.upto
 
-    by : (j.marks ≡ k.marks) ⊎ IfSome j.marks (IsNewNumber next mid) → IfSome j.marks (λ n. n < mid)
-    by (inl same) = subst (λ (o : Option ℕ). IfSome o (λ n. n < mid)) (sym same) (up k.marks low.vector)
+    by : ((j.marks ≡ k.marks) × (j.greatest_mark ≡ k.greatest_mark)) ⊎ IfSome j.marks (IsNewNumber next mid) → IfSome j.marks (λ n. n < mid)
+    by (inl (same, greatest)) = subst (λ (o : Option ℕ). IfSome o (λ n. n < mid)) (sym same) (up k.marks low.vector)
     by (inr drawn) = of j.marks drawn
 
 made_below : (columns mid after : ℕ) (k : Container) → IsNumbered columns mid after k → IsBelow after k

@@ -2,3 +2,4 @@ pub mod Joined
 pub mod Renewed
 pub mod Assembled
 pub mod Remaining
+pub mod Vectors

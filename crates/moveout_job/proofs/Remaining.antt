@@ -1,6 +1,6 @@
 -- Containers that aren't left out, one after the other.
 use Rattle.std.proofs.Common.{◌≡◌, ◌+◌, ◌<◌, ◌≤◌, ◌++◌, not, cond, ℕ, zero, suc, Bool, true, false, List, [], ◌∷◌, length, take, get_or, refl, sym, ◌∙◌, ap, ap₂, subst, arith}
-use Rattle.std.specs.Prelude.{Option, Some, IsSomeAnd, slice_index_or}
+use Rattle.std.specs.Prelude.{Option, IsSomeAnd, slice_index_or}
 use Rattle.std.specs.List.{AllZip, slice_get}
 use Rattle.std.proofs.lemmas.List.{append-nil, take_more, take_all, length-take-le}
 use Rattle.std.proofs.lemmas.Slice.Zip.{AllZip-long}
@@ -14,7 +14,7 @@ use Rattle.stored_rows.specs.Stored.{Beside, Projected}
 use Rattle.proj_store.specs.Sound.{MarksItsRows, IsSound}
 use Rattle.container_writer.specs.Writing.{DataFrom}
 use Rattle.merge_rows.specs.Inputs.{others}
-use Rattle.moveout_job.specs.OnDisk.{IsRemarked, Remarks, RemarksIf, RemarksEach, SavesOthers, beside}
+use Rattle.moveout_job.specs.OnDisk.{IsRemarked, RemarksIf, RemarksEach, SavesOthers, beside}
 use Rattle.moveout_job.proofs.Renewed.{each_none, each_more, at_slice, between, rows_below}
 
 abbrev one_if : {X : Type 0} → Bool → X → List X

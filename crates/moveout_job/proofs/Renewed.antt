@@ -94,7 +94,7 @@ other_vector : (n : Contents) (es : List Written) (number : ℕ) (marks : List M
 other_vector n es number marks k j rows is held =
     subst (λ (x : Container). HoldsContainer n es x rows) (sym is) (record { each = held.each; defaults = held.defaults; epochs = held.epochs; wide = held.wide; within = held.within })
 
-number_below : (next : ℕ) (marks : List Mark) → IfSome (vector_number next marks) (λ n. n < next + 1)
+pub number_below : (next : ℕ) (marks : List Mark) → IfSome (vector_number next marks) (λ n. n < next + 1)
 number_below next [] = tt
 number_below next (e ∷ marks) = omega arith
 
@@ -118,7 +118,7 @@ marked_anew disk {old} {new} next k j held fresh marks epochs is vector moved m 
     )
 
 pub same_entry : (next : ℕ) (k : Container) → IsRemarked next next k k
-same_entry next k = record { base = refl; rows = refl; level = refl; stored = refl; marks = inl refl }
+same_entry next k = record { base = refl; rows = refl; level = refl; stored = refl; marks = inl (refl, refl) }
 
 pub new_entry : (next : ℕ) (k j : Container) (marks : List Mark) → next < 2 ^ 61 → j ≡ with_vector next marks k → IsRemarked next (next + 1) k j
 new_entry next k j marks low is = subst (IsRemarked next (next + 1) k) (sym is) (record { base = refl; rows = refl; level = refl; stored = refl; marks = inr (number_drawn next marks low) })
@@ -200,7 +200,7 @@ zip_weaker R S f [] (b ∷ ys) all = absurd all
 zip_weaker R S f (a ∷ xs) [] all = absurd all
 zip_weaker R S f (a ∷ xs) (b ∷ ys) all = (f a b all.0, zip_weaker R S f xs ys all.1)
 
-drawn_wider : (next after low end n : ℕ) → low ≤ next → after ≤ end → IsNewNumber next after n → IsNewNumber low end n
+pub drawn_wider : (next after low end n : ℕ) → low ≤ next → after ≤ end → IsNewNumber next after n → IsNewNumber low end n
 drawn_wider next after low end n le lt is = record { from = let from = is.from in omega (arith, from, le); upto = let upto = is.upto in omega (arith, upto, lt); low = is.low }
 
 pub remarked_wider : (next after low end : ℕ) (k j : Container) → low ≤ next → after ≤ end → IsRemarked next after k j → IsRemarked low end k j
@@ -210,7 +210,7 @@ remarked_wider next after low end k j le lt is = record { base = is.base; rows =
     of None drawn = tt
     of (Some n) drawn = drawn_wider next after low end n le lt drawn
 
-    by : (j.marks ≡ k.marks) ⊎ IfSome j.marks (IsNewNumber next after) → (j.marks ≡ k.marks) ⊎ IfSome j.marks (IsNewNumber low end)
+    by : ((j.marks ≡ k.marks) × (j.greatest_mark ≡ k.greatest_mark)) ⊎ IfSome j.marks (IsNewNumber next after) → ((j.marks ≡ k.marks) × (j.greatest_mark ≡ k.greatest_mark)) ⊎ IfSome j.marks (IsNewNumber low end)
     by (inl same) = inl same
     by (inr drawn) = inr (of j.marks drawn)
 

@@ -1,5 +1,5 @@
 -- A projection all of whose rows and marks are on disk.
-use Rattle.std.specs.Prelude.{ℕ, ◌≡◌, ◌⊎◌, ◌≤◌, ◌<◌, ◌+◌, ◌^◌, ◌++◌, Bool, true, false, List, length, Option, Some, IfSome}
+use Rattle.std.specs.Prelude.{ℕ, ◌≡◌, ◌⊎◌, ◌≤◌, ◌<◌, ◌+◌, ◌^◌, ◌++◌, Bool, true, false, List, length, Contains, Option, Some, IfSome}
 use Rattle.std.specs.List.{All, AllZip}
 use Rattle.common_laws.specs.Bags.{SameBag}
 use Rattle.common_laws.specs.Maps.{Contents}
@@ -35,7 +35,7 @@ pub record IsRemarked (next after : ℕ) (old new : Container) : Type 0 where
   pub rows : new.rows ≡ old.rows
   pub level : new.level ≡ old.level
   pub stored : new.stored ≡ old.stored
-  pub marks : (new.marks ≡ old.marks) ⊎ IfSome new.marks (IsNewNumber next after)
+  pub marks : ((new.marks ≡ old.marks) × (new.greatest_mark ≡ old.greatest_mark)) ⊎ IfSome new.marks (IsNewNumber next after)
 
 -- the entry with these containers and one more behind them, if one was made, which has all rows up to an epoch
 abbrev pub moved_to : ℕ → List Container → Option Container → Projection → Projection
@@ -74,6 +74,25 @@ abbrev pub RemarksEach : List Written → ℕ → ℕ → List Container → Lis
 RemarksEach written next after ks bs js found left =
     (m : Contents) (rows : List Stamped) → found ≡ Some m → All (IsBelow next) ks → StoresRows m written ks bs rows
     → (n : Contents) × (left ≡ Some n) × AreHeld n written after js rows
+
+-- a container has its delete vector on disk, of a number below this one
+pub record HasVectorBelow (after : ℕ) (n : Contents) (k : Container) : Type 0 where
+  pub marks : List Mark
+  pub held : HoldsVector n k marks
+  pub low : IfSome k.marks (λ v. v < after)
+
+-- a container is the one before it, or has its delete vector on disk
+abbrev pub KeepsOrHasVector : ℕ → Contents → Container → Container → Type 0
+KeepsOrHasVector after n old new = (new ≡ old) ⊎ HasVectorBelow after n new
+
+-- a container is one of these, or has its delete vector on disk
+abbrev pub IsKeptOrHasVector : ℕ → Contents → List Container → Container → Type 0
+IsKeptOrHasVector after n olds k = Contains olds k ⊎ HasVectorBelow after n k
+
+-- so it is of each of some containers, and of one more, if one was made
+pub record HaveVectors (after : ℕ) (n : Contents) (olds news : List Container) (made : Option Container) : Type 0 where
+  pub each : All (IsKeptOrHasVector after n olds) news
+  pub last : IfSome made (HasVectorBelow after n)
 
 -- what a projection stored, its new entry holds, in some order
 abbrev pub KeepsStored : ℕ → Projected → Projection → Option Contents → Option Contents → Type 0

@@ -1,13 +1,15 @@
 //! The move.
 
-ghost use Rattle.std.specs.Prelude.{◌≡◌, ◌≤◌, ◌+◌, ◌*◌, map, length, IfOk};
+ghost use Rattle.std.specs.Prelude.{◌≡◌, ◌≤◌, ◌+◌, ◌*◌, map, length, Some, IfOk};
+ghost use Rattle.std.specs.List.{All};
 ghost use Rattle.common_laws.specs.Causes.{HasCause};
+ghost use Rattle.common_laws.specs.Maps.{Contents};
 ghost use Rattle.col_disk.specs.Moved.{Moved, NoName};
 ghost use Rattle.proj_store.specs.Sound.{IsLoadable};
 ghost use Rattle.write_store.specs.Memory.{stamp};
 ghost use Rattle.container_writer.specs.Ordered.{stamped_of};
 ghost use Rattle.container_writer.specs.Writing.{DataFrom};
-ghost use Rattle.moveout_job.specs.OnDisk.{IsMovedOut, IsListedBelow, KeepsStored};
+ghost use Rattle.moveout_job.specs.OnDisk.{IsKeptOrHasVector, IsMovedOut, IsListedBelow, KeepsStored};
 
 use crate::entry::moved_entry;
 use crate::remarking::mark_each;
@@ -51,6 +53,7 @@ pub fn moveout<D: Disk>(
 ) -> Result<MovedOut, DiskFault>
     ensures entry { IfOk result (λ r. IsMovedOut last next r.next p.now.stored.entry r.entry) }
     ensures held { IfOk result (λ r. KeepsStored next p.now.stored r.entry (D.holds disk.old) (D.holds disk.new)) }
+    ensures vectors { IfOk result (λ r. (n : Contents) → D.holds disk.new ≡ Some n → All (IsKeptOrHasVector r.next n p.now.stored.entry.containers) r.entry.containers) }
     ensures below { IfOk result (λ r. IsListedBelow next p.now.stored.entry → IsListedBelow r.next r.entry) }
     ensures upto { IfOk result (λ r. r.next ≤ next + 2 * (length p.now.stored.entry.columns + 1) + 1 + length p.now.stored.entry.containers) }
     ensures count { IfOk result (λ r. length r.entry.containers ≤ length p.now.stored.entry.containers + 1) }

@@ -8,7 +8,7 @@ ghost use Rattle.col_disk.specs.Moved.{Moved, NoName};
 ghost use Rattle.ros_container.specs.Encodings.{written_of};
 ghost use Rattle.container_writer.specs.Writing.{listed, DataFrom, HoldsBag};
 ghost use Rattle.merge_rows.specs.Inputs.{others};
-ghost use Rattle.moveout_job.specs.OnDisk.{AreSaved, IsRemarked, RemarksIf, RemarksEach, SavesOthers, beside};
+ghost use Rattle.moveout_job.specs.OnDisk.{AreSaved, HaveVectors, IsRemarked, KeepsOrHasVector, RemarksIf, RemarksEach, SavesOthers, beside};
 
 use crate::job::refs;
 use crate::remarking::{AllRemarked, Remarked, add, mark_one};
@@ -41,6 +41,7 @@ fn mark_if<D: Disk>(
 ) -> Result<Remarked, DiskFault>
     ensures held { IfOk result (λ r. RemarksIf left_out next r.next container.now (beside held.now fresh.now) r.entry (D.holds disk.old) (D.holds disk.new)) }
     ensures entry { IfOk result (λ r. IsRemarked next r.next container.now r.entry) }
+    ensures vector { IfOk result (λ r. (n : Contents) → D.holds disk.new ≡ Some n → KeepsOrHasVector r.next n container.now r.entry) }
     ensures next { IfOk result (λ r. next ≤ r.next) }
     ensures upto { IfOk result (λ r. r.next ≤ next + 1) }
     ensures moved { Moved ⟦<D as Disk>⟧ (DataFrom next) NoName disk.old disk.new }
@@ -66,6 +67,7 @@ pub fn mark_others<D: Disk>(
 ) -> Result<AllRemarked, DiskFault>
     ensures held { IfOk result (λ r. RemarksEach (written_of p.now.stored.entry) next r.next (others left_out.now p.now.stored.entry.containers) (others left_out.now p.now.stored.beside) (others left_out.now r.containers.items) (D.holds disk.old) (D.holds disk.new)) }
     ensures each { IfOk result (λ r. AllZip (IsRemarked next r.next) p.now.stored.entry.containers r.containers.items) }
+    ensures vectors { IfOk result (λ r. (n : Contents) → D.holds disk.new ≡ Some n → AllZip (KeepsOrHasVector r.next n) p.now.stored.entry.containers r.containers.items) }
     ensures next { IfOk result (λ r. next ≤ r.next) }
     ensures upto { IfOk result (λ r. r.next ≤ next + length p.now.stored.entry.containers) }
     ensures moved { Moved ⟦<D as Disk>⟧ (DataFrom next) NoName disk.old disk.new }
@@ -114,6 +116,7 @@ pub fn save_memory<D: Disk>(
 ) -> Result<Saved, DiskFault>
     ensures others { IfOk result (λ r. SavesOthers next left_out.now p.now.stored r.containers.items (D.holds disk.old) (D.holds disk.new)) }
     ensures memory { IfOk result (λ r. (n : Contents) → D.holds disk.new ≡ Some n → HoldsBag n (written_of p.now.stored.entry) (listed r.memory) p.now.stored.unsaved) }
+    ensures vectors { IfOk result (λ r. (n : Contents) → D.holds disk.new ≡ Some n → HaveVectors r.next n p.now.stored.entry.containers r.containers.items r.memory) }
     ensures saved { IfOk result (λ r. AreSaved next r.next (length p.now.stored.entry.columns) p.now.stored.entry.containers r.containers.items r.memory) }
     ensures upto { IfOk result (λ r. r.next ≤ next + 2 * (length p.now.stored.entry.columns + 1) + 1 + length p.now.stored.entry.containers) }
     ensures moved { Moved ⟦<D as Disk>⟧ (DataFrom next) NoName disk.old disk.new }

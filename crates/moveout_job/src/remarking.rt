@@ -1,12 +1,13 @@
 //! The containers of a projection, each with a delete vector that has all its marks.
 
-ghost use Rattle.std.specs.Prelude.{◌≡◌, ◌≤◌, ◌+◌, ◌++◌, [], ◌∷◌, length, IfOk, OnOk};
+ghost use Rattle.std.specs.Prelude.{◌≡◌, ◌≤◌, ◌+◌, ◌++◌, [], ◌∷◌, length, Some, IfOk, OnOk};
 ghost use Rattle.std.specs.List.{AllZip};
 ghost use Rattle.common_laws.specs.Causes.{HasCause};
+ghost use Rattle.common_laws.specs.Maps.{Contents};
 ghost use Rattle.col_disk.specs.Moved.{Moved, NoName};
 ghost use Rattle.ros_container.specs.Encodings.{written_of};
 ghost use Rattle.container_writer.specs.Writing.{DataFrom};
-ghost use Rattle.moveout_job.specs.OnDisk.{IsRemarked, Remarks, RemarksEach, beside};
+ghost use Rattle.moveout_job.specs.OnDisk.{IsRemarked, KeepsOrHasVector, Remarks, RemarksEach, beside};
 
 use crate::marks::vector_with;
 use catalog_types::Container;
@@ -37,6 +38,7 @@ pub fn mark_one<D: Disk>(
 ) -> Result<Remarked, DiskFault>
     ensures held { IfOk result (λ r. Remarks next r.next container.now (beside held.now fresh.now) r.entry (D.holds disk.old) (D.holds disk.new)) }
     ensures entry { IfOk result (λ r. IsRemarked next r.next container.now r.entry) }
+    ensures vector { IfOk result (λ r. (n : Contents) → D.holds disk.new ≡ Some n → KeepsOrHasVector r.next n container.now r.entry) }
     ensures next { IfOk result (λ r. next ≤ r.next) }
     ensures upto { IfOk result (λ r. r.next ≤ next + 1) }
     ensures moved { Moved ⟦<D as Disk>⟧ (DataFrom next) NoName disk.old disk.new }
@@ -87,6 +89,7 @@ pub fn mark_each<D: Disk>(
 ) -> Result<AllRemarked, DiskFault>
     ensures held { IfOk result (λ r. RemarksEach (written_of p.now.stored.entry) next r.next p.now.stored.entry.containers p.now.stored.beside r.containers.items (D.holds disk.old) (D.holds disk.new)) }
     ensures each { IfOk result (λ r. AllZip (IsRemarked next r.next) p.now.stored.entry.containers r.containers.items) }
+    ensures vectors { IfOk result (λ r. (n : Contents) → D.holds disk.new ≡ Some n → AllZip (KeepsOrHasVector r.next n) p.now.stored.entry.containers r.containers.items) }
     ensures next { IfOk result (λ r. next ≤ r.next) }
     ensures upto { IfOk result (λ r. r.next ≤ next + length p.now.stored.entry.containers) }
     ensures moved { Moved ⟦<D as Disk>⟧ (DataFrom next) NoName disk.old disk.new }

@@ -3,3 +3,4 @@ pub mod Anew
 pub mod Turns
 pub mod Assembled
 pub mod Late
+pub mod Vectors

@@ -108,7 +108,7 @@ numbers_more i width next after end was here = let more : (i + 1) * width ≡ i 
 
 -- ---- which file is to blame
 
-cut_below : (next : ℕ) (p : Projection) → IsLoadable p → IsListedBelow next p → cut.IsListedBelow next p
+pub cut_below : (next : ℕ) (p : Projection) → IsLoadable p → IsListedBelow next p → cut.IsListedBelow next p
 cut_below next p loadable below = by p.containers loadable.files below
   where
     by : (ks : List Container) → All (IsReadable p.columns) ks → All (IsBelow next) ks → All (cut.IsBelow next p.columns) ks

@@ -1,12 +1,13 @@
 //! The containers of a projection, one after the other.
 
-ghost use Rattle.std.specs.Prelude.{◌≡◌, ◌≤◌, ◌+◌, ◌*◌, ◌++◌, length, IfOk, IfErr, OnOk};
+ghost use Rattle.std.specs.Prelude.{◌≡◌, ◌≤◌, ◌+◌, ◌*◌, ◌++◌, length, Some, IfOk, IfErr, OnOk};
 ghost use Rattle.std.specs.List.{All};
 ghost use Rattle.common_laws.specs.Causes.{HasCause};
+ghost use Rattle.common_laws.specs.Maps.{Contents};
 ghost use Rattle.col_disk.specs.Moved.{Moved, NoName};
 ghost use Rattle.container_cut.specs.Blamed.{BlamesProjection};
 ghost use Rattle.container_writer.specs.Writing.{listed, DataFrom};
-ghost use Rattle.moveout_job.specs.OnDisk.{IsListedBelow};
+ghost use Rattle.moveout_job.specs.OnDisk.{IsKeptOrHasVector, IsListedBelow};
 ghost use Rattle.ros_container.specs.Encodings.{written_of};
 ghost use Rattle.purge_job.specs.Purging.{CanLoad, PurgesEach};
 
@@ -43,6 +44,7 @@ pub fn purge_each<D: Disk>(
 ) -> Result<AllPurged, StoreFault>
     ensures purged { IfOk result (λ r. PurgesEach mark (written_of p.now.stored.entry) next r.next p.now.stored.entry.containers p.now.stored.beside r.containers.items (D.holds disk.old) (D.holds disk.new)) }
     ensures loads { IfOk result (λ r. All (CanLoad p.now.stored.entry.columns) r.containers.items) }
+    ensures vectors { IfOk result (λ r. (n : Contents) → D.holds disk.new ≡ Some n → All (IsKeptOrHasVector r.next n p.now.stored.entry.containers) r.containers.items) }
     ensures fewer { IfOk result (λ r. length r.containers.items ≤ length p.now.stored.entry.containers) }
     ensures next { IfOk result (λ r. next ≤ r.next) }
     ensures upto { IfOk result (λ r. r.next ≤ next + length p.now.stored.entry.containers * (2 * length p.now.stored.entry.columns + 3)) }

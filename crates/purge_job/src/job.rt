@@ -8,6 +8,7 @@ ghost use Rattle.container_cut.specs.Blamed.{BlamesProjection};
 ghost use Rattle.container_writer.specs.Writing.{DataFrom};
 ghost use Rattle.merge_rows.specs.Inputs.{KeepsFrom};
 ghost use Rattle.moveout_job.specs.OnDisk.{IsListedBelow};
+ghost use Rattle.proj_store.specs.Reading.{BlamesLoad};
 ghost use Rattle.proj_store.specs.Sound.{IsLoadable};
 ghost use Rattle.purge_job.specs.Purging.{IsPurged, Purges};
 
@@ -47,6 +48,7 @@ pub fn purge_one<D: Disk>(
     ensures later { IfOk result (λ r. p.now.stored.entry.lge ≤ r.entry.lge) }
     ensures loadable { IfOk result (λ r. IsLoadable r.entry) }
     ensures blamed { IfErr result (λ fault. IsListedBelow next p.now.stored.entry → BlamesProjection p.now.stored.entry (D.holds disk.old) fault) }
+    ensures loads { IfOk result (λ r. IsListedBelow next p.now.stored.entry → (fault : StoreFault) → BlamesLoad r.entry.containers (D.holds disk.new) fault → BlamesProjection p.now.stored.entry (D.holds disk.old) fault) }
     ensures moved { Moved ⟦<D as Disk>⟧ (DataFrom next) NoName disk.old disk.new }
     ensures cause { HasCause StoreFault.Disk (D.faults disk.old) (D.faults disk.new) result }
 {

@@ -8,7 +8,7 @@ ghost use Rattle.col_disk.specs.Moved.{Moved, NoName};
 ghost use Rattle.container_writer.specs.Writing.{listed, DataFrom};
 ghost use Rattle.container_cut.specs.Blamed.{BlamesOne};
 ghost use Rattle.container_cut.specs.Fronts.{front_of};
-ghost use Rattle.moveout_job.specs.OnDisk.{beside};
+ghost use Rattle.moveout_job.specs.OnDisk.{beside, KeepsOrHasVector};
 ghost use Rattle.proj_store.specs.Sound.{HasVectorNumber};
 ghost use Rattle.ros_container.specs.Encodings.{written_of};
 ghost use Rattle.ros_container.specs.Readable.{IsReadable};
@@ -103,6 +103,7 @@ fn rewrite<D: Disk>(
     requires fresh { All (λ e. e.position < container.now.rows) fresh.now }
     ensures purged { IfOk result (λ w. PurgesOne mark (written_of shape.now) next w.next container.now (beside held.now fresh.now) (listed w.container) (D.holds disk.old) (D.holds disk.new)) }
     ensures loads { IfOk result (λ w. All (CanLoad shape.now.columns) (listed w.container)) }
+    ensures vector { IfOk result (λ w. (n : Contents) → D.holds disk.new ≡ Some n → All (KeepsOrHasVector w.next n container.now) (listed w.container)) }
     ensures level { IfOk result (λ w. All (λ k. k.level ≡ container.now.level) (listed w.container)) }
     ensures next { IfOk result (λ w. next ≤ w.next) }
     ensures upto { IfOk result (λ w. w.next ≤ next + 2 * (length shape.now.columns + 1) + 1) }
@@ -146,6 +147,7 @@ fn remark<D: Disk>(
     requires fresh { All (λ e. mark < e.epoch) fresh.now }
     ensures purged { IfOk result (λ w. PurgesOne mark (written_of shape.now) next w.next container.now (beside held.now fresh.now) (listed w.container) (D.holds disk.old) (D.holds disk.new)) }
     ensures loads { IfOk result (λ w. All (CanLoad shape.now.columns) (listed w.container)) }
+    ensures vector { IfOk result (λ w. (n : Contents) → D.holds disk.new ≡ Some n → All (KeepsOrHasVector w.next n container.now) (listed w.container)) }
     ensures level { IfOk result (λ w. All (λ k. k.level ≡ container.now.level) (listed w.container)) }
     ensures next { IfOk result (λ w. next ≤ w.next) }
     ensures upto { IfOk result (λ w. w.next ≤ next + 1) }
@@ -180,6 +182,7 @@ pub fn purge_container<D: Disk>(
     requires fresh { All (λ e. e.position < container.now.rows) fresh.now }
     ensures purged { IfOk result (λ w. PurgesOne mark (written_of shape.now) next w.next container.now (beside held.now fresh.now) (listed w.container) (D.holds disk.old) (D.holds disk.new)) }
     ensures loads { IfOk result (λ w. All (CanLoad shape.now.columns) (listed w.container)) }
+    ensures vector { IfOk result (λ w. (n : Contents) → D.holds disk.new ≡ Some n → All (KeepsOrHasVector w.next n container.now) (listed w.container)) }
     ensures level { IfOk result (λ w. All (λ k. k.level ≡ container.now.level) (listed w.container)) }
     ensures next { IfOk result (λ w. next ≤ w.next) }
     ensures upto { IfOk result (λ w. w.next ≤ next + 2 * (length shape.now.columns + 1) + 1) }

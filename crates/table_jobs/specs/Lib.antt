@@ -1,3 +1,4 @@
 pub mod Jobs
+pub mod Blamed
 pub use Rattle.mergeout_job.specs.Oldest
 pub mod Sources

@@ -9,8 +9,9 @@ ghost use Rattle.col_disk.specs.declared.disk.StoreFault.TheVariants.{Memory as 
 ghost use Rattle.ros_container.specs.Encodings.{written_of};
 ghost use Rattle.container_writer.specs.Writing.{DataFrom};
 ghost use Rattle.merge_rows.specs.Inputs.{KeepsFrom};
-ghost use Rattle.proj_store.specs.Reading.{BlamesRows, HasVectors};
+ghost use Rattle.proj_store.specs.Reading.{BlamesLoad, BlamesRows, HasVectors};
 ghost use Rattle.proj_store.specs.Sound.{IsLoadable};
+ghost use Rattle.container_cut.specs.Blamed.{BlamesProjection};
 ghost use Rattle.container_draft.specs.Draft.{IsDraft};
 ghost use Rattle.moveout_job.specs.OnDisk.{IsListedBelow};
 ghost use Rattle.mergeout_job.specs.Oldest.{HasFour};
@@ -18,6 +19,7 @@ ghost use Rattle.db_model.specs.Database.{Database};
 ghost use Rattle.store_commit.specs.Seen.{Stands};
 ghost use Rattle.table_store.specs.Installing.{IsRenewal};
 ghost use Rattle.table_store.specs.Moving.{IsFreshAt};
+ghost use Rattle.table_jobs.specs.Blamed.{BlamesMerge};
 ghost use Rattle.table_jobs.specs.Jobs.{DrawsMerged, MakesRise, OfProjection};
 
 use col_disk::{Disk, DiskFault, StoreFault};
@@ -74,6 +76,7 @@ fn merge_out<D: Disk>(
     ensures later { IfOk result (λ r. p.now.stored.entry.lge ≤ r.entry.lge) }
     ensures loadable { IfOk result (λ r. IsLoadable r.entry) }
     ensures blamed { IfErr result (BlamesRows p.now.stored.entry (D.holds disk.old)) }
+    ensures loads { IfOk result (λ r. IsListedBelow next p.now.stored.entry → (fault : StoreFault) → BlamesLoad r.entry.containers (D.holds disk.new) fault → BlamesProjection p.now.stored.entry (D.holds disk.old) fault) }
     ensures moved { Moved ⟦<D as Disk>⟧ (DataFrom next) NoName disk.old disk.new }
     ensures cause { HasCause StoreFault.Disk (D.faults disk.old) (D.faults disk.new) result }
 {
@@ -110,6 +113,7 @@ pub fn merge<D: Disk>(
     ensures made { (d : Database) → Stands ⟦<D as Disk>⟧ store.old disk.old d → MakesRise ⟦<D as Disk>⟧ no_memory store.old store.new disk.old disk.new result d table place }
     ensures drawn { OnOk result (OfProjection table place store.old.catalogue (DrawsMerged table place store.old.catalogue store.new.catalogue)) }
     ensures unblamed { IfErr result (λ fault. (d : Database) → Stands ⟦<D as Disk>⟧ store.old disk.old d → IsUnblamed fault) }
+    ensures blamed { IfErr result (λ fault. OfProjection table place store.old.catalogue (BlamesMerge (D.holds disk.old) fault)) }
     ensures same { OnErr result (store.new ≡ store.old) }
     ensures cause { HasCause StoreFault.Disk (D.faults disk.old) (D.faults disk.new) result }
 {

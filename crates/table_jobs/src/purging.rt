@@ -7,6 +7,7 @@ ghost use Rattle.col_disk.specs.declared.disk.StoreFault.TheVariants.{Memory as 
 ghost use Rattle.db_model.specs.Database.{Database};
 ghost use Rattle.store_commit.specs.Seen.{Stands};
 ghost use Rattle.table_store.specs.Moving.{IsFreshAt};
+ghost use Rattle.table_jobs.specs.Blamed.{BlamesPurge};
 ghost use Rattle.table_jobs.specs.Jobs.{DrawsAnew, MakesRise, OfProjection};
 
 use col_disk::{Disk, StoreFault};
@@ -38,6 +39,7 @@ pub fn purge<D: Disk>(
     ensures made { (d : Database) → Stands ⟦<D as Disk>⟧ store.old disk.old d → MakesRise ⟦<D as Disk>⟧ no_memory store.old store.new disk.old disk.new result d table place }
     ensures drawn { OnOk result (OfProjection table place store.old.catalogue (DrawsAnew table place 1 store.old.catalogue store.new.catalogue)) }
     ensures unblamed { IfErr result (λ fault. (d : Database) → Stands ⟦<D as Disk>⟧ store.old disk.old d → IsUnblamed fault) }
+    ensures blamed { IfErr result (λ fault. OfProjection table place store.old.catalogue (BlamesPurge (D.holds disk.old) fault)) }
     ensures same { OnErr result (store.new ≡ store.old) }
     ensures cause { HasCause StoreFault.Disk (D.faults disk.old) (D.faults disk.new) result }
 {

@@ -15,6 +15,8 @@ pub mod Drawn
 pub mod Shaped
 pub mod Unshaped
 pub mod Unblamed
+pub mod Blames
+pub mod Moves
 pub mod Wider
 pub mod Nexts
 pub mod Counted

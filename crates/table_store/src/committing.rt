@@ -13,7 +13,7 @@ ghost use Rattle.table_store.specs.Held.{projections_of};
 ghost use Rattle.table_store.specs.Changing.{CanApply, tables_applied};
 ghost use Rattle.table_store.specs.Committing.{ready_with, AreReady};
 ghost use Rattle.col_disk.specs.Faults.{IsUnblamed};
-ghost use Rattle.table_store.specs.Faults.{IsReadable};
+ghost use Rattle.table_store.specs.Faults.{BlamesStored, IsReadable};
 
 use crate::parts::{Parts, ReadyTable};
 use catalog_types::Table;
@@ -48,6 +48,7 @@ fn prepare_tables<D: Disk>(
     ensures ready { IfOk result (λ v. AllZip (AllZip CanApply) (ready_with changes.now entries.now v.items) tables.new) }
     ensures stored { map projections_of tables.new ≡ map projections_of tables.old }
     ensures unblamed { IfErr result (λ fault. (m : Contents) → D.holds disk.old ≡ Some m → All (All (IsReadable m)) (map projections_of tables.old) → IsUnblamed fault) }
+    ensures blamed { IfErr result (BlamesStored (map projections_of tables.old) (D.holds disk.old)) }
     ensures kept { D.holds disk.new ≡ D.holds disk.old }
     ensures moved { Moved ⟦<D as Disk>⟧ NoName NoName disk.old disk.new }
     ensures cause { HasCause StoreFault.Disk (D.faults disk.old) (D.faults disk.new) result }
@@ -103,6 +104,7 @@ pub fn prepare_all<D: Disk>(
     ensures ready { IfOk result (λ v. AllZip (AllZip CanApply) (ready_with changes.now entries.now v.items) tables.new.items) }
     ensures stored { map projections_of tables.new.items ≡ map projections_of tables.old.items }
     ensures unblamed { IfErr result (λ fault. (m : Contents) → D.holds disk.old ≡ Some m → All (All (IsReadable m)) (map projections_of tables.old.items) → IsUnblamed fault) }
+    ensures blamed { IfErr result (BlamesStored (map projections_of tables.old.items) (D.holds disk.old)) }
     ensures kept { D.holds disk.new ≡ D.holds disk.old }
     ensures moved { Moved ⟦<D as Disk>⟧ NoName NoName disk.old disk.new }
     ensures cause { HasCause StoreFault.Disk (D.faults disk.old) (D.faults disk.new) result }

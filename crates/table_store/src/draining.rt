@@ -13,9 +13,10 @@ ghost use Rattle.db_model.specs.Sound.{IsSoundDatabase};
 ghost use Rattle.folder_model.specs.Projections.{shape_of};
 ghost use Rattle.folder_model.specs.Tables.{AreDatabase};
 ghost use Rattle.moveout_job.specs.OnDisk.{IsListedBelow, IsMovedOut, KeepsStored};
+ghost use Rattle.proj_store.specs.Reading.{BlamesLoad};
 ghost use Rattle.stored_rows.specs.Stored.{IsLoaded};
 ghost use Rattle.table_store.specs.Draining.{put_all, GoesOn, IsDraft, IsDraftOf, IsPlaced};
-ghost use Rattle.table_store.specs.Faults.{IsReadable};
+ghost use Rattle.table_store.specs.Faults.{BlamesVectors, IsReadable};
 ghost use Rattle.table_store.specs.Held.{projections_of};
 ghost use Rattle.table_store.specs.Moving.{with_entry_at, KeepsShapeAt};
 
@@ -74,6 +75,7 @@ fn write_out<D: Disk>(
     ensures count { IfOk result (λ w. length w.entry.containers ≤ length store.now.stored.entry.containers + 1) }
     ensures low { IfOk result (λ w. w.next < 2 ^ 62) }
     ensures unblamed { IfErr result (λ fault. (m n : Contents) → D.holds disk.old ≡ Some m → D.holds disk.new ≡ Some n → store.now.stored.entry.fresh ≡ true → IsReadable m store.now.stored → IsListedBelow next store.now.stored.entry → IsUnblamed fault) }
+    ensures blamed { IfErr result (λ fault. (m : Contents) → D.holds disk.new ≡ Some m → BlamesLoad store.now.stored.entry.containers (Some m) fault) }
     ensures moved { Moves ⟦<D as Disk>⟧ (DataFrom next) NoName disk.old disk.new }
     ensures cause { HasCause StoreFault.Disk (D.faults disk.old) (D.faults disk.new) result }
 {
@@ -143,6 +145,7 @@ fn move_one<D: Disk>(
     ensures draft { IfOk result (λ d. IsDraft store.now table (place + 1) d) }
     ensures goes_on { IfOk result (λ d. GoesOn store.now draft d (D.holds disk.old) (D.holds disk.new)) }
     ensures unblamed { IfErr result (λ fault. (m n : Contents) (d : Database) → D.holds disk.old ≡ Some m → D.holds disk.new ≡ Some n → IsDraftOf store.now draft m d → IsUnblamed fault) }
+    ensures blamed { IfErr result (λ fault. (m : Contents) → D.holds disk.new ≡ Some m → BlamesVectors store.now.stores m fault) }
     ensures moved { Moves ⟦<D as Disk>⟧ (DataFrom store.now.catalogue.next) NoName disk.old disk.new }
     ensures cause { HasCause StoreFault.Disk (D.faults disk.old) (D.faults disk.new) result }
 {
@@ -176,6 +179,7 @@ fn move_table<D: Disk>(
     ensures draft { IfOk result (λ d. IsDraft store.now (table + 1) 0 d) }
     ensures goes_on { IfOk result (λ d. GoesOn store.now draft d (D.holds disk.old) (D.holds disk.new)) }
     ensures unblamed { IfErr result (λ fault. (m n : Contents) (d : Database) → D.holds disk.old ≡ Some m → D.holds disk.new ≡ Some n → IsDraftOf store.now draft m d → IsUnblamed fault) }
+    ensures blamed { IfErr result (λ fault. (m : Contents) → D.holds disk.new ≡ Some m → BlamesVectors store.now.stores m fault) }
     ensures moved { Moves ⟦<D as Disk>⟧ (DataFrom store.now.catalogue.next) NoName disk.old disk.new }
     ensures cause { HasCause StoreFault.Disk (D.faults disk.old) (D.faults disk.new) result }
 {
@@ -195,6 +199,7 @@ pub fn drain<D: Disk>(alloc: Global, disk: &mut D, store: &TableStore) -> Result
     ensures draft { IfOk result (λ d. IsDraft store.now (length store.now.stores) 0 d) }
     ensures goes_on { IfOk result (λ d. (m : Contents) (e : Database) → D.holds disk.old ≡ Some m → AreDatabase m store.now.catalogue store.now.stores e → IsSoundDatabase e → (n : Contents) × (D.holds disk.new ≡ Some n) × IsDraftOf store.now d n e) }
     ensures unblamed { IfErr result (λ fault. (m n : Contents) (e : Database) → D.holds disk.old ≡ Some m → D.holds disk.new ≡ Some n → AreDatabase m store.now.catalogue store.now.stores e → IsSoundDatabase e → IsUnblamed fault) }
+    ensures blamed { IfErr result (λ fault. (m : Contents) → D.holds disk.new ≡ Some m → BlamesVectors store.now.stores m fault) }
     ensures moved { Moves ⟦<D as Disk>⟧ (DataFrom store.now.catalogue.next) NoName disk.old disk.new }
     ensures cause { HasCause StoreFault.Disk (D.faults disk.old) (D.faults disk.new) result }
 {

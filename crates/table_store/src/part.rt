@@ -11,6 +11,7 @@ ghost use Rattle.row_history.specs.History.{asked_on};
 ghost use Rattle.folder_model.specs.Projections.{ordinals};
 ghost use Rattle.table_store.specs.Changing.{applied, coming, deleted_from, in_order, with_coming, AreFound, AreWhole, CanApply, CanDelete, IsReady};
 ghost use Rattle.col_disk.specs.Faults.{IsUnblamed};
+ghost use Rattle.proj_store.specs.Reading.{BlamesRows};
 ghost use Rattle.table_store.specs.Faults.{IsReadable};
 
 use catalog_types::{ProjColumn, Projection};
@@ -148,6 +149,7 @@ fn marks_for<D: Disk>(
     ensures stored { store.new.stored ≡ store.old.stored }
     ensures spare { store.new.spare ≡ store.old.spare }
     ensures unblamed { IfErr result (λ fault. (m : Contents) → D.holds disk.old ≡ Some m → store.old.stored.entry.fresh ≡ true → IsReadable m store.old.stored → IsUnblamed fault) }
+    ensures blamed { IfErr result (BlamesRows store.old.stored.entry (D.holds disk.old)) }
     ensures kept { D.holds disk.new ≡ D.holds disk.old }
     ensures moved { Moved ⟦<D as Disk>⟧ NoName NoName disk.old disk.new }
     ensures cause { HasCause StoreFault.Disk (D.faults disk.old) (D.faults disk.new) result }
@@ -181,6 +183,7 @@ pub fn prepare_part<D: Disk>(
     ensures ready { IfOk result (λ o. CanApply (with_coming takes rows.now o) store.new) }
     ensures stored { store.new.stored ≡ store.old.stored }
     ensures unblamed { IfErr result (λ fault. (m : Contents) → D.holds disk.old ≡ Some m → IsReadable m store.old.stored → IsUnblamed fault) }
+    ensures blamed { IfErr result (BlamesRows store.old.stored.entry (D.holds disk.old)) }
     ensures kept { D.holds disk.new ≡ D.holds disk.old }
     ensures moved { Moved ⟦<D as Disk>⟧ NoName NoName disk.old disk.new }
     ensures cause { HasCause StoreFault.Disk (D.faults disk.old) (D.faults disk.new) result }

@@ -11,7 +11,7 @@ ghost use Rattle.table_store.specs.Held.{projections_of};
 ghost use Rattle.table_store.specs.Creating.{bare};
 ghost use Rattle.table_store.specs.Changing.{all_applied, all_coming, is_at, with_coming, AreWholeAt, CanApply, IsReady};
 ghost use Rattle.col_disk.specs.Faults.{IsUnblamed};
-ghost use Rattle.table_store.specs.Faults.{IsReadable};
+ghost use Rattle.table_store.specs.Faults.{BlamesParts, IsReadable};
 
 mod columns;
 
@@ -113,6 +113,7 @@ impl Parts {
         ensures ready { IfOk result (λ v. AllZip CanApply (all_coming v.taker rows.now v.parts) self.new) }
         ensures stored { projections_of self.new ≡ projections_of self.old }
         ensures unblamed { IfErr result (λ fault. (m : Contents) → D.holds disk.old ≡ Some m → All (IsReadable m) (projections_of self.old) → IsUnblamed fault) }
+        ensures blamed { IfErr result (BlamesParts (projections_of self.old) (D.holds disk.old)) }
         ensures kept { D.holds disk.new ≡ D.holds disk.old }
         ensures moved { Moved ⟦<D as Disk>⟧ NoName NoName disk.old disk.new }
         ensures cause { HasCause StoreFault.Disk (D.faults disk.old) (D.faults disk.new) result }
@@ -178,6 +179,7 @@ fn prepare_each<D: Disk>(
     ensures ready { IfOk result (λ v. AllZip CanApply (all_coming taker rows.now v.items) stores.new) }
     ensures stored { projections_of stores.new ≡ projections_of stores.old }
     ensures unblamed { IfErr result (λ fault. (m : Contents) → D.holds disk.old ≡ Some m → All (IsReadable m) (projections_of stores.old) → IsUnblamed fault) }
+    ensures blamed { IfErr result (BlamesParts (projections_of stores.old) (D.holds disk.old)) }
     ensures kept { D.holds disk.new ≡ D.holds disk.old }
     ensures moved { Moved ⟦<D as Disk>⟧ NoName NoName disk.old disk.new }
     ensures cause { HasCause StoreFault.Disk (D.faults disk.old) (D.faults disk.new) result }

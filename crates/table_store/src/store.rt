@@ -18,7 +18,7 @@ ghost use Rattle.sound_laws.specs.Moves.{moved_at};
 ghost use Rattle.table_store.specs.Held.{at_epoch, projections_of, IsHeld};
 ghost use Rattle.table_store.specs.Drawing.{Draws, DrawsJob, DrawsOne};
 ghost use Rattle.col_disk.specs.Faults.{IsUnblamed};
-ghost use Rattle.table_store.specs.Faults.{IsReadable};
+ghost use Rattle.table_store.specs.Faults.{BlamesStored, BlamesVectorsAt, IsReadable};
 ghost use Rattle.table_store.specs.Moving.{IsFreshAt, IsRewritten};
 ghost use Rattle.table_store.specs.Creating.{bare, created, dropped, first_entry, first_table, place_of, with_table};
 
@@ -143,6 +143,7 @@ fn prepare_move<D: Disk>(
     ensures drawn { IfOk result (λ r. Draws root.now r.catalogue) }
     ensures job { IfOk result (λ r. DrawsJob table place (at_epoch last root.now) r.catalogue) }
     ensures unblamed { IfErr result (λ fault. (m n : Contents) → D.holds disk.old ≡ Some m → D.holds disk.new ≡ Some n → All (All (IsReadable m)) (map projections_of tables.now) → IsUnblamed fault) }
+    ensures blamed { IfErr result (λ fault. (m : Contents) → D.holds disk.new ≡ Some m → BlamesVectorsAt (map projections_of tables.now) table place m fault) }
     ensures moved { Moved ⟦<D as Disk>⟧ (DataFrom root.now.next) NoName disk.old disk.new }
     ensures cause { HasCause StoreFault.Disk (D.faults disk.old) (D.faults disk.new) result }
 {
@@ -359,7 +360,7 @@ impl TableStore {
 
     /// Closes the next epoch with a session's changes: its pending rows join their tables, and its pending deletes are marked, in every
     /// projection that is up to date. Nothing is written. Where no epoch is left it is answered as want of memory. The pending rows go
-    /// over to their tables; where it fails the session is as it was.
+    /// over to their tables; where it fails the session is as it was. `Damaged` names a file of a container that holds no rows.
     pub fn commit<D: Disk>(
         &mut self,
         alloc: Global,
@@ -370,6 +371,7 @@ impl TableStore {
             → Makes ⟦<D as Disk>⟧ no_memory self.old self.new disk.old disk.new result d (committed changes.old d) }
         ensures catalogue { OnOk result (self.new.catalogue ≡ at_epoch (self.old.catalogue.last + 1) self.old.catalogue) }
         ensures unblamed { IfErr result (λ fault. (d : Database) → Stands ⟦<D as Disk>⟧ self.old disk.old d → IsUnblamed fault) }
+        ensures blamed { IfErr result (BlamesStored self.old.stores (D.holds disk.old)) }
         ensures same { OnErr result (self.new ≡ self.old) }
         ensures kept { OnErr result (changes.new ≡ changes.old) }
         ensures cause { HasCause StoreFault.Disk (D.faults disk.old) (D.faults disk.new) result }
@@ -389,8 +391,8 @@ impl TableStore {
     }
 
     /// All data of a projection goes to disk: its rows and marks in memory are written behind what it has there, and then a catalogue
-    /// that lists them becomes the one that the disk opens to. `Damaged` names a delete vector that was written and reads otherwise;
-    /// over a database there is none. Numbers from 2^61 on are answered as want of memory.
+    /// that lists them becomes the one that the disk opens to. `Damaged` names the delete vector of a container that was there, which has none;
+    /// over a database no file is blamed. Numbers from 2^61 on are answered as want of memory.
     pub fn move_out<D: Disk>(
         &mut self,
         alloc: Global,
@@ -403,6 +405,7 @@ impl TableStore {
         ensures drawn { OnOk result (Draws self.old.catalogue self.new.catalogue) }
         ensures job { OnOk result (DrawsJob table place self.old.catalogue self.new.catalogue) }
         ensures unblamed { IfErr result (λ fault. (d : Database) → Stands ⟦<D as Disk>⟧ self.old disk.old d → IsUnblamed fault) }
+        ensures blamed { IfErr result (λ fault. (m : Contents) → D.holds disk.new ≡ Some m → BlamesVectorsAt self.old.stores table place m fault) }
         ensures same { OnErr result (self.new ≡ self.old) }
         ensures cause { HasCause StoreFault.Disk (D.faults disk.old) (D.faults disk.new) result }
     {

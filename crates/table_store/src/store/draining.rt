@@ -1,13 +1,15 @@
 //! A moveout of all projections that are behind.
 
-ghost use Rattle.std.specs.Prelude.{◌≡◌, length, IfErr, OnErr, OnOk};
+ghost use Rattle.std.specs.Prelude.{◌≡◌, length, Some, IfErr, OnErr, OnOk};
 ghost use Rattle.common_laws.specs.Causes.{HasCause};
+ghost use Rattle.common_laws.specs.Maps.{Contents};
 ghost use Rattle.col_disk.specs.Faults.{IsUnblamed};
 ghost use Rattle.col_disk.specs.declared.disk.StoreFault.TheVariants.{Memory as no_memory};
 ghost use Rattle.db_model.specs.Database.{Database};
 ghost use Rattle.db_model.specs.Mover.{behind};
 ghost use Rattle.store_commit.specs.Making.{Makes};
 ghost use Rattle.store_commit.specs.Seen.{Stands};
+ghost use Rattle.table_store.specs.Faults.{BlamesVectors};
 ghost use Rattle.table_store.specs.Draining.{all_caught_up, DrawsMany};
 
 use super::{TableStore, version_of};
@@ -18,12 +20,13 @@ use store_commit::settle;
 
 impl TableStore {
     /// All data of each up-to-date projection goes to disk, where some isn't there: first the files of all of them, and then one catalogue
-    /// that lists them becomes the one that the disk opens to. Numbers from 2^61 on are answered as want of memory. Over a database no file is
-    /// blamed.
+    /// that lists them becomes the one that the disk opens to. Numbers from 2^61 on are answered as want of memory. `Damaged` names the
+    /// delete vector of a container that was there, which has none; over a database no file is blamed.
     pub fn move_all<D: Disk>(&mut self, alloc: Global, disk: &mut D) -> Result<(), StoreFault>
         ensures made { (d : Database) → Stands ⟦<D as Disk>⟧ self.old disk.old d → Makes ⟦<D as Disk>⟧ no_memory self.old self.new disk.old disk.new result d (all_caught_up d) }
         ensures drawn { OnOk result ((d : Database) → Stands ⟦<D as Disk>⟧ self.old disk.old d → DrawsMany (length (behind d)) self.old.catalogue self.new.catalogue) }
         ensures unblamed { IfErr result (λ fault. (d : Database) → Stands ⟦<D as Disk>⟧ self.old disk.old d → IsUnblamed fault) }
+        ensures blamed { IfErr result (λ fault. (m : Contents) → D.holds disk.new ≡ Some m → BlamesVectors self.old.stores m fault) }
         ensures same { OnErr result (self.new ≡ self.old) }
         ensures cause { HasCause StoreFault.Disk (D.faults disk.old) (D.faults disk.new) result }
     {

@@ -1,12 +1,12 @@
 use Rattle.std.proofs.Common.{◌≡◌, ◌<◌, ◌∙◌, length, map, ap, sym, subst, rules, arith}
-use Rattle.std.specs.Prelude.{Option}
+use Rattle.std.specs.Prelude.{IfSome, Option}
 use Rattle.std.proofs.lemmas.List.{length-map}
 use Rattle.catalog_types.specs.declared.catalogue.Container.{Container}
 use Rattle.col_disk.proofs.Moving.{moved_none}
 use Rattle.ros_container.specs.Encodings.{written_as, written_of}
 use Rattle.stored_rows.specs.Held.{HoldsRows}
 use Rattle.container_writer.specs.Writing.{listed}
-use Rattle.container_draft.specs.Finished.{AreFinished}
+use Rattle.container_draft.specs.Finished.{AreFinished, HasVector}
 use Rattle.container_draft.specs.Placed.{asked_at, seen}
 use Rattle.container_draft.proofs.Ended.{end_held, end_finished, end_low}
 use Rattle.container_draft.proofs.finishing.write_end.Goals as goal
@@ -43,3 +43,7 @@ returns-in-Ok-write_vector-clause-numbers g c = λ done.
 
 pub returns-in-Ok-write_vector-clause-low : goal.returns-in-Ok-write_vector-clause-low
 returns-in-Ok-write_vector-clause-low g c = end_low c.args.next c.ended.result.next c.in-Ok-write_vector.container.marks (omega (arith, c.if-next-ge-MOST_NUMBERS.false)) c.ended.ensures.next
+
+pub returns-in-Ok-write_vector-clause-vector : goal.returns-in-Ok-write_vector-clause-vector
+returns-in-Ok-write_vector-clause-vector g c = λ n told.
+    subst (λ (o : Option Container). IfSome o (HasVector n)) (sym c.ended.ensures.container) (c.in-Ok.marks.marks, c.in-Ok-write_vector.ensures.held n told)

@@ -9,6 +9,7 @@ use Rattle.container_writer.specs.Writing.{listed, HoldsBag, AreNumbered}
 use Rattle.moveout_job.specs.OnDisk.{moved_to}
 use Rattle.moveout_job.proofs.Renewed.{later_data}
 use Rattle.moveout_job.proofs.Assembled.{of_entry, moves_out, lists_below, loads, counts}
+use Rattle.moveout_job.proofs.Vectors.{entry_vectors}
 use Rattle.moveout_job.proofs.job.moveout.Goals as goal
 
 pub returns-in-Err-clause-moved : goal.returns-in-Err-clause-moved
@@ -66,3 +67,13 @@ returns-in-Ok-moved_entry-clause-moved g c =
 pub returns-in-Err-moved_entry-clause-moved : goal.returns-in-Err-moved_entry-clause-moved
 returns-in-Err-moved_entry-clause-moved g c =
     moved_join g.D.Disk c.mark_each.ensures.moved (later_data g.D.Disk c.args.next c.in-Ok-mark_each.marked.next c.in-Ok-mark_each.ensures.next c.write_stamped.ensures.moved)
+
+pub returns-in-Ok-moved_entry-clause-vectors : goal.returns-in-Ok-moved_entry-clause-vectors
+returns-in-Ok-moved_entry-clause-vectors g c =
+    let p = c.args.p.now.stored in
+    let js = c.in-Ok-mark_each.marked.containers.items in
+    let made = c.in-Ok-write_stamped.written.container in
+    let rows = map stamped_of c.in-Ok.rows.items in
+    let is : c.in-Ok-moved_entry.entry ≡ moved_to c.args.last js made p.entry = of_entry c.args.last js made c.entry-2.result.now p.entry c.in-Ok-moved_entry.entry c.in-Ok-moved_entry.ensures c.entry-2.ensures.entry in
+    entry_vectors g.D.Disk c.args.last c.in-Ok-mark_each.marked.next c.in-Ok-write_stamped.written.next (length c.entry.result.now.columns) (written_of c.entry.result.now) p.entry c.in-Ok-moved_entry.entry js made rows is c.in-Ok-write_stamped.ensures.numbers
+    c.write_stamped.ensures.moved c.in-Ok-mark_each.ensures.vectors c.in-Ok-write_stamped.ensures.held

@@ -1,6 +1,7 @@
-use Rattle.std.proofs.Common.{◌≡◌, length, refl, rules}
+use Rattle.std.proofs.Common.{◌≡◌, length, refl, rules, inl}
 use Rattle.col_disk.proofs.Moving.{moved_none}
 use Rattle.moveout_job.proofs.Renewed.{unmarked, marked_anew, vector_data}
+use Rattle.moveout_job.proofs.Vectors.{vector_made}
 use Rattle.moveout_job.proofs.remarking.mark_one.Goals as goal
 
 pub returns-then-is_empty-clause-held : goal.returns-then-is_empty-clause-held
@@ -27,3 +28,10 @@ returns-in-Ok-write_vector-clause-moved g c = vector_data g.D.Disk c.args.next c
 
 pub returns-clause-moved : goal.returns-clause-moved
 returns-clause-moved g c = vector_data g.D.Disk c.args.next c.write_vector.ensures.moved
+
+pub returns-then-is_empty-clause-vector : goal.returns-then-is_empty-clause-vector
+returns-then-is_empty-clause-vector g c = λ n told. inl refl
+
+pub returns-in-Ok-write_vector-clause-vector : goal.returns-in-Ok-write_vector-clause-vector
+returns-in-Ok-write_vector-clause-vector g c = λ n told.
+    vector_made n c.args.next c.args.container.now c.in-Ok-write_vector.entry c.in-Ok.vector.marks c.in-Ok-write_vector.ensures.entry (c.in-Ok-write_vector.ensures.held n told)

@@ -10,10 +10,11 @@ use Rattle.ros_container.specs.Encodings.{written_of}
 use Rattle.ros_container.specs.Readable.{IsReadable}
 use Rattle.container_writer.specs.Writing.{listed}
 use Rattle.container_cut.specs.Blamed.{BlamesOne}
-use Rattle.moveout_job.specs.OnDisk.{beside}
+use Rattle.moveout_job.specs.OnDisk.{beside, IsKeptOrHasVector}
 use Rattle.moveout_job.proofs.Renewed.{beside_within, later_data}
 use Rattle.proj_store.specs.Sound.{HasVectorNumber, MarksItsRows}
 use Rattle.purge_job.specs.Purging.{CanLoad, PurgesOne}
+use Rattle.purge_job.proofs.Vectors.{vectors_more}
 use Rattle.purge_job.proofs.Turns.{at_place, blamed_before, fewer_more, kept_at, loads_more, numbers_more, purges_all, purges_none, turn}
 use Rattle.purge_job.proofs.each.purge_each.Goals as goal
 
@@ -21,6 +22,7 @@ pub loop-i-init : goal.loop-i-init
 loop-i-init g c = record {
   purged = rw c.new-out.ensures.items (purges_none c.args.mark (written_of c.args.p.now.stored.entry) c.args.next (g.D.Disk.holds c.args.disk.now));
   loads = rw c.new-out.ensures.items (All-nil (CanLoad c.args.p.now.stored.entry.columns));
+  vectors = λ m told. rw c.new-out.ensures.items (All-nil (IsKeptOrHasVector c.args.next m c.args.p.now.stored.entry.containers));
   fewer = omega (arith, ap length c.new-out.ensures.items);
   next = omega arith;
   upto = omega arith;
@@ -115,6 +117,7 @@ loop-i-preserved g c =
       purged = turn g.D.Disk mark (written_of p.entry) next after end i ks p.entry.containers c.loop-i.out.items (listed made) c.add.new.containers.items p.beside k held fresh shown c.loop-i-test.true within k_is c.vector-held.ensures
           c.fresh_marks-fresh.ensures c.in-Ok-add.ensures inv.next c.in-Ok.ensures.next inv.moved c.purge_container.ensures.moved inv.purged purged;
       loads = loads_more p.entry.columns c.loop-i.out.items (listed made) c.add.new.containers.items c.in-Ok-add.ensures inv.loads loads;
+      vectors = vectors_more g.D.Disk after end i ks p.entry.containers c.loop-i.out.items (listed made) c.add.new.containers.items k shown c.loop-i-test.true k_is c.in-Ok-add.ensures c.in-Ok.ensures.next c.purge_container.ensures.moved inv.vectors c.in-Ok.ensures.vector;
       fewer = fewer_more i c.loop-i.out.items c.add.new.containers.items made c.in-Ok-add.ensures inv.fewer;
       next = let one = c.in-Ok.ensures.next in let was = inv.next in omega (arith, one, was);
       upto = numbers_more i (2 * length p.entry.columns + 3) next after end inv.upto (omega (arith, most));

@@ -12,6 +12,7 @@ use Rattle.purge_job.specs.Purging.{purged_to}
 use Rattle.purge_job.proofs.Anew.{numbers_later}
 use Rattle.purge_job.proofs.Assembled.{counts, fault_blames, is_purged, keeps_from, loads, of_entry, purges, reaches}
 use Rattle.purge_job.proofs.Turns.{numbers_more}
+use Rattle.purge_job.proofs.Vectors.{loads_blamed, purged_vectors}
 use Rattle.purge_job.proofs.job.purge_one.Goals as goal
 
 pub returns-in-Err-clause-moved : goal.returns-in-Err-clause-moved
@@ -108,3 +109,15 @@ returns-in-Ok-purged_entry-clause-moved g c =
 pub returns-in-Err-purged_entry-clause-moved : goal.returns-in-Err-purged_entry-clause-moved
 returns-in-Err-purged_entry-clause-moved g c =
     moved_join g.D.Disk c.purge_each.ensures.moved (later_data g.D.Disk c.args.next c.in-Ok-purge_each.each.next c.in-Ok-purge_each.ensures.next c.write_stamped.ensures.moved)
+
+pub returns-in-Ok-purged_entry-clause-loads : goal.returns-in-Ok-purged_entry-clause-loads
+returns-in-Ok-purged_entry-clause-loads g c = λ below fault blames.
+    let p = c.args.p.now.stored in
+    let each = c.in-Ok-purge_each.each in
+    let written = c.in-Ok-write_stamped.written in
+    let entry = c.in-Ok-purged_entry.entry in
+    let is : entry ≡ purged_to each.containers.items written.container p.entry = of_entry each.containers.items written.container c.entry-shape.result.now p.entry entry c.in-Ok-purged_entry.ensures c.entry-shape.ensures.entry in
+    loads_blamed g.D.Disk p.entry entry c.args.next written.next fault c.entry-shape.ensures.sound.loadable below
+    (moved_join g.D.Disk c.purge_each.ensures.moved (later_data g.D.Disk c.args.next each.next c.in-Ok-purge_each.ensures.next c.write_stamped.ensures.moved))
+    (purged_vectors g.D.Disk each.next written.next (length c.entry-shape.result.now.columns) (written_of c.entry-shape.result.now) p.entry entry each.containers.items written.container (map stamped_of c.in-Ok.rows.items) is
+    c.in-Ok-write_stamped.ensures.numbers c.write_stamped.ensures.moved c.in-Ok-purge_each.ensures.vectors c.in-Ok-write_stamped.ensures.held) blames

@@ -8,6 +8,7 @@ use Rattle.container_writer.specs.Writing.{listed, HoldsBag}
 use Rattle.container_cut.proofs.Fronts.{front_written, front_within}
 use Rattle.moveout_job.specs.OnDisk.{beside}
 use Rattle.purge_job.proofs.Anew.{rewrite_purges}
+use Rattle.purge_job.proofs.Vectors.{rewritten_vector}
 use Rattle.purge_job.proofs.one.rewrite.Goals as goal
 
 pub returns-in-Err-clause-moved : goal.returns-in-Err-clause-moved
@@ -38,3 +39,9 @@ returns-in-Ok-write_stamped-clause-moved g c = moved_join g.D.Disk (moved_still 
 
 pub returns-clause-moved : goal.returns-clause-moved
 returns-clause-moved g c = moved_join g.D.Disk (moved_still g.D.Disk c.read_kept.ensures.moved) c.write_stamped.ensures.moved
+
+pub returns-in-Ok-write_stamped-clause-vector : goal.returns-in-Ok-write_stamped-clause-vector
+returns-in-Ok-write_stamped-clause-vector g c = λ n told.
+    let written = c.in-Ok-write_stamped.written in
+    rewritten_vector (length c.in-Ok.front.columns) c.args.next written.next n (written_of c.in-Ok.front) c.args.container.now written.container (map stamped_of c.in-Ok-refs.rows.items) c.in-Ok-write_stamped.ensures.numbers
+    (c.in-Ok-write_stamped.ensures.held n told)

@@ -1,10 +1,11 @@
-use Rattle.std.proofs.Common.{◌≡◌, ◌≤◌, refl, sym, ◌∙◌, ap, subst, arith}
+use Rattle.std.proofs.Common.{◌≡◌, ◌≤◌, inl, inr, refl, sym, ◌∙◌, ap, subst, arith}
 use Rattle.std.specs.Prelude.{Err}
 use Rattle.std.proofs.lemmas.Result.{on_ok_weaker}
 use Rattle.catalog_types.specs.declared.catalogue.Catalogue.{Catalogue}
 use Rattle.col_disk.specs.declared.disk.StoreFault.TheVariants as fault
 use Rattle.mergeout_job.specs.Oldest.{HasFour}
 use Rattle.table_jobs.specs.Jobs.{DrawsMerged}
+use Rattle.table_jobs.specs.Blamed.{BlamesMerge}
 use Rattle.table_jobs.proofs.Holding.{IsOwnAt}
 use Rattle.table_jobs.proofs.Raising.{IsRooted, own_entry, own_unblamed, draws_merged, err_weaker, raise_fails, raised_holds, raises}
 use Rattle.table_jobs.proofs.Rooted.{IsEntryOf, of_own, own_below, own_fresh, own_narrow, own_reached, own_renewal, own_there, own_valid}
@@ -108,3 +109,29 @@ returns-clause-unblamed g c =
     err_weaker c.install.result (λ f blames d stands.
     let (n, held, told, holds) = raised_holds g.D.Disk {mid = c.merge_out.new.disk} c.args.store.now c.root-root.result.now c.args.table c.args.place p c.in-Ok.merged.entry d rooted own fresh (own_below c.root-root.result.now p.entry valid) c.merge_out.ensures.moved c.in-Ok.ensures.keeps stands in
     blames n held told holds) c.install.ensures.unblamed
+
+pub returns-in-Err-clause-blamed : goal.returns-in-Err-clause-blamed
+returns-in-Err-clause-blamed g c =
+    let rooted : IsRooted c.args.store.now c.root-root.result.now = record { catalogue = c.root-root.ensures.root; entries = c.root-root.ensures.entries; valid = c.root-root.ensures.valid } in
+    let p = c.index-as_slice-place.result.stored in
+    let own : IsOwnAt c.args.store.now.stores c.args.table c.args.place p =
+    own_there c.tables.result.now c.args.store.now.stores c.args.table c.args.place c.index-tables-table.result c.as_slice.result.now c.index-as_slice-place.result c.tables.ensures c.requires.fresh c.index-tables-table.is c.as_slice.ensures c.index-as_slice-place.is in
+    own_entry c.args.store.now c.root-root.result.now c.args.table c.args.place p (BlamesMerge (g.D.Disk.holds c.args.disk.now) c.in-Err.fault) rooted own (inl c.in-Err.ensures.blamed)
+
+pub returns-then-merged-last-clause-blamed : goal.returns-then-merged-last-clause-blamed
+returns-then-merged-last-clause-blamed g c =
+    let rooted : IsRooted c.args.store.now c.root-root.result.now = record { catalogue = c.root-root.ensures.root; entries = c.root-root.ensures.entries; valid = c.root-root.ensures.valid } in
+    let p = c.index-as_slice-place.result.stored in
+    let own : IsOwnAt c.args.store.now.stores c.args.table c.args.place p =
+    own_there c.tables.result.now c.args.store.now.stores c.args.table c.args.place c.index-tables-table.result c.as_slice.result.now c.index-as_slice-place.result c.tables.ensures c.requires.fresh c.index-tables-table.is c.as_slice.ensures c.index-as_slice-place.is in
+    own_entry c.args.store.now c.root-root.result.now c.args.table c.args.place p (BlamesMerge (g.D.Disk.holds c.args.disk.now) fault.Memory) rooted own (inl tt)
+
+pub returns-clause-blamed : goal.returns-clause-blamed
+returns-clause-blamed g c =
+    let rooted : IsRooted c.args.store.now c.root-root.result.now = record { catalogue = c.root-root.ensures.root; entries = c.root-root.ensures.entries; valid = c.root-root.ensures.valid } in
+    let p = c.index-as_slice-place.result.stored in
+    let own : IsOwnAt c.args.store.now.stores c.args.table c.args.place p =
+    own_there c.tables.result.now c.args.store.now.stores c.args.table c.args.place c.index-tables-table.result c.as_slice.result.now c.index-as_slice-place.result c.tables.ensures c.requires.fresh c.index-tables-table.is c.as_slice.ensures c.index-as_slice-place.is in
+    let below = own_below c.root-root.result.now p.entry (own_valid c.args.store.now c.root-root.result.now c.args.table c.args.place p rooted own) in
+    err_weaker c.install.result (λ f blames.
+    own_entry c.args.store.now c.root-root.result.now c.args.table c.args.place p (BlamesMerge (g.D.Disk.holds c.args.disk.now) f) rooted own (inr (c.in-Ok.ensures.loads below f blames))) c.install.ensures.blamed

@@ -7,6 +7,7 @@ use Rattle.container_writer.specs.Writing.{DataFrom, listed}
 use Rattle.merge_rows.specs.Inputs.{IsMerging, KeepsFrom, Merging}
 use Rattle.mergeout_job.specs.Merged.{merged}
 use Rattle.table_jobs.proofs.Holding.{keeps_before, merging_kept, reached_later}
+use Rattle.purge_job.proofs.Vectors.{loads_blamed}
 use Rattle.table_jobs.proofs.Writing.{later_moved, listed_below}
 use Rattle.table_jobs.proofs.merging.merge_out.Goals as goal
 
@@ -55,3 +56,11 @@ returns-in-Ok-install-clause-keeps g c = λ m n told_m told_n below vectors.
     let kept = c.in-Ok-install.ensures.keeps l n told_l told_n (listed_below c.args.next p.entry (omega arith) below) merging draft c.in-Ok-write_columns.ensures.done in
     let mark = ap (λ (j : Merging). j.mark) c.in-Ok-write_columns.ensures.merge ∙ c.in-Ok.ensures.mark in
     keeps_before c.args.mark m l n p c.in-Ok-install.merged.entry c.args.next below changed (subst (λ (k : ℕ). KeepsFrom k l n p c.in-Ok-install.merged.entry) mark kept)
+
+pub returns-in-Ok-install-clause-loads : goal.returns-in-Ok-install-clause-loads
+returns-in-Ok-install-clause-loads g c = λ below fault blames.
+    let begun : Moved g.D.Disk (DataFrom c.args.next) NoName c.args.disk.now c.begin.new.disk = moved_still g.D.Disk c.begin.ensures.moved in
+    let wrote : Moved g.D.Disk (DataFrom c.args.next) NoName c.args.disk.now c.write_columns.new.disk =
+    moved_join g.D.Disk begun (subst (λ (n : ℕ). Moved g.D.Disk (DataFrom n) NoName c.begin.new.disk c.write_columns.new.disk) c.in-Ok.ensures.base c.write_columns.ensures.moved) in
+    loads_blamed g.D.Disk c.args.p.now.stored.entry c.in-Ok-install.merged.entry c.args.next c.in-Ok-install.merged.next fault c.entry.ensures.sound.loadable below (moved_join g.D.Disk wrote (later_moved g.D.Disk c.args.next (omega arith) c.install.ensures.moved))
+    c.in-Ok-install.ensures.vectors blames

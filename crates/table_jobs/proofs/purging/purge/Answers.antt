@@ -3,10 +3,11 @@ use Rattle.std.specs.Prelude.{Err}
 use Rattle.catalog_types.specs.declared.catalogue.Catalogue.{Catalogue}
 use Rattle.col_disk.specs.declared.disk.StoreFault.TheVariants as fault
 use Rattle.container_cut.proofs.Faults.{on_err}
+use Rattle.table_jobs.specs.Blamed.{BlamesPurge}
 use Rattle.table_jobs.specs.Jobs.{DrawsAnew}
 use Rattle.table_jobs.proofs.Holding.{IsOwnAt}
 use Rattle.table_jobs.proofs.Purges.{draws_purged, on_ok, own_undamaged, purged_renewal}
-use Rattle.table_jobs.proofs.Raising.{IsRooted, own_entry, raise_fails, raised_holds, raises}
+use Rattle.table_jobs.proofs.Raising.{IsRooted, err_weaker, own_entry, raise_fails, raised_holds, raises}
 use Rattle.table_jobs.proofs.Rooted.{own_below, own_fresh, own_narrow, own_reached, own_renewal, own_there, own_valid}
 use Rattle.table_jobs.proofs.purging.purge.Goals as goal
 
@@ -102,3 +103,29 @@ returns-clause-unblamed g c =
     (λ m n told left low vectors. c.in-Ok.ensures.keeps m n told left low) stands in
     blames n held told holds)
     c.install.ensures.unblamed
+
+pub returns-in-Err-clause-blamed : goal.returns-in-Err-clause-blamed
+returns-in-Err-clause-blamed g c =
+    let rooted : IsRooted c.args.store.now c.root-root.result.now = record { catalogue = c.root-root.ensures.root; entries = c.root-root.ensures.entries; valid = c.root-root.ensures.valid } in
+    let p = c.index-as_slice-place.result.stored in
+    let own : IsOwnAt c.args.store.now.stores c.args.table c.args.place p =
+    own_there c.tables.result.now c.args.store.now.stores c.args.table c.args.place c.index-tables-table.result c.as_slice.result.now c.index-as_slice-place.result c.tables.ensures c.requires.fresh c.index-tables-table.is c.as_slice.ensures c.index-as_slice-place.is in
+    own_entry c.args.store.now c.root-root.result.now c.args.table c.args.place p (BlamesPurge (g.D.Disk.holds c.args.disk.now) c.in-Err.fault) rooted own (c.in-Err.ensures.blamed (own_below c.root-root.result.now p.entry (own_valid c.args.store.now c.root-root.result.now c.args.table c.args.place p rooted own)))
+
+pub returns-then-purged-last-clause-blamed : goal.returns-then-purged-last-clause-blamed
+returns-then-purged-last-clause-blamed g c =
+    let rooted : IsRooted c.args.store.now c.root-root.result.now = record { catalogue = c.root-root.ensures.root; entries = c.root-root.ensures.entries; valid = c.root-root.ensures.valid } in
+    let p = c.index-as_slice-place.result.stored in
+    let own : IsOwnAt c.args.store.now.stores c.args.table c.args.place p =
+    own_there c.tables.result.now c.args.store.now.stores c.args.table c.args.place c.index-tables-table.result c.as_slice.result.now c.index-as_slice-place.result c.tables.ensures c.requires.fresh c.index-tables-table.is c.as_slice.ensures c.index-as_slice-place.is in
+    own_entry c.args.store.now c.root-root.result.now c.args.table c.args.place p (BlamesPurge (g.D.Disk.holds c.args.disk.now) fault.Memory) rooted own tt
+
+pub returns-clause-blamed : goal.returns-clause-blamed
+returns-clause-blamed g c =
+    let rooted : IsRooted c.args.store.now c.root-root.result.now = record { catalogue = c.root-root.ensures.root; entries = c.root-root.ensures.entries; valid = c.root-root.ensures.valid } in
+    let p = c.index-as_slice-place.result.stored in
+    let own : IsOwnAt c.args.store.now.stores c.args.table c.args.place p =
+    own_there c.tables.result.now c.args.store.now.stores c.args.table c.args.place c.index-tables-table.result c.as_slice.result.now c.index-as_slice-place.result c.tables.ensures c.requires.fresh c.index-tables-table.is c.as_slice.ensures c.index-as_slice-place.is in
+    let below = own_below c.root-root.result.now p.entry (own_valid c.args.store.now c.root-root.result.now c.args.table c.args.place p rooted own) in
+    err_weaker c.install.result (λ f blames.
+    own_entry c.args.store.now c.root-root.result.now c.args.table c.args.place p (BlamesPurge (g.D.Disk.holds c.args.disk.now) f) rooted own (c.in-Ok.ensures.loads below f blames)) c.install.ensures.blamed

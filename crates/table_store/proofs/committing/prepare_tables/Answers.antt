@@ -16,6 +16,7 @@ use Rattle.table_store.specs.declared.parts.ReadyTable.{ReadyTable}
 use Rattle.table_store.proofs.Readied.{ready_more}
 use Rattle.table_store.proofs.Tables.{of_table, ready_last}
 use Rattle.table_store.specs.Faults.{IsReadable}
+use Rattle.table_store.proofs.Blames.{parts_before}
 use Rattle.table_store.proofs.Unblamed.{one_of}
 use Rattle.table_store.proofs.committing.prepare_tables.Goals as goal
 
@@ -89,3 +90,8 @@ returns-in-Err-clause-unblamed g c = λ m told all.
     c.in-Err.ensures.unblamed m (c.loop-i.invariant.kept ∙ told)
     (subst (λ (ps : List Loaded). All (IsReadable m) (projections_of ps)) c.index-tables-i.is
     (one_of projections_of (All (IsReadable m)) c.args.tables.now c.loop-i.tables c.loop-i.i c.index-tables-i.result c.loop-i.invariant.stored lt c.index-tables-i.is all))
+
+pub returns-in-Err-clause-blamed : goal.returns-in-Err-clause-blamed
+returns-in-Err-clause-blamed g c =
+    let lt : c.loop-i.i < length c.loop-i.tables = omega (arith, c.loop-i-test.true, c.loop-i.invariant.long, c.requires) in
+    parts_before c.args.tables.now c.loop-i.tables c.loop-i.i c.index-tables-i.result (g.D.Disk.holds c.loop-i.disk) (g.D.Disk.holds c.args.disk.now) c.in-Err.fault c.loop-i.invariant.stored lt c.loop-i.invariant.kept c.in-Err.ensures.blamed

@@ -1,10 +1,11 @@
-use Rattle.std.proofs.Common.{◌≡◌, ℕ, get_or, true, false, List, sym, ◌∙◌, ap, subst}
+use Rattle.std.proofs.Common.{◌≡◌, ℕ, get_or, true, false, List, sym, ◌∙◌, ap, subst, arith}
 use Rattle.col_disk.proofs.Moving.{moved_none, moved_wider}
 use Rattle.db_model.specs.Database.{is_behind}
 use Rattle.folder_model.specs.Projections.{shape_of}
 use Rattle.proj_store.specs.Loaded.{Loaded}
 use Rattle.stored_rows.specs.Stored.{Projected}
 use Rattle.moveout_job.specs.OnDisk.{IsMovedOut}
+use Rattle.table_store.proofs.Moves.{drained_blamed}
 use Rattle.table_store.specs.Moving.{with_entry_at}
 use Rattle.table_store.proofs.Drained.{at_weaker, below_there, draft_moved, draft_still, fresh_of, goes_moved, later_is, readable_there, spare_from, stored_there}
 use Rattle.table_store.proofs.Shapes.{draft_shape_at}
@@ -67,3 +68,10 @@ returns-in-Ok-with_moved-clause-goes_on g c =
     goes_moved c.what_is_read_is_stored.ensures.stored g.D.Disk s c.args.draft c.in-Ok-with_moved.draft c.args.table c.args.place w.next p.stored w.entry w.store c.requires.draft at late (fresh_of s.catalogue.last p.stored.entry late)
     moved c.in-Ok.ensures.rows c.in-Ok.ensures.loaded c.in-Ok.ensures.same c.write_out.ensures.moved
     (subst (λ (l : ℕ). c.in-Ok-with_moved.draft.root ≡ with_entry_at l w.next c.args.table c.args.place w.entry c.args.draft.root) c.last-last.ensures c.in-Ok-with_moved.ensures.root) c.in-Ok-with_moved.ensures.moved
+
+pub returns-in-Err-clause-blamed : goal.returns-in-Err-clause-blamed
+returns-in-Err-clause-blamed g c = λ m told.
+    let p = c.index-as_slice-place.result in
+    let s = c.args.store.now in
+    let at = stored_there c.tables.result.now s.stores c.args.table c.args.place c.index-tables-table.result p c.tables.ensures c.requires.there c.index-tables-table.is (c.index-as_slice-place.is ∙ ap (λ (ps : List Loaded). get_or ps c.args.place p) c.as_slice.ensures) in
+    drained_blamed s.stores c.args.table c.args.place p.stored m c.in-Err.fault at (c.in-Err.ensures.blamed m told)

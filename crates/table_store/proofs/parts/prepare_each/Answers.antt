@@ -10,6 +10,7 @@ use Rattle.table_store.specs.Changing.{Ready, CanApply, IsReady, all_coming, is_
 use Rattle.table_store.proofs.Loops.{made_more, fits_more, map_kept}
 use Rattle.table_store.proofs.Taking.{coming_none, coming_push, takes_whole}
 use Rattle.table_store.specs.Faults.{IsReadable}
+use Rattle.table_store.proofs.Blames.{part_before}
 use Rattle.table_store.proofs.Unblamed.{one_of}
 use Rattle.table_store.proofs.parts.prepare_each.Goals as goal
 
@@ -82,3 +83,8 @@ returns-in-Err-clause-unblamed g c = λ m told all.
     c.in-Err.ensures.unblamed m (c.loop-i.invariant.kept ∙ told)
     (subst (λ (p : Loaded). IsReadable m p.stored) c.index-stores-i.is
     (one_of (λ (p : Loaded). p.stored) (IsReadable m) c.args.stores.now c.loop-i.stores c.loop-i.i c.index-stores-i.result c.loop-i.invariant.stored lt c.index-stores-i.is all))
+
+pub returns-in-Err-clause-blamed : goal.returns-in-Err-clause-blamed
+returns-in-Err-clause-blamed g c =
+    let lt : c.loop-i.i < length c.loop-i.stores = omega (arith, c.loop-i-test.true, c.loop-i.invariant.long) in
+    part_before c.args.stores.now c.loop-i.stores c.loop-i.i c.index-stores-i.result (g.D.Disk.holds c.loop-i.disk) (g.D.Disk.holds c.args.disk.now) c.in-Err.fault c.loop-i.invariant.stored lt c.loop-i.invariant.kept c.in-Err.ensures.blamed

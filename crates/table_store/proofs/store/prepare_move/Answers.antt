@@ -8,6 +8,9 @@ use Rattle.table_store.proofs.Drawn.{move_draws, move_job}
 use Rattle.table_store.proofs.Moved.{drawn_later, fresh_table, fresh_place, rewritten}
 use Rattle.col_disk.specs.Faults.{IsUnblamed}
 use Rattle.table_store.proofs.Shapes.{moved_shape_at}
+use Rattle.col_disk.specs.declared.disk.StoreFault.{StoreFault}
+use Rattle.table_store.specs.Faults.{BlamesVectorsAt}
+use Rattle.table_store.proofs.Moves.{disk_at, moved_blamed, written_blamed}
 use Rattle.table_store.proofs.Unblamed.{moved_unblamed, of_disk}
 use Rattle.table_store.proofs.store.prepare_move.Goals as goal
 
@@ -79,3 +82,17 @@ returns-in-Err-load-clause-unblamed g c = λ m n was now all.
 
 pub returns-in-Ok-with_entry_at-clause-version : goal.returns-in-Ok-with_entry_at-clause-version
 returns-in-Ok-with_entry_at-clause-version g c = omega (arith, ap (λ (k : Catalogue). k.next) c.in-Ok-with_entry_at.ensures.catalogue)
+
+pub returns-in-Err-clause-blamed : goal.returns-in-Err-clause-blamed
+returns-in-Err-clause-blamed g c = λ m told.
+    let tables = map projections_of c.args.tables.now in
+    subst (λ (f : StoreFault). BlamesVectorsAt tables c.args.table c.args.place m f) (sym c.from.ensures) (disk_at tables c.args.table c.args.place m c.in-Err.fault)
+
+pub returns-in-Err-load-clause-blamed : goal.returns-in-Err-load-clause-blamed
+returns-in-Err-load-clause-blamed g c = λ m told.
+    let ps = c.index-tables-table.result in
+    let p = c.index-as_slice-place.result in
+    let p_is : p ≡ get_or ps c.args.place p = c.index-as_slice-place.is ∙ ap (λ (qs : List Loaded). get_or qs c.args.place p) c.as_slice.ensures in
+    moved_blamed c.args.tables.now c.args.table c.args.place ps p m c.in-Err-load.fault c.requires.fresh c.index-tables-table.is p_is
+    (written_blamed c.in-Ok.out.next p.stored c.in-Ok.out.entry c.in-Ok-entry_copy.copy (g.D.Disk.holds c.moveout.new.disk) (g.D.Disk.holds c.load.new.disk) c.in-Err-load.fault
+    c.in-Ok.ensures.vectors c.in-Ok-entry_copy.ensures c.in-Err-load.ensures.blamed c.load.ensures.looks.contents m told)

@@ -4,6 +4,7 @@ use Rattle.moveout_job.proofs.Renewed.{later_data, vector_data}
 use Rattle.mergeout_job.specs.Job.{Mergeout, seen}
 use Rattle.mergeout_job.specs.Merged.{IsMerged}
 use Rattle.mergeout_job.proofs.Installed.{finished_rises, keeps_at, merged_is, merged_below, merged_count, merged_levels, merged_loads, merged_rises}
+use Rattle.mergeout_job.proofs.Vectors.{merged_vectors}
 use Rattle.mergeout_job.proofs.job.MergeJob.install.Goals as goal
 
 pub returns-then-next-ge-MOST_NUMBERS-clause-moved : goal.returns-then-next-ge-MOST_NUMBERS-clause-moved
@@ -130,3 +131,11 @@ returns-in-Ok-merged_entry-clause-keeps g c =
     c.in-Ok.level c.in-Ok-deletes_now.dels.items c.as_slice-dels.result.now c.as_slice-inputs.result.now c.places-places.result.now c.self.view_is c.entry.ensures.entry c.entry-2.ensures.entry c.in-Ok.ensures c.requires.four c.requires.numbers refl
     c.as_slice-inputs.ensures.value c.places-places.ensures.places c.as_slice-dels.ensures.value c.as_slice-others.ensures.value c.in-Ok-deletes_now.ensures c.in-Ok-finish.ensures.held c.in-Ok-finish.ensures.numbers c.finish.ensures.moved
     c.in-Ok-save_memory.ensures.others c.in-Ok-save_memory.ensures.memory c.in-Ok-save_memory.ensures.saved c.save_memory.ensures.moved c.in-Ok-merged_entry.ensures
+
+pub returns-in-Ok-merged_entry-clause-vectors : goal.returns-in-Ok-merged_entry-clause-vectors
+returns-in-Ok-merged_entry-clause-vectors g c =
+    let made = c.in-Ok-finish.made in
+    let saved = c.in-Ok-save_memory.saved in
+    merged_vectors g.D.Disk (length c.entry.result.now.columns) c.in-Ok.level c.args.next made.next saved.next c.self.inside.draft c.args.p.now.stored.entry c.entry-2.result.now c.in-Ok-merged_entry.entry c.as_slice-inputs.result.now made.container saved.memory
+    saved.containers.items c.as_slice-others.result.now c.in-Ok-finish.ensures.numbers c.in-Ok-finish.ensures.vector c.in-Ok-save_memory.ensures.saved c.save_memory.ensures.moved c.in-Ok-save_memory.ensures.vectors c.as_slice-others.ensures.value
+    c.in-Ok-merged_entry.ensures

@@ -8,6 +8,7 @@ use Rattle.store_commit.specs.Seen.{Seen}
 use Rattle.table_store.specs.Held.{at_epoch}
 use Rattle.table_store.specs.Committing.{ready_with}
 use Rattle.table_store.proofs.Standing.{reads_only, held_still, held_applied, commit_done}
+use Rattle.table_store.specs.Faults.{BlamesStored}
 use Rattle.table_store.proofs.Unblamed.{commit_unblamed}
 use Rattle.table_store.proofs.store.TableStore.commit.Goals as goal
 
@@ -38,3 +39,6 @@ returns-clause-catalogue g c = ap (λ (s : Seen). at_epoch (s.catalogue.last + 1
 pub returns-in-Err-clause-unblamed : goal.returns-in-Err-clause-unblamed
 returns-in-Err-clause-unblamed g c = λ d stands.
     commit_unblamed g.D.Disk c.args.disk.now c.self.inside.root c.self.inside.last c.self.inside.tables.items c.args.self.now d c.in-Err.fault c.self.view_is stands c.in-Err.ensures.unblamed
+
+pub returns-in-Err-clause-blamed : goal.returns-in-Err-clause-blamed
+returns-in-Err-clause-blamed g c = subst (λ (s : Seen). BlamesStored s.stores (g.D.Disk.holds c.args.disk.now) c.in-Err.fault) c.self.view_is c.in-Err.ensures.blamed

@@ -12,6 +12,8 @@ use Rattle.table_store.specs.Moving.{with_entry_at}
 use Rattle.table_store.proofs.Installed.{install_made, nothing_done, read_only, renewed_table, renewed_place}
 use Rattle.table_store.proofs.Makes.{move_held, move_seen, store_done, store_makes}
 use Rattle.table_store.proofs.Shapes.{renewed_shape}
+use Rattle.proj_store.specs.Reading.{BlamesLoad}
+use Rattle.table_store.proofs.Moves.{disk_loads}
 use Rattle.table_store.proofs.Unblamed.{load_unblamed}
 use Rattle.catalog_types.specs.declared.catalogue.Catalogue.{Catalogue}
 use Rattle.table_store.proofs.store.TableStore.install.Goals as goal
@@ -90,3 +92,8 @@ returns-clause-made g c = λ d stands holds.
 
 pub settle-requires-clause-drawn : goal.settle-requires-clause-drawn
 settle-requires-clause-drawn g c = omega (arith, ap (λ (k : Catalogue). k.next) c.in-Ok-with_entry_at.ensures.catalogue)
+
+pub returns-in-Err-settle-clause-blamed : goal.returns-in-Err-settle-clause-blamed
+returns-in-Err-settle-clause-blamed g c =
+    let h = g.D.Disk.holds c.args.disk.now in
+    subst (λ (f : StoreFault). BlamesLoad c.args.entry.containers h f) (sym c.from.ensures) (disk_loads c.args.entry.containers h c.in-Err-settle.fault)

@@ -7,6 +7,8 @@ use Rattle.store_commit.specs.Making.{Makes}
 use Rattle.table_store.specs.Draining.{all_caught_up}
 use Rattle.table_store.proofs.Counted.{no_length, some_moved}
 use Rattle.table_store.proofs.Drains.{counted, drain_empty, drain_made, drain_none, drain_seen, drain_short, drain_unblamed, draws_last}
+use Rattle.table_store.specs.Faults.{BlamesVectors}
+use Rattle.table_store.proofs.Moves.{disk_any}
 use Rattle.table_store.proofs.Makes.{store_done, store_makes}
 use Rattle.table_store.proofs.store.TableStore.move_all.Goals as goal
 
@@ -64,3 +66,7 @@ returns-clause-drawn g c = λ d stands.
     draws_last (length c.in-Ok.draft.moved.items) (length (behind d)) c.self.inside.last c.args.self.now.catalogue c.in-Ok.draft.root
     (counted g.D.Disk c.self.inside.root c.self.inside.last c.self.inside.tables.items c.args.self.now c.in-Ok.draft d
     (record { view = c.self.view_is; held = c.self.invariant; some = some; moved = c.drain.ensures.moved }) is c.in-Ok.ensures.goes_on stands) is.draws
+
+pub returns-in-Err-settle-clause-blamed : goal.returns-in-Err-settle-clause-blamed
+returns-in-Err-settle-clause-blamed g c = λ m told.
+    subst (λ (f : StoreFault). BlamesVectors c.args.self.now.stores m f) (sym c.from.ensures) (disk_any c.args.self.now.stores m c.in-Err-settle.fault)

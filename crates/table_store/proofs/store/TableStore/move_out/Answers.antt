@@ -14,7 +14,8 @@ use Rattle.table_store.specs.Moving.{IsFreshAt, IsRewritten}
 use Rattle.table_store.proofs.Moved.{fresh_table, fresh_place, rewritten_catalogue}
 use Rattle.table_store.proofs.Makes.{move_short, move_made, move_seen, move_held, store_makes, store_done}
 use Rattle.col_disk.specs.Faults.{IsUnblamed}
-use Rattle.table_store.specs.Faults.{IsReadable}
+use Rattle.table_store.specs.Faults.{BlamesVectorsAt, IsReadable}
+use Rattle.table_store.proofs.Moves.{disk_at}
 use Rattle.table_store.proofs.Unblamed.{move_unblamed, of_disk}
 use Rattle.table_store.proofs.store.TableStore.move_out.Goals as goal
 
@@ -104,3 +105,15 @@ returns-in-Err-clause-unblamed g c = λ d stands.
 
 pub returns-in-Err-settle-clause-unblamed : goal.returns-in-Err-settle-clause-unblamed
 returns-in-Err-settle-clause-unblamed g c = λ d stands. subst IsUnblamed (sym c.from.ensures) (of_disk c.in-Err-settle.fault)
+
+pub returns-in-Err-clause-blamed : goal.returns-in-Err-clause-blamed
+returns-in-Err-clause-blamed g c = λ m told.
+    let i = c.args.table in
+    let j = c.args.place in
+    subst (λ (s : Seen). BlamesVectorsAt s.stores i j m c.in-Err.fault) c.self.view_is
+    (subst (λ (ts : List (List Loaded)). BlamesVectorsAt (map projections_of ts) i j m c.in-Err.fault) c.as_slice.ensures.value (c.in-Err.ensures.blamed m told))
+
+pub returns-in-Err-settle-clause-blamed : goal.returns-in-Err-settle-clause-blamed
+returns-in-Err-settle-clause-blamed g c = λ m told.
+    let stores = c.args.self.now.stores in
+    subst (λ (f : StoreFault). BlamesVectorsAt stores c.args.table c.args.place m f) (sym c.from.ensures) (disk_at stores c.args.table c.args.place m c.in-Err-settle.fault)
