@@ -14,7 +14,7 @@ abbrev pub stamped_of : StampedRef → Stamped
 stamped_of s = record { row = s.row.now; ins = s.ins; del = s.del }
 
 abbrev pub restamp : Keyed → Stamped
-restamp k = stamped_of k.stamped
+restamp k = record { row = k.stamped.row.now; ins = k.stamped.ins; del = k.stamped.del }
 
 -- the row without its delete epoch, as the columns of a container have it
 abbrev pub asked_of : Keyed → Asked

@@ -7,14 +7,14 @@ ghost use Rattle.container_writer.specs.Ordered.{asked_of, container_cmp};
 
 use crate::refs::{Keyed, StampedRef};
 use catalog_types::Projection;
-use col_value::{Row, Value};
+use col_value::Value;
 use std::cmp::Ordering;
 
 /// The order of two rows by one column; a value that is not there is NULL.
-fn order_at(a: &Row, b: &Row, column: usize) -> Ordering
+fn order_at(a: &[Value], b: &[Value], column: usize) -> Ordering
     ensures { result ≡ value_cmp (slice_index_or a.now column Null) (slice_index_or b.now column Null) }
 {
-    match (a.as_slice().get(column), b.as_slice().get(column)) {
+    match (a.get(column), b.get(column)) {
         (Some(a), Some(b)) => a.order(b),
         (Some(a), None) => a.order(&Value::Null),
         (None, Some(b)) => Value::Null.order(b),
@@ -23,7 +23,7 @@ fn order_at(a: &Row, b: &Row, column: usize) -> Ordering
 }
 
 /// The order of two rows by some columns, the first of them first.
-fn order_on(a: &Row, b: &Row, columns: &[usize]) -> Ordering
+fn order_on(a: &[Value], b: &[Value], columns: &[usize]) -> Ordering
     ensures { result ≡ row_cmp (projected a.now columns.now) (projected b.now columns.now) }
 {
     for column in columns {
@@ -36,9 +36,9 @@ fn order_on(a: &Row, b: &Row, columns: &[usize]) -> Ordering
 }
 
 /// Whether a row stands before another in a container, or at its place.
-pub fn have_risen(shape: &Projection, a: &Row, b: &Row) -> bool {
+pub fn have_risen(shape: &Projection, a: &[Value], b: &[Value]) -> bool {
     match order_on(a, b, shape.sort.as_slice()) {
-        Ordering::Equal => a.order(b).is_le(),
+        Ordering::Equal => a.cmp(b).is_le(),
         order => order.is_lt(),
     }
 }
@@ -49,7 +49,7 @@ pub fn container_order(shape: &Projection, a: &Keyed, b: &Keyed) -> Ordering
 {
     let (a, b) = (a.stamped, b.stamped);
     match order_on(a.row, b.row, shape.sort.as_slice()) {
-        Ordering::Equal => match a.row.order(b.row) {
+        Ordering::Equal => match a.row.cmp(b.row) {
             Ordering::Equal => a.ins.cmp(&b.ins),
             order => order,
         },

@@ -10,17 +10,14 @@ ghost use Rattle.container_writer.specs.Ordered.{asked_of, container_cmp, restam
 
 use crate::order::{container_order, have_risen};
 use crate::packing::{Packed, packed_ranks, packing_of};
-use crate::refs::{Keyed, Ranks, StampedRef};
+use crate::refs::{Keyed, Ranks, StampedRef, StampedValues};
 use catalog_types::Projection;
 use std::alloc::{AllocError, Global};
 use std::cmp::Ordering;
 
 fn by_ranks(a: &Ranks, b: &Ranks) -> Ordering {
     match a.first.cmp(&b.first) {
-        Ordering::Equal => match a.second.cmp(&b.second) {
-            Ordering::Equal => a.third.cmp(&b.third),
-            order => order,
-        },
+        Ordering::Equal => a.second.cmp(&b.second),
         order => order,
     }
 }
@@ -30,7 +27,7 @@ fn are_rising(shape: &Projection, rows: &[StampedRef]) -> bool {
     let mut rest = rows;
     while let [a, later @ ..] = rest {
         if let [b, ..] = later {
-            if !have_risen(shape, a.row, b.row) {
+            if !have_risen(shape, a.row.as_slice(), b.row.as_slice()) {
                 return false;
             }
         }
@@ -51,10 +48,16 @@ fn with_ranks<'a>(
 {
     let mut out = Vec::with_capacity(alloc, rows.len())?;
     for stamped in rows {
-        if stamped.row.as_slice().len() != columns {
+        let row = stamped.row.as_slice();
+        if row.len() != columns {
             return Err(AllocError);
         }
-        let ranks = packed_ranks(stamped.row, packing);
+        let ranks = packed_ranks(row, packing);
+        let stamped = StampedValues {
+            row,
+            ins: stamped.ins,
+            del: stamped.del,
+        };
         out.push(Keyed { ranks, stamped })?;
     }
     Ok(out)

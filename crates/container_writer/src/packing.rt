@@ -6,18 +6,19 @@
 use crate::ranks::{Rank, order_columns, rank_alone, rank_of};
 use crate::refs::{Ranks, StampedRef};
 use catalog_types::Projection;
-use col_value::Row;
+use col_value::Value;
 use std::alloc::{AllocError, Global};
 
 /// The numbers beside a row.
-const WORDS: usize = 3;
+const WORDS: usize = 2;
 
 /// How many columns of an order are looked at.
 const MOST: usize = 6;
 
-/// What the ranks of a column are over some rows.
+/// What the ranks of a column are over some rows, but for those of NULL.
 #[derive(Clone, Copy, Debug)]
 struct Spread {
+    first: u64,
     least: u64,
     greatest: u64,
     /// The bits in which some rank differs from the first.
@@ -25,7 +26,7 @@ struct Spread {
     alone: bool,
 }
 
-/// Where the ranks of a column stand: in which number, without how many low bits, in how many.
+/// Where the ranks of a column stand: in which number, from which one on, without how many low bits, in how many.
 #[derive(Clone, Copy, Debug)]
 pub struct Packed {
     column: usize,
@@ -35,37 +36,34 @@ pub struct Packed {
     bits: u32,
 }
 
-fn rank_in(row: &Row, column: usize) -> Rank {
-    match row.as_slice().get(column) {
+fn rank_in(row: &[Value], column: usize) -> Rank {
+    match row.get(column) {
         Some(value) => rank_of(value),
         None => rank_alone(0),
     }
 }
 
-/// What the ranks of a column are over these rows and one before them.
-fn spread_over(first: u64, rows: &[StampedRef], column: usize) -> Spread {
+fn spread_of(rows: &[StampedRef], column: usize) -> Spread {
     let mut spread = Spread {
-        least: first,
-        greatest: first,
+        first: 0,
+        least: u64::MAX,
+        greatest: 0,
         varied: 0,
         alone: true,
     };
     for stamped in rows {
-        let rank = rank_in(stamped.row, column);
-        spread.least = spread.least.min(rank.at);
-        spread.greatest = spread.greatest.max(rank.at);
-        spread.varied |= rank.at ^ first;
+        let rank = rank_in(stamped.row.as_slice(), column);
+        if rank.at != 0 {
+            if spread.first == 0 {
+                spread.first = rank.at;
+            }
+            spread.least = spread.least.min(rank.at);
+            spread.greatest = spread.greatest.max(rank.at);
+            spread.varied |= rank.at ^ spread.first;
+        }
         spread.alone &= rank.alone;
     }
     spread
-}
-
-fn spread_of(rows: &[StampedRef], column: usize) -> Spread {
-    let first = match rows.first() {
-        Some(stamped) => rank_in(stamped.row, column).at,
-        None => 0,
-    };
-    spread_over(first, rows, column)
 }
 
 /// A number without so many low bits.
@@ -73,16 +71,25 @@ fn shifted(n: u64, shift: u32) -> u64 {
     n >> (shift % 64)
 }
 
+/// A rank as it stands beside rows: that of NULL is 0.
+fn packed_rank(at: u64, least: u64, shift: u32) -> u64 {
+    if at == 0 {
+        0
+    } else {
+        shifted(at.wrapping_sub(least), shift).wrapping_add(1)
+    }
+}
+
 /// Where a column's ranks go that have this spread, in the word; how many bits they have there.
 fn packed_in(spread: &Spread, column: usize, word: usize) -> Packed {
     let shift = spread.varied.trailing_zeros();
-    let width = shifted(spread.greatest.wrapping_sub(spread.least), shift);
+    let greatest = packed_rank(spread.greatest, spread.least, shift);
     Packed {
         column,
         word,
         least: spread.least,
         shift,
-        bits: 64_u32.wrapping_sub(width.leading_zeros()),
+        bits: 64_u32.wrapping_sub(greatest.leading_zeros()),
     }
 }
 
@@ -118,16 +125,15 @@ pub fn packing_of(
 }
 
 /// The numbers beside a row.
-pub fn packed_ranks(row: &Row, packing: &[Packed]) -> Ranks {
-    let mut words: [u64; 3] = [0; 3];
+pub fn packed_ranks(row: &[Value], packing: &[Packed]) -> Ranks {
+    let mut words: [u64; 2] = [0; 2];
     for packed in packing {
-        let at = rank_in(row, packed.column).at.wrapping_sub(packed.least);
+        let at = packed_rank(rank_in(row, packed.column).at, packed.least, packed.shift);
         let word = packed.word % WORDS;
-        words[word] = (words[word] << (packed.bits % 64)) | shifted(at, packed.shift);
+        words[word] = (words[word] << (packed.bits % 64)) | at;
     }
     Ranks {
         first: words[0],
         second: words[1],
-        third: words[2],
     }
 }

@@ -10,7 +10,7 @@ ghost use Rattle.container_writer.specs.Ordered.{asked_of};
 
 use crate::refs::{Keyed, StampedRef};
 use block_choice::takes_all;
-use col_value::{Encoding, Row, Value};
+use col_value::{Encoding, Value};
 use std::alloc::{AllocError, Global};
 use value_bytes::is_value;
 
@@ -27,11 +27,11 @@ fn taken(values: Vec<Value>, encoding: Encoding) -> Result<Vec<Value>, AllocErro
 }
 
 /// The value of a row in a column, where a table may have it; one that is not there is NULL.
-fn value_of(alloc: Global, row: &Row, column: usize) -> Result<Value, AllocError>
+fn value_of(alloc: Global, row: &[Value], column: usize) -> Result<Value, AllocError>
     ensures same { IfOk result (λ v. v ≡ slice_index_or row.now column Null) }
     ensures value { IfOk result IsValue }
 {
-    match row.as_slice().get(column) {
+    match row.get(column) {
         Some(value) if is_value(value) => value.copy(alloc),
         Some(_) => Err(AllocError),
         None => Ok(Value::Null),
