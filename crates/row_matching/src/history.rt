@@ -11,6 +11,7 @@ ghost use Rattle.row_history.specs.History.{is_retained, retained};
 ghost use Rattle.db_model.specs.Database.{Database};
 ghost use Rattle.query_cover.specs.Seen.{placed, value_at};
 ghost use Rattle.store_commit.specs.Seen.{Stands};
+ghost use Rattle.table_store.specs.Faults.{BlamesStored};
 ghost use Rattle.row_matching.specs.Keeping.{history, KeepsAll};
 
 use crate::sources::{Source, source_of};
@@ -117,7 +118,7 @@ pub fn retain(
 }
 
 /// The rows of the table at a place that are retained from a mark on, with their epochs, in any order; their columns stand as the table has
-/// them. No file is blamed where the store stands for a database. Nothing is written.
+/// them. A file of a container is blamed only where it holds no rows, so none where the store stands for a database. Nothing is written.
 pub fn table_history<D: Disk>(
     alloc: Global,
     tables: &TableStore,
@@ -128,6 +129,7 @@ pub fn table_history<D: Disk>(
     ensures found { IfOk result (λ v. (d : Database) → Stands ⟦<D as Disk>⟧ tables.now disk.old d → d.ahm ≤ mark → IsSomeAnd (slice_get d.tables table) (λ t. SameBag v.items (retained mark t.rows))) }
     ensures valid { IfOk result (λ v. All (λ s. IsRow s.row) v.items) }
     ensures unblamed { IfErr result (λ fault. (d : Database) → Stands ⟦<D as Disk>⟧ tables.now disk.old d → IsUnblamed fault) }
+    ensures blamed { IfErr result (BlamesStored tables.now.stores (D.holds disk.old)) }
     ensures kept { D.holds disk.new ≡ D.holds disk.old }
     ensures moved { Moved ⟦<D as Disk>⟧ NoName NoName disk.old disk.new }
     ensures cause { HasCause StoreFault.Disk (D.faults disk.old) (D.faults disk.new) result }

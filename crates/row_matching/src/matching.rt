@@ -10,6 +10,7 @@ ghost use Rattle.sql_bound.specs.Outputs.{is_kept};
 ghost use Rattle.db_model.specs.Database.{Database};
 ghost use Rattle.db_model.specs.State.{pending_deletes, pending_rows};
 ghost use Rattle.col_disk.specs.Faults.{IsUnblamed};
+ghost use Rattle.table_store.specs.Faults.{BlamesStored};
 ghost use Rattle.row_matching.specs.Matching.{AreMatches, CanMatch};
 
 use crate::keeping::{kept_rows, other_rows};
@@ -91,8 +92,8 @@ pub fn rows_left(
     other_rows(alloc, keep, pending_rows(changes, name))
 }
 
-/// The rows of the table at a place that a session with these changes sees and on which all conditions are true. No file is blamed where the
-/// store stands for a database. Nothing is written.
+/// The rows of the table at a place that a session with these changes sees and on which all conditions are true. A file of a container is
+/// blamed only where it holds no rows, so none where the store stands for a database. Nothing is written.
 pub fn match_rows<D: Disk>(
     alloc: Global,
     tables: &TableStore,
@@ -105,6 +106,7 @@ pub fn match_rows<D: Disk>(
     ensures matched { IfOk result (λ r. (d : Database) → CanMatch ⟦<D as Disk>⟧ tables.now disk.old changes.now d → AreMatches keep.now d changes.now table r.committed.items r.pending.items) }
     ensures valid { IfOk result (λ r. All (λ a. IsRow a.row) r.committed.items × All IsRow r.pending.items) }
     ensures unblamed { IfErr result (λ fault. (d : Database) → CanMatch ⟦<D as Disk>⟧ tables.now disk.old changes.now d → IsUnblamed fault) }
+    ensures blamed { IfErr result (BlamesStored tables.now.stores (D.holds disk.old)) }
     ensures kept { D.holds disk.new ≡ D.holds disk.old }
     ensures moved { Moved ⟦<D as Disk>⟧ NoName NoName disk.old disk.new }
     ensures cause { HasCause StoreFault.Disk (D.faults disk.old) (D.faults disk.new) result }

@@ -13,6 +13,7 @@ ghost use Rattle.sql_bound.specs.Outputs.{is_kept};
 ghost use Rattle.stored_rows.specs.Stored.{Stores};
 ghost use Rattle.wanted_rows.specs.Wanted.{need_in, tally};
 ghost use Rattle.col_disk.specs.Faults.{IsUnblamed};
+ghost use Rattle.proj_store.specs.Reading.{BlamesRows};
 ghost use Rattle.exec_scan.specs.Scanning.{AreOwn};
 ghost use Rattle.row_matching.specs.Seeing.{AreOthers, Keeps, Sifts, SiftsMore, asked, seen_rows, told_rows};
 
@@ -136,6 +137,7 @@ pub fn committed_rows<D: Disk>(
     ensures found { IfOk result (λ v. (m : Contents) → D.holds disk.old ≡ Some m → (rows : List Stamped) → Stores m store.now.stored rows → AreOthers keeps.now gone.now (seen_rows epoch places.items rows) v.items) }
     ensures valid { IfOk result (λ v. All (λ a. IsRow a.row) v.items) }
     ensures unblamed { IfErr result (λ fault. (m : Contents) → D.holds disk.old ≡ Some m → (rows : List Stamped) → Stores m store.now.stored rows → IsUnblamed fault) }
+    ensures blamed { IfErr result (BlamesRows store.now.stored.entry (D.holds disk.old)) }
     ensures kept { D.holds disk.new ≡ D.holds disk.old }
     ensures moved { Moved ⟦<D as Disk>⟧ NoName NoName disk.old disk.new }
     ensures cause { HasCause StoreFault.Disk (D.faults disk.old) (D.faults disk.new) result }

@@ -12,7 +12,8 @@ use Rattle.stored_rows.specs.Stored.{Projected}
 use Rattle.table_store.specs.Held.{projections_of}
 use Rattle.row_matching.specs.Keeping.{history, KeepsAll}
 use Rattle.row_matching.specs.Seeing.{IsSource}
-use Rattle.row_matching.proofs.Answered.{IsAt, got_at}
+use Rattle.table_store.proofs.Blames.{stored_blamed}
+use Rattle.row_matching.proofs.Answered.{IsAt, got_at, stored_at}
 use Rattle.row_matching.proofs.Kept.{history_found, none_to_blame}
 use Rattle.row_matching.proofs.history.table_history.Goals as goal
 
@@ -41,6 +42,19 @@ returns-in-Err-stamped-clause-unblamed g c = λ d stands.
       many = ap (λ (cs : List Column). length cs) c.as_slice-2.ensures;
     } in
     none_to_blame g.D.Disk c.args.disk.now s i source.place (length c.as_slice-2.result.now) source.places.items t parts store c.in-Err-stamped.fault d at c.in-Err-stamped.ensures.blamed stands
+
+pub returns-in-Err-stamped-clause-blamed : goal.returns-in-Err-stamped-clause-blamed
+returns-in-Err-stamped-clause-blamed g c =
+    let s = c.args.tables.now in
+    let i = c.args.table in
+    let parts = c.in-Some-get.parts.now in
+    let place = c.in-Ok.source.place in
+    let store = c.in-Some-get-2.store.now in
+    let loaded : slice_get c.tables.result.now i ≡ Some parts = got_at c.tables.result.now i parts c.in-Some-get.ensures.lookup.0 c.in-Some-get.ensures.lookup.1 in
+    let one : slice_get c.as_slice-parts.result.now place ≡ Some store = got_at c.as_slice-parts.result.now place store c.in-Some-get-2.ensures.lookup.0 c.in-Some-get-2.ensures.lookup.1 in
+    stored_blamed s.stores i place (projections_of parts) store.stored (g.D.Disk.holds c.args.disk.now) c.in-Err-stamped.fault
+    (ap (λ (xs : List (List Projected)). slice_get xs i) (sym c.tables.ensures) ∙ slice_get-map projections_of c.tables.result.now i ∙ ap (λ (o : Option (List Loaded)). option_map projections_of o) loaded)
+    (stored_at parts place store (subst (λ (xs : List Loaded). slice_get xs place ≡ Some store) c.as_slice-parts.ensures one)) c.in-Err-stamped.ensures.blamed
 
 pub returns-in-Ok-retain-clause-found : goal.returns-in-Ok-retain-clause-found
 returns-in-Ok-retain-clause-found g c = λ d stands le.

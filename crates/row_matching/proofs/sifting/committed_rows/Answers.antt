@@ -7,8 +7,10 @@ use Rattle.col_value.specs.Order.{IsRow}
 use Rattle.col_value.specs.declared.row.Asked.{Asked}
 use Rattle.row_bounds.specs.declared.bound.Bound.{Bound}
 use Rattle.wanted_rows.specs.Wanted.{need_in}
+use Rattle.common_laws.specs.Maps.{Contents}
+use Rattle.proj_store.specs.Reading.{BlamesRows}
 use Rattle.exec_scan.specs.Batches.{Shown}
-use Rattle.exec_scan.specs.Scanning.{Gives, IsScanOf, Place}
+use Rattle.exec_scan.specs.Scanning.{Gives, IsAtHand, IsScanOf, Place}
 use Rattle.row_matching.proofs.Others.{Bounded, sought_all, sought_more, sought_none, Wanted}
 use Rattle.row_matching.proofs.sifting.committed_rows.Goals as goal
 
@@ -18,6 +20,7 @@ loop-batch-init g c = record {
       c.new-out.ensures.items stores;
   bounded = subst (λ (w : List Bound). Bounded c.args.keeps.now w) (sym (ap (λ (s : Place). s.bounds) c.new-scan.ensures)) c.in-Ok.ensures.kept;
   scan_of = subst (λ (s : Place). IsScanOf c.args.store.now.stored.entry s) (sym c.new-scan.ensures) (record { own = c.requires.own; opening = tt; closed = λ none. refl });
+  at_hand = subst (λ (s : Place). IsAtHand (g.D.Disk.holds c.args.disk.now) c.args.store.now.stored s) (sym c.new-scan.ensures) tt;
   epoch_is = ap (λ (s : Place). s.epoch) c.new-scan.ensures;
   places_are = ap (λ (s : Place). s.places) c.new-scan.ensures;
   stamps_are = ap (λ (s : Place). s.stamps) c.new-scan.ensures;
@@ -47,6 +50,10 @@ returns-in-Err-next-clause-unblamed g c = λ m told rows stores.
     let was = c.loop-batch.invariant.sought m told rows stores in
     c.in-Err-next.ensures.unblamed m (c.loop-batch.invariant.kept ∙ told) was.rest was.left
 
+pub returns-in-Err-next-clause-blamed : goal.returns-in-Err-next-clause-blamed
+returns-in-Err-next-clause-blamed g c =
+    subst (λ (h : Option Contents). BlamesRows c.args.store.now.stored.entry h c.in-Err-next.fault) c.loop-batch.invariant.kept (c.in-Err-next.ensures.blamed c.loop-batch.invariant.at_hand)
+
 pub returns-in-Err-next-clause-moved : goal.returns-in-Err-next-clause-moved
 returns-in-Err-next-clause-moved g c = moved_join g.D.Disk c.loop-batch.invariant.moved c.next.ensures.moved
 
@@ -63,6 +70,7 @@ loop-batch-preserved g c =
           (c.in-Ok-Some.ensures.gives m (c.loop-batch.invariant.kept ∙ told) left are)) c.in-Ok-sift_batch.ensures.sifted (c.loop-batch.invariant.sought m told rows stores);
       bounded = subst (λ (w : List Bound). Bounded c.args.keeps.now w) (sym c.in-Ok-Some.ensures.same.bounds) c.loop-batch.invariant.bounded;
       scan_of = c.in-Ok-Some.ensures.scan;
+      at_hand = c.in-Ok-Some.ensures.at_hand c.loop-batch.invariant.at_hand;
       epoch_is = c.in-Ok-Some.ensures.same.epoch ∙ c.loop-batch.invariant.epoch_is;
       places_are = c.in-Ok-Some.ensures.same.places ∙ c.loop-batch.invariant.places_are;
       stamps_are = c.in-Ok-Some.ensures.same.stamps ∙ c.loop-batch.invariant.stamps_are;

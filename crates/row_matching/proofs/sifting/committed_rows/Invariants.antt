@@ -7,7 +7,7 @@ use Rattle.col_value.specs.Order.{IsRow}
 use Rattle.col_value.specs.declared.row.Stamped.{Stamped}
 use Rattle.stored_rows.specs.Stored.{Stores}
 use Rattle.wanted_rows.specs.Wanted.{need_in}
-use Rattle.exec_scan.specs.Scanning.{IsScanOf, steps_left}
+use Rattle.exec_scan.specs.Scanning.{IsAtHand, IsScanOf, steps_left}
 use Rattle.row_matching.proofs.Others.{Bounded, Wanted, Sought}
 use Rattle.row_matching.proofs.sifting.committed_rows.Given as goal
 
@@ -16,6 +16,7 @@ invariant-loop-batch g l = record {
   sought : (m : Contents) → g.D.Disk.holds l.fn.disk ≡ Some m → (rows : List Stamped) → Stores m l.store.stored rows → Sought m l.store.stored l.keeps l.epoch l.fn.places.items (Wanted l.gone) l.scan rows (need_in l.wants) l.out.items;
   bounded : Bounded l.keeps l.scan.bounds;
   scan_of : IsScanOf l.store.stored.entry l.scan;
+  at_hand : IsAtHand (g.D.Disk.holds l.disk) l.store.stored l.scan;
   epoch_is : l.scan.epoch ≡ l.epoch;
   places_are : l.scan.places ≡ l.fn.places.items;
   stamps_are : l.scan.stamps ≡ true;
