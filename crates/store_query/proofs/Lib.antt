@@ -1,3 +1,4 @@
+pub mod Blames
 pub mod Bound
 pub mod Lessens
 pub mod Pendings

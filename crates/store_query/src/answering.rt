@@ -7,7 +7,7 @@ ghost use Rattle.db_model.specs.Database.{Database};
 ghost use Rattle.query_laws.specs.Bounded.{IsBoundedQuery};
 ghost use Rattle.sql_bound.specs.Outputs.{output, IsSumTooGreat};
 ghost use Rattle.sql_bound.specs.Printed.{IsPrinted};
-ghost use Rattle.store_query.specs.Faults.{IsUnblamed};
+ghost use Rattle.store_query.specs.Faults.{BlamesRead, IsUnblamed};
 ghost use Rattle.store_query.specs.Reading.{source_rows, CanRead};
 
 use crate::fault::SelectFault;
@@ -23,8 +23,8 @@ use txn_core::Session;
 
 /// The rows that a query prints over the tables of a store, in their order: over what the session sees, or over what was committed up to
 /// an epoch. `SumOutOfRange` comes exactly where in some group, also in one that HAVING drops, the magnitudes of the values of one SUM
-/// add to more than 2^127 - 1; `Disk` only where the disk failed; `Damaged` never over a store that stands for a database. Nothing is
-/// written.
+/// add to more than 2^127 - 1; `Disk` only where the disk failed; `Damaged` names a file of a container that holds no rows, so never over a
+/// store that stands for a database. Nothing is written.
 pub fn select<D: Disk>(
     alloc: Global,
     tables: &TableStore,
@@ -38,6 +38,7 @@ pub fn select<D: Disk>(
     ensures in_range { OnOk result ((d : Database) → CanRead ⟦<D as Disk>⟧ tables.now disk.old changes.now at query.now d → IsSumTooGreat query.now (source_rows at d changes.now query.now) → ⊥) }
     ensures great { IsErrOf result SelectFault.SumOutOfRange → (d : Database) → CanRead ⟦<D as Disk>⟧ tables.now disk.old changes.now at query.now d → IsSumTooGreat query.now (source_rows at d changes.now query.now) }
     ensures unblamed { IfErr result (λ fault. (d : Database) → CanRead ⟦<D as Disk>⟧ tables.now disk.old changes.now at query.now d → IsUnblamed fault) }
+    ensures blamed { IfErr result (BlamesRead tables.now.stores (D.holds disk.old)) }
     ensures kept { D.holds disk.new ≡ D.holds disk.old }
     ensures moved { Moved ⟦<D as Disk>⟧ NoName NoName disk.old disk.new }
     ensures cause { HasCause SelectFault.Disk (D.faults disk.old) (D.faults disk.new) result }

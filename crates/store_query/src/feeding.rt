@@ -13,6 +13,7 @@ ghost use Rattle.query_laws.specs.Bounded.{IsBoundedQuery};
 ghost use Rattle.query_cover.specs.Seen.{placed};
 ghost use Rattle.query_run.specs.Runs.{IsRunOf};
 ghost use Rattle.col_disk.specs.Faults.{IsUnblamed};
+ghost use Rattle.proj_store.specs.Reading.{BlamesRows};
 ghost use Rattle.exec_scan.specs.Scanning.{AreOwn};
 ghost use Rattle.wanted_rows.specs.Wanted.{need_in, Tries};
 ghost use Rattle.store_query.specs.Feeding.{Feeds, TakesLess, TakesRows};
@@ -154,6 +155,7 @@ pub fn feed_scan<D: Disk>(
     ensures fed { OnOk result ((m : Contents) → D.holds disk.old ≡ Some m → (rows : List Stamped) → Stores m store.now.stored rows → TakesLess query.now bounds.items (length places.items) (need_in wants) (map (placed places.items) (visible epoch rows)) run.old run.new) }
     ensures run { OnOk result (IsRunOf query.now run.new) }
     ensures unblamed { IfErr result (λ fault. (m : Contents) → D.holds disk.old ≡ Some m → (rows : List Stamped) → Stores m store.now.stored rows → IsUnblamed fault) }
+    ensures blamed { IfErr result (BlamesRows store.now.stored.entry (D.holds disk.old)) }
     ensures kept { D.holds disk.new ≡ D.holds disk.old }
     ensures moved { Moved ⟦<D as Disk>⟧ NoName NoName disk.old disk.new }
     ensures cause { HasCause StoreFault.Disk (D.faults disk.old) (D.faults disk.new) result }

@@ -14,6 +14,7 @@ ghost use Rattle.db_model.specs.Database.{Database};
 ghost use Rattle.query_laws.specs.Bounded.{IsBoundedQuery};
 ghost use Rattle.query_run.specs.Runs.{IsRunOf};
 ghost use Rattle.col_disk.specs.Faults.{IsUnblamed};
+ghost use Rattle.table_store.specs.Faults.{BlamesStored};
 ghost use Rattle.store_query.specs.Feeding.{HasRead, TakesItem};
 ghost use Rattle.store_query.specs.Lessening.{cleared, deletes_of, HasChanges};
 ghost use Rattle.store_query.specs.Reading.{epoch_of, pending_of, IsOver, IsRead, IsSeen};
@@ -104,6 +105,7 @@ fn rows_of_item<D: Disk>(
     ensures seen { IfOk result (λ v. (m : Contents) → D.holds disk.old ≡ Some m → (d : Database) → IsRead m tables.now changes.now at d → IsSeen at changes.now query.now d item v.items) }
     ensures valid { IfOk result (λ v. All IsRow v.items) }
     ensures unblamed { IfErr result (λ fault. (m : Contents) → D.holds disk.old ≡ Some m → (d : Database) → IsRead m tables.now changes.now at d → IsOver d.tables item → IsUnblamed fault) }
+    ensures blamed { IfErr result (BlamesStored tables.now.stores (D.holds disk.old)) }
     ensures kept { D.holds disk.new ≡ D.holds disk.old }
     ensures moved { Moved ⟦<D as Disk>⟧ NoName NoName disk.old disk.new }
     ensures cause { HasCause StoreFault.Disk (D.faults disk.old) (D.faults disk.new) result }
@@ -167,6 +169,7 @@ fn feed_item<D: Disk>(
     ensures taken { OnOk result ((m : Contents) → D.holds disk.old ≡ Some m → (d : Database) → IsRead m tables.now changes.now at d → IsOver d.tables item → TakesItem at changes.now query.now d item run.old run.new) }
     ensures run { OnOk result (IsRunOf query.now run.new) }
     ensures unblamed { IfErr result (λ fault. (m : Contents) → D.holds disk.old ≡ Some m → (d : Database) → IsRead m tables.now changes.now at d → IsOver d.tables item → IsUnblamed fault) }
+    ensures blamed { IfErr result (BlamesStored tables.now.stores (D.holds disk.old)) }
     ensures kept { D.holds disk.new ≡ D.holds disk.old }
     ensures moved { Moved ⟦<D as Disk>⟧ NoName NoName disk.old disk.new }
     ensures cause { HasCause StoreFault.Disk (D.faults disk.old) (D.faults disk.new) result }
@@ -212,6 +215,7 @@ fn rows_of_items<D: Disk>(
     ensures seen { IfOk result (λ v. (m : Contents) → D.holds disk.old ≡ Some m → (d : Database) → IsRead m tables.now changes.now at d → AllZip (IsSeen at changes.now query.now d) items.now v.items) }
     ensures valid { IfOk result (λ v. All (All IsRow) v.items) }
     ensures unblamed { IfErr result (λ fault. (m : Contents) → D.holds disk.old ≡ Some m → (d : Database) → IsRead m tables.now changes.now at d → All (IsOver d.tables) items.now → IsUnblamed fault) }
+    ensures blamed { IfErr result (BlamesStored tables.now.stores (D.holds disk.old)) }
     ensures kept { D.holds disk.new ≡ D.holds disk.old }
     ensures moved { Moved ⟦<D as Disk>⟧ NoName NoName disk.old disk.new }
     ensures cause { HasCause StoreFault.Disk (D.faults disk.old) (D.faults disk.new) result }
@@ -246,6 +250,7 @@ pub fn run_of<D: Disk>(
     ensures read { IfOk result (λ run. (m : Contents) → D.holds disk.old ≡ Some m → (d : Database) → IsRead m tables.now changes.now at d → All (IsOver d.tables) (first ∷ others.now) → HasRead at changes.now query.now d (first ∷ others.now) run) }
     ensures run { IfOk result (IsRunOf query.now) }
     ensures unblamed { IfErr result (λ fault. (m : Contents) → D.holds disk.old ≡ Some m → (d : Database) → IsRead m tables.now changes.now at d → All (IsOver d.tables) (first ∷ others.now) → IsUnblamed fault) }
+    ensures blamed { IfErr result (BlamesStored tables.now.stores (D.holds disk.old)) }
     ensures kept { D.holds disk.new ≡ D.holds disk.old }
     ensures moved { Moved ⟦<D as Disk>⟧ NoName NoName disk.old disk.new }
     ensures cause { HasCause StoreFault.Disk (D.faults disk.old) (D.faults disk.new) result }

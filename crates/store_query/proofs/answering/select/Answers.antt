@@ -8,8 +8,9 @@ use Rattle.store_query.specs.declared.fault.SelectFault.{SelectFault}
 use Rattle.store_query.specs.declared.fault.SelectFault.TheVariants as select
 use Rattle.col_value.specs.declared.value.Value.{Value}
 use Rattle.sql_bound.specs.Outputs.{IsSumTooGreat}
-use Rattle.store_query.specs.Faults.{of_query, IsUnblamed}
+use Rattle.store_query.specs.Faults.{of_query, BlamesRead, IsUnblamed}
 use Rattle.store_query.specs.Reading.{source_rows}
+use Rattle.store_query.proofs.Blames.{query_blames, read_blames}
 use Rattle.store_query.proofs.ItemRows.{nothing_read, run_seen, select_unblamed}
 use Rattle.store_query.proofs.answering.select.Goals as goal
 
@@ -29,6 +30,17 @@ returns-in-Err-run_of-clause-unblamed g c = λ d can.
     let own = sym c.in-Some.ensures.cases.0 ∙ c.as_slice.ensures in
     subst (λ (x : SelectFault). IsUnblamed x) (sym c.from-in-Err-run_of.ensures)
     (select_unblamed g.D.Disk c.args.tables.now c.args.disk.now c.args.changes.now c.args.at q d (c.in-Some.first.now ∷ c.in-Some.others.now) c.in-Err-run_of.fault own c.in-Err-run_of.ensures.unblamed can)
+
+pub returns-in-Err-clause-blamed : goal.returns-in-Err-clause-blamed
+returns-in-Err-clause-blamed g c = subst (λ (x : SelectFault). BlamesRead c.args.tables.now.stores (g.D.Disk.holds c.args.disk.now) x) (sym c.from.ensures) (query_blames c.args.tables.now.stores (g.D.Disk.holds c.args.disk.now) c.in-Err.fault)
+
+pub returns-in-Err-run_of-clause-blamed : goal.returns-in-Err-run_of-clause-blamed
+returns-in-Err-run_of-clause-blamed g c =
+    subst (λ (x : SelectFault). BlamesRead c.args.tables.now.stores (g.D.Disk.holds c.args.disk.now) x) (sym c.from-in-Err-run_of.ensures)
+    (read_blames c.args.tables.now.stores (g.D.Disk.holds c.args.disk.now) c.in-Err-run_of.fault c.in-Err-run_of.ensures.blamed)
+
+pub returns-in-Err-finish-clause-blamed : goal.returns-in-Err-finish-clause-blamed
+returns-in-Err-finish-clause-blamed g c = subst (λ (x : SelectFault). BlamesRead c.args.tables.now.stores (g.D.Disk.holds c.args.disk.now) x) (sym c.from-in-Err-finish.ensures) (query_blames c.args.tables.now.stores (g.D.Disk.holds c.args.disk.now) c.in-Err-finish.fault)
 
 pub returns-in-Ok-finish-clause-printed : goal.returns-in-Ok-finish-clause-printed
 returns-in-Ok-finish-clause-printed g c = λ d can.

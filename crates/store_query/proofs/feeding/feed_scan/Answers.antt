@@ -1,8 +1,10 @@
 use Rattle.std.proofs.Common.{◌∙◌, refl, sym, subst}
 use Rattle.std.specs.Prelude.{Option}
 use Rattle.col_disk.proofs.Moving.{moved_join, moved_none}
+use Rattle.common_laws.specs.Maps.{Contents}
+use Rattle.proj_store.specs.Reading.{BlamesRows}
 use Rattle.exec_scan.specs.Batches.{Shown}
-use Rattle.exec_scan.specs.Scanning.{Gives, IsScanOf, Place}
+use Rattle.exec_scan.specs.Scanning.{Gives, IsAtHand, IsScanOf, Place}
 use Rattle.wanted_rows.specs.Wanted.{need_in}
 use Rattle.store_query.proofs.Fed.{asks_on, asks_start, streamed_all, streamed_more, streamed_none}
 use Rattle.store_query.proofs.feeding.feed_scan.Goals as goal
@@ -11,6 +13,7 @@ pub loop-batch-init : goal.loop-batch-init
 loop-batch-init g c = record {
   streamed = λ m told rows stores. streamed_none c.args.query.now m c.args.store.now.stored c.args.epoch c.args.places.items c.args.bounds.items c.new-scan.result rows (need_in c.args.wants) c.args.run.now c.new-scan.ensures stores;
   scan_of = subst (λ (s : Place). IsScanOf c.args.store.now.stored.entry s) (sym c.new-scan.ensures) (record { own = c.requires.own; opening = tt; closed = λ none. refl });
+  at_hand = subst (λ (s : Place). IsAtHand (g.D.Disk.holds c.args.disk.now) c.args.store.now.stored s) (sym c.new-scan.ensures) tt;
   asks = asks_start c.args.epoch c.args.places.items c.args.bounds.items c.new-scan.result c.new-scan.ensures;
   run = c.requires.run;
   kept = refl;
@@ -32,6 +35,10 @@ returns-in-Err-clause-unblamed g c = λ m told rows stores.
     let was = c.loop-batch.invariant.streamed m told rows stores in
     c.in-Err.ensures.unblamed m (c.loop-batch.invariant.kept ∙ told) was.rest was.left
 
+pub returns-in-Err-clause-blamed : goal.returns-in-Err-clause-blamed
+returns-in-Err-clause-blamed g c =
+    subst (λ (h : Option Contents). BlamesRows c.args.store.now.stored.entry h c.in-Err.fault) c.loop-batch.invariant.kept (c.in-Err.ensures.blamed c.loop-batch.invariant.at_hand)
+
 pub returns-in-Err-clause-moved : goal.returns-in-Err-clause-moved
 returns-in-Err-clause-moved g c = moved_join g.D.Disk c.loop-batch.invariant.moved c.next.ensures.moved
 
@@ -47,6 +54,7 @@ loop-batch-preserved g c =
           (λ left are. subst (λ (o : Option Shown). Gives m p c.loop-batch.scan c.next.new.self left o) c.in-Ok-Some.field-0-is
           (c.in-Ok-Some.ensures.gives m (c.loop-batch.invariant.kept ∙ told) left are)) c.in-Ok.ensures.fed (c.loop-batch.invariant.streamed m told rows stores);
       scan_of = c.in-Ok-Some.ensures.scan;
+      at_hand = c.in-Ok-Some.ensures.at_hand c.loop-batch.invariant.at_hand;
       asks = asks_on c.args.epoch c.args.places.items c.args.bounds.items c.loop-batch.scan c.next.new.self c.in-Ok-Some.ensures.same c.loop-batch.invariant.asks;
       run = c.in-Ok.ensures.run;
       kept = c.next.ensures.kept ∙ c.loop-batch.invariant.kept;

@@ -4,7 +4,7 @@ use Rattle.common_laws.specs.Maps.{Contents}
 use Rattle.col_disk.specs.Moved.{Moved, NoName}
 use Rattle.col_value.specs.declared.row.Stamped.{Stamped}
 use Rattle.stored_rows.specs.Stored.{Stores}
-use Rattle.exec_scan.specs.Scanning.{IsScanOf, steps_left}
+use Rattle.exec_scan.specs.Scanning.{IsAtHand, IsScanOf, steps_left}
 use Rattle.query_run.specs.Runs.{IsRunOf}
 use Rattle.wanted_rows.specs.Wanted.{need_in}
 use Rattle.store_query.proofs.Fed.{Asks, Streamed}
@@ -15,6 +15,7 @@ invariant-loop-batch g l = record {
   streamed : (m : Contents) → g.D.Disk.holds l.fn.disk ≡ Some m → (rows : List Stamped) → Stores m l.store.stored rows
       → Streamed l.query m l.store.stored l.epoch l.fn.places.items l.fn.bounds.items l.scan rows (need_in l.fn.wants) (need_in l.wants) l.fn.run l.run;
   scan_of : IsScanOf l.store.stored.entry l.scan;
+  at_hand : IsAtHand (g.D.Disk.holds l.disk) l.store.stored l.scan;
   asks : Asks l.epoch l.fn.places.items l.fn.bounds.items l.scan;
   run : IsRunOf l.query l.run;
   kept : g.D.Disk.holds l.disk ≡ g.D.Disk.holds l.fn.disk;

@@ -6,6 +6,7 @@ use Rattle.col_value.specs.declared.value.Value.{Value}
 use Rattle.catalog_types.specs.declared.catalogue.ProjColumn.{ProjColumn}
 use Rattle.catalog_types.specs.declared.catalogue.Projection.{Projection}
 use Rattle.folder_model.specs.Projections.{ordinals}
+use Rattle.table_store.proofs.Blames.{stored_blamed}
 use Rattle.wanted_rows.specs.Wanted.{need_in, tally}
 use Rattle.store_query.specs.Feeding.{TakesRows}
 use Rattle.store_query.specs.Lessening.{asked, cleared, deletes_of}
@@ -29,6 +30,11 @@ returns-in-Err-bounds_for-clause-moved g c = moved_none g.D.Disk c.args.disk.now
 pub returns-in-Err-feed_scan-clause-unblamed : goal.returns-in-Err-feed_scan-clause-unblamed
 returns-in-Err-feed_scan-clause-unblamed g c = λ m told d read over.
     item_unblamed m c.args.tables.now c.args.changes.now c.args.at c.args.query.now c.args.item d c.in-Some.store.now.stored c.in-Err-feed_scan.fault c.in-Some.ensures read over (c.in-Err-feed_scan.ensures.unblamed m told)
+
+pub returns-in-Err-feed_scan-clause-blamed : goal.returns-in-Err-feed_scan-clause-blamed
+returns-in-Err-feed_scan-clause-blamed g c =
+    let taken = c.in-Some.ensures in
+    stored_blamed c.args.tables.now.stores c.args.item.table taken.place taken.stores c.in-Some.store.now.stored (g.D.Disk.holds c.args.disk.now) c.in-Err-feed_scan.fault taken.beside taken.stored c.in-Err-feed_scan.ensures.blamed
 
 pub returns-in-Ok-feed_rows-clause-taken : goal.returns-in-Ok-feed_rows-clause-taken
 returns-in-Ok-feed_rows-clause-taken g c = λ m told d read over.

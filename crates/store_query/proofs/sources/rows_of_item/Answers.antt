@@ -6,6 +6,7 @@ use Rattle.catalog_types.specs.declared.catalogue.ProjColumn.{ProjColumn}
 use Rattle.catalog_types.specs.declared.catalogue.Projection.{Projection}
 use Rattle.row_history.specs.History.{visible}
 use Rattle.folder_model.specs.Projections.{ordinals}
+use Rattle.table_store.proofs.Blames.{stored_blamed}
 use Rattle.query_cover.specs.Seen.{placed}
 use Rattle.store_query.specs.Lessening.{cleared, deletes_of, HasChanges}
 use Rattle.store_query.specs.Placing.{ArePlacesOf}
@@ -25,6 +26,11 @@ returns-in-Err-from_slice-clause-moved g c = moved_none g.D.Disk c.args.disk.now
 pub returns-in-Err-scan_rows-clause-unblamed : goal.returns-in-Err-scan_rows-clause-unblamed
 returns-in-Err-scan_rows-clause-unblamed g c = λ m told d read over.
     item_unblamed m c.args.tables.now c.args.changes.now c.args.at c.args.query.now c.args.item d c.in-Some.store.now.stored c.in-Err-scan_rows.fault c.in-Some.ensures read over (c.in-Err-scan_rows.ensures.unblamed m told)
+
+pub returns-in-Err-scan_rows-clause-blamed : goal.returns-in-Err-scan_rows-clause-blamed
+returns-in-Err-scan_rows-clause-blamed g c =
+    let taken = c.in-Some.ensures in
+    stored_blamed c.args.tables.now.stores c.args.item.table taken.place taken.stores c.in-Some.store.now.stored (g.D.Disk.holds c.args.disk.now) c.in-Err-scan_rows.fault taken.beside taken.stored c.in-Err-scan_rows.ensures.blamed
 
 pub returns-in-Ok-with_changes-clause-seen : goal.returns-in-Ok-with_changes-clause-seen
 returns-in-Ok-with_changes-clause-seen g c = λ m told d read.

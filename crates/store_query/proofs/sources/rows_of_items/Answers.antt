@@ -1,5 +1,8 @@
 use Rattle.std.proofs.Common.{◌∙◌, [], List, get_or, refl, sym, subst}
+use Rattle.std.specs.Prelude.{Option}
 use Rattle.std.specs.List.{All, AllZip}
+use Rattle.common_laws.specs.Maps.{Contents}
+use Rattle.table_store.specs.Faults.{BlamesStored}
 use Rattle.std.proofs.lemmas.List.Elements.{All-nil, All-push}
 use Rattle.col_disk.proofs.Moving.{moved_join, moved_none}
 use Rattle.col_value.specs.declared.value.Value.{Value}
@@ -16,6 +19,9 @@ loop-item-init g c = record {
   kept = refl;
   moved = moved_none g.D.Disk c.args.disk.now;
 }
+
+pub returns-in-Err-clause-blamed : goal.returns-in-Err-clause-blamed
+returns-in-Err-clause-blamed g c = subst (λ (h : Option Contents). BlamesStored c.args.tables.now.stores h c.in-Err.fault) c.loop-item.invariant.kept c.in-Err.ensures.blamed
 
 pub returns-in-Err-clause-moved : goal.returns-in-Err-clause-moved
 returns-in-Err-clause-moved g c = moved_join g.D.Disk c.loop-item.invariant.moved c.rows_of_item.ensures.moved

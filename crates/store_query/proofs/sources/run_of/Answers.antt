@@ -1,4 +1,7 @@
-use Rattle.std.proofs.Common.{◌∙◌, [], refl}
+use Rattle.std.proofs.Common.{◌∙◌, [], List, refl, subst}
+use Rattle.std.specs.Prelude.{Option}
+use Rattle.common_laws.specs.Maps.{Contents}
+use Rattle.table_store.specs.Faults.{BlamesStored}
 use Rattle.std.proofs.lemmas.List.Elements.{All-head, All-tail}
 use Rattle.col_disk.proofs.Moving.{moved_join}
 use Rattle.store_query.specs.Reading.{IsOver}
@@ -23,6 +26,9 @@ returns-in-Ok-feed_item-clause-moved g c = moved_join g.D.Disk c.rows_of_items.e
 pub returns-in-Err-feed_item-clause-unblamed : goal.returns-in-Err-feed_item-clause-unblamed
 returns-in-Err-feed_item-clause-unblamed g c = λ m told d read over.
     c.in-Err-feed_item.ensures.unblamed m (c.rows_of_items.ensures.kept ∙ told) d read (All-head (IsOver d.tables) c.args.first c.args.others.now over)
+
+pub returns-in-Err-feed_item-clause-blamed : goal.returns-in-Err-feed_item-clause-blamed
+returns-in-Err-feed_item-clause-blamed g c = subst (λ (h : Option Contents). BlamesStored c.args.tables.now.stores h c.in-Err-feed_item.fault) c.rows_of_items.ensures.kept c.in-Err-feed_item.ensures.blamed
 
 pub returns-in-Err-feed_item-clause-moved : goal.returns-in-Err-feed_item-clause-moved
 returns-in-Err-feed_item-clause-moved g c = moved_join g.D.Disk c.rows_of_items.ensures.moved c.feed_item.ensures.moved
