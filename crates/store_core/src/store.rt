@@ -28,7 +28,8 @@ ghost use Rattle.store_core.specs.Running.{IsState, frame_of};
 ghost use Rattle.store_core.specs.Stepping.{is_behind};
 ghost use Rattle.store_core.specs.Waiting.{has_name};
 ghost use Rattle.store_core.specs.Sessions.{with_current, with_own, with_pending};
-ghost use Rattle.store_query.specs.Faults.{IsUnblamed};
+ghost use Rattle.store_query.specs.Faults.{BlamesRead, IsUnblamed};
+ghost use Rattle.table_store.specs.Faults.{BlamesStored, BlamesVectors, BlamesVectorsAt};
 ghost use Rattle.store_core.specs.Asking.{IsAsked};
 ghost use Rattle.store_core.specs.Events.{Does, MovesFirstOf};
 ghost use Rattle.store_core.specs.Moving.{MovedBehind};
@@ -225,6 +226,7 @@ impl Store {
         ensures does { (state : State) → IsState ⟦<D as Disk>⟧ self.old disk.old state
             → Does ⟦<D as Disk>⟧ no_memory self.old self.new disk.old disk.new result state (λ new. new ≡ changes_committed state) }
         ensures unblamed { IfErr result (λ fault. (state : State) → IsState ⟦<D as Disk>⟧ self.old disk.old state → IsUnblamedStore fault) }
+        ensures blamed { IfErr result (BlamesStored self.old.seen.stores (D.holds disk.old)) }
         ensures same { OnErr result (self.new ≡ self.old) }
         ensures cause { HasCause StoreFault.Disk (D.faults disk.old) (D.faults disk.new) result }
     {
@@ -273,6 +275,7 @@ impl Store {
             → Does ⟦<D as Disk>⟧ no_memory self.old self.new disk.old disk.new result state (IsDrawn state (record state { database = moved_at table place state.database })) }
         ensures job { OnOk result (DrawsJob table place self.old.seen.catalogue self.new.seen.catalogue) }
         ensures unblamed { IfErr result (λ fault. (state : State) → IsState ⟦<D as Disk>⟧ self.old disk.old state → IsUnblamedStore fault) }
+        ensures blamed { IfErr result (λ fault. (m : Contents) → D.holds disk.new ≡ Some m → BlamesVectorsAt self.old.seen.stores table place m fault) }
         ensures same { OnErr result (self.new ≡ self.old) }
         ensures cause { HasCause StoreFault.Disk (D.faults disk.old) (D.faults disk.new) result }
     {
@@ -287,6 +290,7 @@ impl Store {
         ensures behind { IfOk result (λ moved. moved ≡ is_behind self.old) }
         ensures stays { IfOk result (λ moved. moved ≡ false → self.new ≡ self.old) }
         ensures unblamed { IfErr result (λ fault. (state : State) → IsState ⟦<D as Disk>⟧ self.old disk.old state → IsUnblamedStore fault) }
+        ensures blamed { IfErr result (λ fault. (m : Contents) → D.holds disk.new ≡ Some m → BlamesVectors self.old.seen.stores m fault) }
         ensures same { OnErr result (self.new ≡ self.old) }
         ensures cause { HasCause StoreFault.Disk (D.faults disk.old) (D.faults disk.new) result }
     {
@@ -314,6 +318,7 @@ impl Store {
         ensures in_range { OnOk result ((state : State) (q : Query) → IsState ⟦<D as Disk>⟧ self.now disk.old state → IsAsked state at q query.now → IsSumTooGreat (bound_in state q) (inputs at state q) → ⊥) }
         ensures great { IsErrOf result SelectFault.SumOutOfRange → (state : State) (q : Query) → IsState ⟦<D as Disk>⟧ self.now disk.old state → IsAsked state at q query.now → IsSumTooGreat (bound_in state q) (inputs at state q) }
         ensures unblamed { IfErr result (λ fault. (state : State) (q : Query) → IsState ⟦<D as Disk>⟧ self.now disk.old state → IsAsked state at q query.now → IsUnblamed fault) }
+        ensures blamed { IfErr result (BlamesRead self.now.seen.stores (D.holds disk.old)) }
         ensures kept { D.holds disk.new ≡ D.holds disk.old }
         ensures moved { Moved ⟦<D as Disk>⟧ NoName NoName disk.old disk.new }
         ensures cause { HasCause SelectFault.Disk (D.faults disk.old) (D.faults disk.new) result }

@@ -10,6 +10,7 @@ ghost use Rattle.sql_bound.specs.Outputs.{is_kept};
 ghost use Rattle.db_model.specs.State.{State, own_changes, pending_rows};
 ghost use Rattle.col_disk.specs.Faults.{IsUnblamed};
 ghost use Rattle.row_matching.specs.Matching.{AreMatches};
+ghost use Rattle.table_store.specs.Faults.{BlamesStored};
 ghost use Rattle.store_core.specs.Running.{IsState};
 ghost use Rattle.store_core.specs.Sessions.{own_of, with_marked};
 
@@ -34,6 +35,7 @@ impl Store {
         ensures matched { IfOk result (λ r. (state : State) → IsState ⟦<D as Disk>⟧ self.now disk.old state → AreMatches keep.now state.database (own_changes state) table r.committed.items r.pending.items) }
         ensures valid { IfOk result (λ r. All (λ a. IsRow a.row) r.committed.items × All IsRow r.pending.items) }
         ensures unblamed { IfErr result (λ fault. (state : State) → IsState ⟦<D as Disk>⟧ self.now disk.old state → IsUnblamed fault) }
+        ensures blamed { IfErr result (BlamesStored self.now.seen.stores (D.holds disk.old)) }
         ensures kept { D.holds disk.new ≡ D.holds disk.old }
         ensures moved { Moved ⟦<D as Disk>⟧ NoName NoName disk.old disk.new }
         ensures cause { HasCause StoreFault.Disk (D.faults disk.old) (D.faults disk.new) result }

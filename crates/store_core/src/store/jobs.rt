@@ -10,6 +10,7 @@ ghost use Rattle.db_model.specs.Events.{is_not_named};
 ghost use Rattle.db_model.specs.State.{State};
 ghost use Rattle.mover_policy.specs.First.{all_projections};
 ghost use Rattle.mover_policy.specs.Merging.{IsNext};
+ghost use Rattle.table_jobs.specs.Blamed.{BlamesMerge, BlamesPurge};
 ghost use Rattle.table_jobs.specs.Jobs.{DrawsAnew, DrawsMerged, OfProjection};
 ghost use Rattle.table_jobs.specs.Oldest.{HasFour};
 ghost use Rattle.table_store.specs.Moving.{IsFreshAt};
@@ -88,6 +89,7 @@ impl Store {
         ensures does { (state : State) → IsState ⟦<D as Disk>⟧ self.old disk.old state → Does ⟦<D as Disk>⟧ no_memory self.old self.new disk.old disk.new result state (RisesAt next.at.table next.at.place state) }
         ensures drawn { OnOk result (OfProjection next.at.table next.at.place self.old.seen.catalogue (DrawsMerged next.at.table next.at.place self.old.seen.catalogue self.new.seen.catalogue)) }
         ensures unblamed { IfErr result (λ fault. (state : State) → IsState ⟦<D as Disk>⟧ self.old disk.old state → IsUnblamedStore fault) }
+        ensures blamed { IfErr result (λ fault. OfProjection next.at.table next.at.place self.old.seen.catalogue (BlamesMerge (D.holds disk.old) fault)) }
         ensures same { OnErr result (self.new ≡ self.old) }
         ensures cause { HasCause StoreFault.Disk (D.faults disk.old) (D.faults disk.new) result }
     {
@@ -114,6 +116,7 @@ impl Store {
         ensures does { (state : State) → IsState ⟦<D as Disk>⟧ self.old disk.old state → Does ⟦<D as Disk>⟧ no_memory self.old self.new disk.old disk.new result state (RisesAt table place state) }
         ensures drawn { OnOk result (OfProjection table place self.old.seen.catalogue (DrawsAnew table place 1 self.old.seen.catalogue self.new.seen.catalogue)) }
         ensures unblamed { IfErr result (λ fault. (state : State) → IsState ⟦<D as Disk>⟧ self.old disk.old state → IsUnblamedStore fault) }
+        ensures blamed { IfErr result (λ fault. OfProjection table place self.old.seen.catalogue (BlamesPurge (D.holds disk.old) fault)) }
         ensures same { OnErr result (self.new ≡ self.old) }
         ensures cause { HasCause StoreFault.Disk (D.faults disk.old) (D.faults disk.new) result }
     {

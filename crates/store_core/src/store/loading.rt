@@ -13,6 +13,7 @@ ghost use Rattle.db_model.specs.State.{State};
 ghost use Rattle.store_core.specs.Events.{Does};
 ghost use Rattle.store_core.specs.Running.{IsState};
 ghost use Rattle.col_disk.specs.Faults.{IsUnblamed as IsUnblamedStore};
+ghost use Rattle.table_store.specs.Faults.{BlamesStored};
 
 use super::Store;
 use col_disk::{Disk, StoreFault};
@@ -34,6 +35,7 @@ impl Store {
         ensures does { (state : State) (t : Table) → IsState ⟦<D as Disk>⟧ self.old disk.old state → table_named name.now state.database.tables ≡ Some t → All (RowFits t.columns) rows.items → locked state name.now false ≡ None
             → Does ⟦<D as Disk>⟧ no_memory self.old self.new disk.old disk.new result state (λ new. new ≡ rows_loaded name.now rows.items state) }
         ensures unblamed { IfErr result (λ fault. (state : State) → IsState ⟦<D as Disk>⟧ self.old disk.old state → IsUnblamedStore fault) }
+        ensures blamed { IfErr result (BlamesStored self.old.seen.stores (D.holds disk.old)) }
         ensures same { OnErr result (self.new ≡ self.old) }
         ensures cause { HasCause StoreFault.Disk (D.faults disk.old) (D.faults disk.new) result }
     {

@@ -1,9 +1,11 @@
 //! A moveout of all projections, and the end of all sessions.
 
-ghost use Rattle.std.specs.Prelude.{◌≡◌, ◌≤◌, ℕ, length, nat_le, is_some};
+ghost use Rattle.std.specs.Prelude.{◌≡◌, ◌≤◌, ℕ, length, nat_le, is_some, Some, IfErr};
 ghost use Rattle.common_laws.specs.Causes.{HasCause};
+ghost use Rattle.common_laws.specs.Maps.{Contents};
 ghost use Rattle.db_model.specs.State.{State};
 ghost use Rattle.mover_policy.specs.First.{all_projections, behind_in, first_in};
+ghost use Rattle.table_store.specs.Faults.{BlamesVectors};
 ghost use Rattle.store_core.specs.Moving.{MovesAllOf};
 ghost use Rattle.store_core.specs.Running.{IsState};
 ghost use Rattle.store_core.specs.Sessions.{eight_dropped, with_none};
@@ -56,9 +58,11 @@ impl Store {
     }
 
     /// All projections that are behind are moved out before one commit; where the numbers of files are spent none is. Answers whether it stopped
-    /// there. Where memory is short, nothing changed but the mover's job, which is dropped; over a state no file is blamed.
+    /// there. Where memory is short, nothing changed but the mover's job, which is dropped. `Damaged` names the delete vector of a container, which
+    /// has none; over a state no file is blamed.
     pub fn move_all<D: Disk>(&mut self, alloc: Global, disk: &mut D) -> Result<bool, StoreFault>
         ensures moves { (state : State) → IsState ⟦<D as Disk>⟧ self.old disk.old state → MovesAllOf ⟦<D as Disk>⟧ self.new disk.old disk.new result state }
+        ensures blamed { IfErr result (λ fault. (m : Contents) → D.holds disk.new ≡ Some m → BlamesVectors self.old.seen.stores m fault) }
         ensures cause { HasCause StoreFault.Disk (D.faults disk.old) (D.faults disk.new) result }
     {
         self.projections_fit();

@@ -5,6 +5,7 @@ use Rattle.db_model.specs.State.{Changes, has_changes}
 use Rattle.db_model.specs.Events.{changes_committed}
 use Rattle.store_core.specs.Running.{Running, running}
 use Rattle.store_commit.specs.Seen.{Seen, Stands}
+use Rattle.table_store.specs.Faults.{BlamesStored}
 use Rattle.store_core.proofs.Doing.{does_failed}
 use Rattle.store_core.proofs.Sessions.{put_at, put_back, commit_at, idle_at}
 use Rattle.store_core.proofs.store.Store.commit.Goals as goal
@@ -49,3 +50,6 @@ returns-in-Err-clause-same g c =
 
 pub returns-in-Err-clause-unblamed : goal.returns-in-Err-clause-unblamed
 returns-in-Err-clause-unblamed g c = λ state here. c.in-Err.ensures.unblamed state.database (subst (λ (r : Running). Stands g.D.Disk r.seen c.args.disk.now state.database) (sym c.self.view_is) here.database)
+
+pub returns-in-Err-clause-blamed : goal.returns-in-Err-clause-blamed
+returns-in-Err-clause-blamed g c = subst (λ (r : Running). BlamesStored r.seen.stores (g.D.Disk.holds c.args.disk.now) c.in-Err.fault) c.self.view_is c.in-Err.ensures.blamed

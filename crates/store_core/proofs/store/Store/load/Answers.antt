@@ -6,6 +6,7 @@ use Rattle.db_model.specs.Sound.{IsSound}
 use Rattle.db_model.specs.State.{has_changes, with_rows}
 use Rattle.store_commit.specs.Seen.{Stands}
 use Rattle.store_core.specs.Running.{Running, running}
+use Rattle.table_store.specs.Faults.{BlamesStored}
 use Rattle.store_core.proofs.Doing.{does_failed}
 use Rattle.store_core.proofs.Loaded.{load_at, load_idle, load_short}
 use Rattle.store_core.proofs.Sessions.{put_at}
@@ -49,3 +50,6 @@ returns-clause-does g c = λ state t here there fit free.
     let has : has_changes c.in-Ok.session ≡ true = search rules in
     load_at g.D.Disk was c.commit.new.self c.self.inside.txns c.take-2.new.self c.self.inside.current c.self.inside.mover c.args.self.now (Ok tt) state name rows c.in-Ok.session (was.catalogue.last + 1) c.self.view_is
     (c.in-Ok.ensures ∙ ap (with_rows name rows) c.session.ensures) has here pending (c.commits_of_a_session_are_sound.ensures (rows_pending name rows state) pending) c.take-2.ensures.left c.in-Ok-commit.ensures.made c.in-Ok-commit.ensures.catalogue
+
+pub returns-in-Err-commit-clause-blamed : goal.returns-in-Err-commit-clause-blamed
+returns-in-Err-commit-clause-blamed g c = subst (λ (r : Running). BlamesStored r.seen.stores (g.D.Disk.holds c.args.disk.now) c.in-Err-commit.fault) c.self.view_is c.in-Err-commit.ensures.blamed

@@ -1,7 +1,10 @@
+use Rattle.std.proofs.Common.{subst}
+use Rattle.std.specs.Prelude.{IfErr}
 use Rattle.std.proofs.lemmas.Result.{IfOk-weaker, IfErr-weaker}
+use Rattle.table_store.specs.Faults.{BlamesStored}
 use Rattle.db_model.specs.State.{own_changes}
 use Rattle.row_matching.proofs.Alike.{found_alike}
-use Rattle.store_core.specs.Running.{running}
+use Rattle.store_core.specs.Running.{Running, running}
 use Rattle.store_core.proofs.Changed.{can_match, own_is_alike}
 use Rattle.store_core.proofs.Events.{viewed}
 use Rattle.store_core.proofs.store.Store.matches.Goals as goal
@@ -20,3 +23,6 @@ returns-clause-unblamed g c = IfErr-weaker c.match_rows.result _ _ (λ fault non
     let now = running c.self.inside.tables c.self.inside.txns c.self.inside.current c.self.inside.mover in
     let own = viewed g.D.Disk c.args.disk.now now c.args.self.now state c.self.view_is here in
     none state.database (can_match g.D.Disk now c.args.disk.now state c.session.result.now c.session.ensures own)) c.match_rows.ensures.unblamed
+
+pub returns-clause-blamed : goal.returns-clause-blamed
+returns-clause-blamed g c = subst (λ (r : Running). IfErr c.match_rows.result (BlamesStored r.seen.stores (g.D.Disk.holds c.args.disk.now))) c.self.view_is c.match_rows.ensures.blamed

@@ -1,8 +1,9 @@
 use Rattle.std.proofs.Common.{sym, subst, arith}
-use Rattle.std.specs.Prelude.{OnOk}
+use Rattle.std.specs.Prelude.{IfErr, OnOk}
 use Rattle.std.proofs.lemmas.Result.{IfErr-weaker}
 use Rattle.col_disk.specs.declared.disk.StoreFault.TheVariants.{Memory}
 use Rattle.store_commit.specs.Seen.{Stands}
+use Rattle.table_jobs.specs.Blamed.{BlamesMerge}
 use Rattle.table_jobs.specs.Jobs.{DrawsMerged, OfProjection}
 use Rattle.store_core.specs.Running.{Running}
 use Rattle.store_core.proofs.Raising.{on_merged, rise_does}
@@ -24,3 +25,9 @@ returns-clause-drawn g c =
 pub returns-clause-unblamed : goal.returns-clause-unblamed
 returns-clause-unblamed g c =
     IfErr-weaker c.merge.result _ _ (λ fault none state here. none state.database (subst (λ (r : Running). Stands g.D.Disk r.seen c.args.disk.now state.database) (sym c.self.view_is) here.database)) c.merge.ensures.unblamed
+
+pub returns-clause-blamed : goal.returns-clause-blamed
+returns-clause-blamed g c =
+    let i = c.args.next.at.table in
+    let j = c.args.next.at.place in
+    subst (λ (r : Running). IfErr c.merge.result (λ fault. OfProjection i j r.seen.catalogue (BlamesMerge (g.D.Disk.holds c.args.disk.now) fault))) c.self.view_is c.merge.ensures.blamed

@@ -4,7 +4,8 @@ use Rattle.col_disk.specs.declared.disk.StoreFault.TheVariants as fault
 use Rattle.store_commit.specs.Making.{Makes}
 use Rattle.store_commit.specs.Seen.{Seen}
 use Rattle.store_core.specs.Moving.{MovesAllOf}
-use Rattle.store_core.specs.Running.{running}
+use Rattle.store_core.specs.Running.{Running, running}
+use Rattle.table_store.specs.Faults.{BlamesVectors}
 use Rattle.store_core.proofs.Chain.{failed, moved_done, moved_fails, moved_spent, projections_within, unit_fault}
 use Rattle.store_core.proofs.Stepping.{gave_up_at}
 use Rattle.table_store.specs.Draining.{all_caught_up}
@@ -32,3 +33,6 @@ returns-clause-moves g c = λ state here.
     moved_done g.D.Disk c.self.inside.tables c.move_all.new.self c.self.inside.txns c.self.inside.current c.drop_job.new.self state own room
     (projections_within c.self.inside.tables c.self.inside.txns c.self.inside.current c.self.inside.mover c.args.self.now c.self.view_is c.projections_fit.ensures)
     (c.in-Ok.ensures.made state.database own.database) (c.in-Ok.ensures.drawn state.database own.database)
+
+pub returns-in-Err-clause-blamed : goal.returns-in-Err-clause-blamed
+returns-in-Err-clause-blamed g c = λ m told. subst (λ (r : Running). BlamesVectors r.seen.stores m c.in-Err.fault) c.self.view_is (c.in-Err.ensures.blamed m told)

@@ -4,6 +4,7 @@ use Rattle.catalog_types.specs.declared.catalogue.Catalogue.{Catalogue}
 use Rattle.catalog_types.specs.declared.catalogue.Table as kept
 use Rattle.store_core.proofs.First.{found_at, there_now, entries_now, found_fresh, shape_first, first_done, first_failed, first_none}
 use Rattle.store_core.proofs.Small.{moved_behind}
+use Rattle.table_store.proofs.Moves.{any_blamed}
 use Rattle.store_core.proofs.store.Store.move_first.Goals as goal
 
 pub returns-in-None-clause-does : goal.returns-in-None-clause-does
@@ -49,3 +50,6 @@ returns-in-Ok-clause-job g c =
     let there = there_now c.as_slice.result.now at s c.self.inside.txns c.self.inside.current c.self.inside.mover c.args.self.now tables c.self.view_is c.in-Some.ensures.there in
     let first = found_at c.as_slice.result.now c.last.result (Some at) s c.self.inside.txns c.self.inside.current c.self.inside.mover c.args.self.now tables c.last.ensures c.self.view_is c.in-Some.ensures.first in
     moved_behind c.args.self.now.seen.catalogue c.move_out.new.self.seen.catalogue at there.0 there.1 (shape_first c.args.self.now at there.0 there.1 first) c.in-Ok.ensures.job
+
+pub returns-in-Err-clause-blamed : goal.returns-in-Err-clause-blamed
+returns-in-Err-clause-blamed g c = λ m told. any_blamed c.args.self.now.seen.stores c.in-Some.at.table c.in-Some.at.place m c.in-Err.fault (c.in-Err.ensures.blamed m told)

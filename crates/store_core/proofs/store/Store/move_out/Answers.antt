@@ -3,11 +3,13 @@ use Rattle.sound_laws.specs.Moves.{moved_at}
 use Rattle.state_laws.proofs.Reached.{risen_state}
 use Rattle.store_core.proofs.Events.{move_does}
 use Rattle.store_core.proofs.Raising.{moved_rises}
-use Rattle.std.proofs.Common.{sym, subst}
-use Rattle.std.specs.Prelude.{OnOk}
+use Rattle.std.proofs.Common.{◌≡◌, sym, subst}
+use Rattle.std.specs.Prelude.{IfErr, OnOk, Some}
 use Rattle.std.proofs.lemmas.Result.{IfErr-weaker}
+use Rattle.common_laws.specs.Maps.{Contents}
 use Rattle.store_commit.specs.Seen.{Stands}
 use Rattle.store_core.specs.Running.{Running}
+use Rattle.table_store.specs.Faults.{BlamesVectorsAt}
 use Rattle.table_store.specs.Drawing.{DrawsJob}
 use Rattle.store_core.proofs.store.Store.move_out.Goals as goal
 
@@ -22,3 +24,7 @@ returns-clause-job g c = subst (λ (r : Running). OnOk c.move_out.result (DrawsJ
 pub returns-clause-unblamed : goal.returns-clause-unblamed
 returns-clause-unblamed g c =
     IfErr-weaker c.move_out.result _ _ (λ fault none state here. none state.database (subst (λ (r : Running). Stands g.D.Disk r.seen c.args.disk.now state.database) (sym c.self.view_is) here.database)) c.move_out.ensures.unblamed
+
+pub returns-clause-blamed : goal.returns-clause-blamed
+returns-clause-blamed g c =
+    subst (λ (r : Running). IfErr c.move_out.result (λ fault. (m : Contents) → g.D.Disk.holds c.move_out.new.disk ≡ Some m → BlamesVectorsAt r.seen.stores c.args.table c.args.place m fault)) c.self.view_is c.move_out.ensures.blamed

@@ -1,8 +1,9 @@
 use Rattle.std.proofs.Common.{sym, subst, arith}
-use Rattle.std.specs.Prelude.{OnOk}
+use Rattle.std.specs.Prelude.{IfErr, OnOk}
 use Rattle.std.proofs.lemmas.Result.{IfErr-weaker}
 use Rattle.col_disk.specs.declared.disk.StoreFault.TheVariants.{Memory}
 use Rattle.store_commit.specs.Seen.{Stands}
+use Rattle.table_jobs.specs.Blamed.{BlamesPurge}
 use Rattle.table_jobs.specs.Jobs.{DrawsAnew, OfProjection}
 use Rattle.store_core.specs.Running.{Running}
 use Rattle.store_core.proofs.Raising.{rise_does}
@@ -24,3 +25,9 @@ returns-clause-drawn g c =
 pub returns-clause-unblamed : goal.returns-clause-unblamed
 returns-clause-unblamed g c =
     IfErr-weaker c.purge.result _ _ (λ fault none state here. none state.database (subst (λ (r : Running). Stands g.D.Disk r.seen c.args.disk.now state.database) (sym c.self.view_is) here.database)) c.purge.ensures.unblamed
+
+pub returns-clause-blamed : goal.returns-clause-blamed
+returns-clause-blamed g c =
+    let i = c.args.table in
+    let j = c.args.place in
+    subst (λ (r : Running). IfErr c.purge.result (λ fault. OfProjection i j r.seen.catalogue (BlamesPurge (g.D.Disk.holds c.args.disk.now) fault))) c.self.view_is c.purge.ensures.blamed

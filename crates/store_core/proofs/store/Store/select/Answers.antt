@@ -1,5 +1,8 @@
+use Rattle.std.proofs.Common.{subst}
+use Rattle.std.specs.Prelude.{IfErr}
 use Rattle.std.proofs.lemmas.Result.{IfOk-weaker, IfErr-weaker, on_ok_weaker}
-use Rattle.store_core.specs.Running.{running}
+use Rattle.store_query.specs.Faults.{BlamesRead}
+use Rattle.store_core.specs.Running.{Running, running}
 use Rattle.store_core.proofs.Asking.{can_read, rows_same, listed_so, too_great, not_too_great}
 use Rattle.store_core.proofs.Events.{viewed}
 use Rattle.store_core.proofs.store.Store.select.Goals as goal
@@ -33,3 +36,6 @@ returns-clause-unblamed g c = IfErr-weaker c.select.result _ _ (λ fault none st
     let r = running c.self.inside.tables c.self.inside.txns c.self.inside.current c.self.inside.mover in
     let own = viewed g.D.Disk c.args.disk.now r c.args.self.now state c.self.view_is here in
     none state.database (can_read g.D.Disk r c.args.disk.now state c.args.at q c.args.query.now c.session.result.now c.session.ensures (c.bound_queries_read_their_tables.ensures.over state q) own asked)) c.select.ensures.unblamed
+
+pub returns-clause-blamed : goal.returns-clause-blamed
+returns-clause-blamed g c = subst (λ (r : Running). IfErr c.select.result (BlamesRead r.seen.stores (g.D.Disk.holds c.args.disk.now))) c.self.view_is c.select.ensures.blamed
