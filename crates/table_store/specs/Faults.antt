@@ -1,11 +1,12 @@
 -- Projections that can be read, and which file is to blame where one can't.
-use Rattle.std.specs.Prelude.{ℕ, List, Option, Some, IsSomeAnd}
+use Rattle.std.specs.Prelude.{ℕ, ◌⊎◌, List, Option, Some, IsSomeAnd}
 use Rattle.std.specs.Bool.{OnTrue}
 use Rattle.std.specs.List.{Any, slice_get}
 use Rattle.common_laws.specs.Maps.{Contents}
 use Rattle.col_disk.specs.declared.disk.StoreFault.{StoreFault}
 use Rattle.col_disk.specs.declared.disk.StoreFault.TheVariants.{Disk, Damaged, Memory}
 use Rattle.col_value.specs.declared.row.Stamped.{Stamped}
+use Rattle.catalog_types.specs.declared.catalogue.Projection.{Projection}
 use Rattle.stored_rows.specs.Stored.{Projected, Stores}
 use Rattle.proj_store.specs.Reading.{BlamesLoad, BlamesRows}
 
@@ -37,3 +38,16 @@ abbrev pub BlamesVectors : List (List Projected) → Contents → StoreFault →
 BlamesVectors pss m (Damaged q) = Any (λ ps. Any (λ p. BlamesLoad p.entry.containers (Some m) (Damaged q)) ps) pss
 BlamesVectors pss m Disk = Unit {0}
 BlamesVectors pss m Memory = Unit {0}
+
+-- a Damaged names a file of a container of the projection that holds no rows, or the delete vector of a container that has none; no other fault
+-- says anything
+abbrev pub BlamesEntry : Projection → Option Contents → StoreFault → Type 0
+BlamesEntry p holds (Damaged q) = BlamesRows p holds (Damaged q) ⊎ BlamesLoad p.containers holds (Damaged q)
+BlamesEntry p holds Disk = Unit {0}
+BlamesEntry p holds Memory = Unit {0}
+
+-- so it is of one of the projections of these tables
+abbrev pub BlamesHeld : List (List Projected) → Option Contents → StoreFault → Type 0
+BlamesHeld pss holds (Damaged q) = Any (λ ps. Any (λ p. BlamesEntry p.entry holds (Damaged q)) ps) pss
+BlamesHeld pss holds Disk = Unit {0}
+BlamesHeld pss holds Memory = Unit {0}
