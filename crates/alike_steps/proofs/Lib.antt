@@ -8,6 +8,5 @@ pub mod Told
 pub mod Marked
 pub mod Moved
 pub mod Widened
-pub mod Stayed
 pub mod Stepped
 pub mod Ran

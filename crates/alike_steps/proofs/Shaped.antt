@@ -1,6 +1,6 @@
 -- CREATE and DROP of tables and projections over alike states.
 use Rattle.std.proofs.Common.{◌≡◌, ℕ, not, Bool, true, cond, List, [], ◌∷◌, map, filter, length, refl, sym, ap, ap₂, ◌∙◌, subst}
-use Rattle.std.specs.Prelude.{nat_le, ◌&&◌, Option, Some, None, bytes_eq, option_and_then, option_map}
+use Rattle.std.specs.Prelude.{nat_le, ◌&&◌, Option, Some, None, bytes_eq, option_and_then}
 use Rattle.std.specs.List.{enumerate_from, list_all, list_any}
 use Rattle.common_laws.proofs.BagLaws.{bag_length, bag_refl}
 use Rattle.col_value.specs.declared.column.Column.{Column}
@@ -10,17 +10,17 @@ use Rattle.sql_tree.specs.declared.refusal.Refusal.{Refusal}
 use Rattle.sql_tree.specs.declared.refusal.Which.{Which}
 use Rattle.sql_tree.specs.declared.statement.NewProjection.{NewProjection}
 use Rattle.sql_binding.specs.Firsts.{first_of, refused_where}
-use Rattle.sql_binding.specs.Projections.{bound_projection, name_limit, projection_form_refusal, projection_name_refusal}
+use Rattle.sql_binding.specs.Projections.{bound_projection, name_limit, projection_form_refusal}
 use Rattle.db_model.specs.Alike.{AreAlikeStates, IsAlikeTable}
 use Rattle.db_model.specs.Database.{Shape, Table, has_columns, is_taken, super_name}
 use Rattle.db_model.specs.Events.{empty_table, first_shape, is_empty_list, is_not_named, is_of_table, new_shape, projection_created, projection_dropped, put_shape, table_created, table_dropped, with_shape, without_shape}
 use Rattle.db_model.specs.Numbers.{IsDrawn, are_spent, spent_refusal}
 use Rattle.db_model.specs.Refusals.{last_super_refusal, locked, owner, projection_created_refusal, projection_dropped_refusal, projection_refusal_over, table_created_refusal, table_dropped_refusal, unknown_table_refusal}
-use Rattle.db_model.specs.Refusing.{columns_limit, repeated_behind}
 use Rattle.db_model.specs.State.{State, own_changes}
 use Rattle.db_model.specs.Views.{columns_found, table_found}
 use Rattle.alike_laws.proofs.Changes.{others_alike}
 use Rattle.alike_laws.proofs.Refused.{locked_alike, own_alike, put_alike}
+use Rattle.one_text.proofs.Stilled.{created_by, shaped_by}
 use Rattle.alike_steps.proofs.Tables.{AreAlikeFound, as_many, change_zip, columns_same, found_both, owner_both, put_zip, taken_same}
 use Rattle.alike_steps.proofs.Zipped.{BothThere, both_or, both_then, filter_zip, map_zip}
 
@@ -36,19 +36,6 @@ drawn_alike a b made other m n first second alike =
     (record { database = alike.database; sessions = alike.sessions; current = alike.current; asked = alike.asked }))
 
 -- ---- why they are refused
-
--- of a new table: whether its name and that of its projection are taken, how many tables there are, and whether the numbers are spent
-abbrev created_by : List ℕ → List Column → Bool → Bool → ℕ → Bool → Option Refusal
-created_by name columns own super tables spent =
-    first_of
-    (first_of (option_map Refusal.Exists (first_of (cond own (Some name) None) (first_of (cond super (Some (super_name name)) None) (repeated_behind [] columns))))
-    (first_of (first_of (refused_where (nat_le 1024 tables) (Refusal.Limit Which.Tables 1024)) (name_limit name)) (columns_limit columns)))
-    (refused_where spent Refusal.NumbersSpent)
-
--- of a new projection: its table's columns, whether its name is taken, why it is refused for what it is, and whether the numbers are spent
-abbrev shaped_by : NewProjection → Option (List Column) → Bool → Option Refusal → Bool → Option Refusal
-shaped_by p columns taken form spent =
-    first_of (projection_name_refusal columns p) (first_of (option_map Refusal.Exists (cond taken (Some p.name) None)) (first_of form (refused_where spent Refusal.NumbersSpent)))
 
 abbrev form_by : NewProjection → List Column → List Shape → Option Refusal
 form_by p columns shapes = first_of (projection_form_refusal columns p) (first_of (refused_where (nat_le 16 (length shapes)) (Refusal.Limit Which.Projections 16)) (name_limit p.name))

@@ -3,13 +3,11 @@ use Rattle.std.proofs.Common.{◌≡◌, ℕ, ◌+◌, Bool, true, false, List, 
 use Rattle.std.specs.Prelude.{◌&&◌, ◌||◌, nat_lt, Option, Some, None, codes, is_some}
 use Rattle.col_value.specs.declared.column.Column.{Column}
 use Rattle.col_value.specs.declared.value.Value.{Value}
-use Rattle.sql_words.specs.Symbols.{symbols_of}
 use Rattle.sql_tree.specs.declared.query.At.{At}
 use Rattle.sql_tree.specs.declared.query.Query.{Query}
 use Rattle.sql_tree.specs.declared.refusal.Refusal.{Refusal}
 use Rattle.sql_tree.specs.declared.statement.Function.{Function}
 use Rattle.sql_tree.specs.declared.statement.Statement.{Statement}
-use Rattle.sql_tree.specs.Spells.{Spells}
 use Rattle.sql_bound.specs.declared.query.BoundQuery.{BoundQuery}
 use Rattle.sql_binding.specs.Firsts.{first_of, refused_where}
 use Rattle.sql_binding.specs.Inserts.{inserted_rows}
@@ -32,7 +30,7 @@ use Rattle.db_model.specs.Views.{bound_in, inputs, table_found}
 use Rattle.alike_laws.proofs.Refused.{commit_alike, joining_alike, load_alike, locked_alike, put_alike}
 use Rattle.one_text.specs.OneText.{HasJobs, QueriesHaveOneCause, QueriesHaveOneText}
 use Rattle.one_text.specs.Scripts.{AsksNoMover}
-use Rattle.one_text.proofs.Numbered.{IsOther, Others, others_read}
+use Rattle.one_text.proofs.Numbered.{IsOther, Others, others_read, text_stays}
 use Rattle.one_text.proofs.OneLoad.{load_once, rows_loaded_once}
 use Rattle.one_text.proofs.OneQuery.{first_none, refusal_same}
 use Rattle.one_text.proofs.OneStep.{OneReading, decided_once, jobs_refused, read_once, table_jobs_refused}
@@ -41,7 +39,6 @@ use Rattle.alike_steps.proofs.Changed.{SettingsSeeABag, delete_counts, delete_sa
 use Rattle.alike_steps.proofs.Committed.{can_commit, can_load, commit_texts, committed_zip, copy_texts}
 use Rattle.alike_steps.proofs.Marked.{raised_alike}
 use Rattle.alike_steps.proofs.Moved.{all_alike, refreshes_alike}
-use Rattle.alike_steps.proofs.Stayed.{text_stays}
 use Rattle.alike_steps.proofs.Shaped.{create_same, created_alike, drawn_alike, drop_same, dropped_alike, left_alike, shape_same, shaped_alike, unknown_same, unshape_same, unshaped_alike}
 use Rattle.alike_steps.proofs.Tables.{AreAlikeFound, found_both}
 use Rattle.alike_steps.proofs.Told.{explain_same, good_same}

@@ -1,6 +1,6 @@
 -- ALTER TABLE over alike states, and START_REFRESH.
 use Rattle.std.proofs.Common.{◌≡◌, ◌++◌, ℕ, Bool, true, false, cond, List, [], ◌∷◌, length, map, refl, sym, ap, ap₂, ◌∙◌, subst}
-use Rattle.std.specs.Prelude.{if◌then◌else◌, Option, option_and_then, option_map}
+use Rattle.std.specs.Prelude.{if◌then◌else◌, Option}
 use Rattle.std.specs.List.{enumerate_from}
 use Rattle.common_laws.specs.Bags.{SameBag}
 use Rattle.common_laws.proofs.BagLaws.{bag_map}
@@ -9,30 +9,21 @@ use Rattle.col_value.specs.declared.kinds.Encoding.{Encoding}
 use Rattle.col_value.specs.declared.row.Stamped.{Stamped}
 use Rattle.col_value.specs.declared.value.Value.{Value}
 use Rattle.row_history.specs.History.{is_retained, retained}
-use Rattle.sql_tree.specs.declared.refusal.Refusal.{Refusal}
 use Rattle.sql_tree.specs.declared.statement.AddColumn.{AddColumn}
-use Rattle.sql_binding.specs.Additions.{addition_refusal, default_refusal, default_value}
-use Rattle.sql_binding.specs.Firsts.{first_of, refused_where}
+use Rattle.sql_binding.specs.Additions.{default_value}
 use Rattle.db_model.specs.Alike.{AreAlikeStates, IsAlikeTable}
 use Rattle.db_model.specs.Database.{Shape, Table, has_columns}
 use Rattle.db_model.specs.Events.{column_added, refresh_started, stale_names, widened, with_value}
 use Rattle.db_model.specs.Locks.{holder}
 use Rattle.db_model.specs.Numbers.{are_spent}
 use Rattle.db_model.specs.Refusals.{column_added_refusal}
-use Rattle.db_model.specs.Refusing.{column_limit}
 use Rattle.db_model.specs.State.{State}
 use Rattle.db_model.specs.Views.{columns_found}
 use Rattle.alike_laws.proofs.Refused.{holder_alike}
+use Rattle.one_text.proofs.Stilled.{added_by}
 use Rattle.alike_steps.proofs.Tables.{change_zip, columns_same, shapes_same}
 
 -- ---- why it is refused
-
--- by its table's columns, the session that holds it, and whether the numbers are spent
-abbrev added_by : AddColumn → Option (List Column) → Option ℕ → Bool → Option Refusal
-added_by c columns held spent =
-    first_of (addition_refusal columns c)
-    (first_of (option_and_then (λ cs. column_limit (length cs, c.column)) columns)
-    (first_of (option_map Refusal.Locked held) (first_of (default_refusal c) (refused_where spent Refusal.NumbersSpent))))
 
 pub add_same : (a b : State) → AreAlikeStates a b → (c : AddColumn) → are_spent a ≡ are_spent b
     → column_added_refusal a c ≡ column_added_refusal b c

@@ -4,3 +4,7 @@ pub mod OneQuery
 pub mod Numbered
 pub mod OneScript
 pub mod OneSelect
+pub mod Lasting
+pub mod Unmoved
+pub mod Stilled
+pub mod Movers

@@ -297,7 +297,7 @@ refused_stays a (Statement.Call f) x quiet is = refused_call_stays a f x quiet i
 refused_stays a (Statement.Session m) x quiet is = is
 refused_stays a Statement.Step x quiet is = is
 
-text_stays : (a : State) (read : Option Statement) (x : State) → Others read → RefusedTextLeaves a read x → x ≡ a
+pub text_stays : (a : State) (read : Option Statement) (x : State) → Others read → RefusedTextLeaves a read x → x ≡ a
 text_stays a None x quiet is = is
 text_stays a (Some s) x quiet is = refused_stays a s x quiet is
 

@@ -1,5 +1,5 @@
 -- A query over states that are alike is refused for the same cause, and prints the same.
-use Rattle.std.proofs.Common.{◌≡◌, ℕ, zero, suc, ◌+◌, ◌-◌, ◌≤◌, ◌++◌, nat_lt, Bool, true, false, cond, List, [], ◌∷◌, map, refl, sym, ap, ap₂, ◌∙◌, arith, subst, inl, inr}
+use Rattle.std.proofs.Common.{◌≡◌, ℕ, ◌+◌, ◌-◌, ◌≤◌, ◌++◌, nat_lt, Bool, true, false, cond, List, [], ◌∷◌, map, refl, sym, ap, ap₂, ◌∙◌, arith, subst, inl, inr}
 use Rattle.std.specs.Prelude.{Option, Some, None, find, bytes_eq, slice_index_or, option_map}
 use Rattle.std.specs.List.{AllZip, enumerate_from, flat_map}
 use Rattle.std.specs.List.Sorted.{IsPermutation}
@@ -7,7 +7,7 @@ use Rattle.std.proofs.lemmas.List.Sorted.{IsPermutation-sym}
 use Rattle.std.specs.Option.{option_map_or}
 use Rattle.std.proofs.lemmas.Bool.Decides.{nat_tests}
 use Rattle.common_laws.specs.Bags.{SameBag}
-use Rattle.common_laws.proofs.BagLaws.{bag_map, bag_refl}
+use Rattle.common_laws.proofs.BagLaws.{bag_map}
 use Rattle.col_value.specs.declared.column.Column.{Column}
 use Rattle.col_value.specs.declared.row.Asked.{Asked}
 use Rattle.col_value.specs.declared.value.Value.{Value}
@@ -31,7 +31,7 @@ use Rattle.db_model.specs.Answers.{listing_text}
 use Rattle.db_model.specs.Database.{Table}
 use Rattle.db_model.specs.Refusals.{SumRefuses, query_refusal_in}
 use Rattle.db_model.specs.Refusing.{epoch_refusal}
-use Rattle.db_model.specs.State.{Changes, State, own_changes, pending_deletes, pending_rows}
+use Rattle.db_model.specs.State.{State, own_changes, pending_deletes, pending_rows}
 use Rattle.db_model.specs.Views.{bound_in, columns_found, inputs, rows_read, source_tables, table_found}
 use Rattle.alike_laws.proofs.Changes.{changes_at, deletes_alike, pending_alike}
 use Rattle.alike_laws.proofs.Permutes.{rows_permuted, seen_permuted}

@@ -16,7 +16,7 @@ use Rattle.one_text.proofs.Numbered.{left_before, same_states, same_step, step_g
 use Rattle.one_text.proofs.OneStep.{OneList, OneReading}
 
 -- without steps of the mover a statement text passes into what its step leaves
-passed : (setting : Setting) (a : State) (text printed : List ℕ) (why : Option Refusal) (x : State) → setting.steps ≡ 0 → Passes setting a text printed why x → Step setting.serves a setting.files text printed why x
+pub passed : (setting : Setting) (a : State) (text printed : List ℕ) (why : Option Refusal) (x : State) → setting.steps ≡ 0 → Passes setting a text printed why x → Step setting.serves a setting.files text printed why x
 passed setting a text printed why x none passes =
     let still : x ≡ passes.answered = subst (λ (n : ℕ). MoverRuns n passes.answered x) none passes.mover in
     subst (λ (s : State). Step setting.serves a setting.files text printed why s) (sym still) passes.step
@@ -63,7 +63,7 @@ moves_same (suc n) a b stopped halted x y same left_x left_y (inr (has, mid, fir
     first_same (first_behind b.database) a b mid other same (subst (λ (d : Database). MovesFirst (first_behind d) a mid) same first) second in
     moves_same n mid other stopped halted x y moved left_x left_y more later
 
-ends_grow : (halts : Bool) (a x : State) → EndsUnless halts a x → a.next ≤ x.next
+pub ends_grow : (halts : Bool) (a x : State) → EndsUnless halts a x → a.next ≤ x.next
 ends_grow true a x is = let at : x.next ≡ a.next = ap (λ (s : State). s.next) is in omega (arith, at)
 ends_grow false a x (stopped, moves) = moves.drawn.from
 

@@ -1,2 +1,4 @@
 pub mod OneText
 pub mod Scripts
+pub mod Lasting
+pub mod Movers

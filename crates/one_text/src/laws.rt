@@ -1,4 +1,6 @@
 ghost use Rattle.one_text.specs.OneText.{StatementsHaveOneText, StepsOfOneFate, QueriesHaveOneCause, QueriesHaveOneText, SelectsHaveOneText};
+ghost use Rattle.one_text.specs.Lasting.{FirstScriptsHaveOneText, NumbersLast};
+ghost use Rattle.one_text.specs.Movers.{JobsHaveOneText, MoversHaveOneText};
 ghost use Rattle.one_text.specs.Scripts.{ScriptsHaveOneText};
 
 use query_laws::order_of_rows_is_free;
@@ -35,6 +37,33 @@ pub fn a_query_has_one_text()
 /// that files are called by aren't spent.
 pub fn a_script_has_one_text()
     ensures { ScriptsHaveOneText }
+{
+    one_reading();
+    one_printed_list();
+}
+
+/// The numbers that files are called by last: over an empty folder a script of as many statements as one may have leaves some, run
+/// without steps of the mover behind its statements, whatever its events draw.
+pub fn numbers_last()
+    ensures { NumbersLast }
+{}
+
+/// So over an empty folder a script that leaves the mover alone has one text, and nothing is said of numbers.
+pub fn a_first_script_has_one_text()
+    ensures { FirstScriptsHaveOneText }
+{
+    one_reading();
+    one_printed_list();
+}
+
+/// Whatever the mover does, a script has one text: two runs of it, each with any number of the mover's steps behind the statements, over
+/// states that are the same but for what the mover makes of projections, print the same, and some statement is refused in both or in
+/// none, as long as numbers are left. That holds for scripts that don't ask which epoch is the last good one, or make it the ancient history mark,
+/// or which projection serves, and drop none (`one_text`); and where no statement is refused, MOVEOUT, MERGEOUT, PURGE_TABLE and REFRESH may
+/// stand in them, too (`jobs`).
+pub fn the_mover_changes_no_text()
+    ensures one_text { MoversHaveOneText }
+    ensures jobs { JobsHaveOneText }
 {
     one_reading();
     one_printed_list();
