@@ -7,3 +7,4 @@ pub mod Refreshes
 pub mod Answered
 pub mod Stepped
 pub mod Ran
+pub mod Drained

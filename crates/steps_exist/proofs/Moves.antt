@@ -8,13 +8,13 @@ use Rattle.std.specs.Ordering.{nat_cmp, on, then_cmp}
 use Rattle.std.specs.declared.cmp.Ordering.{Ordering}
 use Rattle.std.proofs.lemmas.List.{map-append}
 use Rattle.std.proofs.lemmas.List.Concat.{flat_map-cons}
-use Rattle.std.proofs.lemmas.List.Elements.{All-head, All-append, All-tail, All-weaker}
+use Rattle.std.proofs.lemmas.List.Elements.{All-head, All-tail, All-weaker}
 use Rattle.std.proofs.lemmas.Slice.Eq.{bytes_eq-Decides}
 use Rattle.db_model.specs.Database.{Database, Shape, Table, is_behind}
 use Rattle.db_model.specs.Epochs.{all_shapes}
 use Rattle.db_model.specs.Mover.{behind, change_shape, change_shape_of, first_behind, given_up, moved_one, moves_first, reached_to, GoesOn, MovesAll, MovesFirst, MovesOrBegins, MovesOut, MoverRuns, MoverSteps, StepsOn, StepsUnless}
 use Rattle.db_model.specs.Numbers.{are_spent, IsDrawn}
-use Rattle.db_model.specs.Sound.{names_of, all_names}
+use Rattle.db_model.specs.Sound.{all_names}
 use Rattle.db_model.specs.State.{State}
 use Rattle.mover_policy.proofs.Least.{some_least}
 use Rattle.sound_laws.proofs.Created.{Differ, differ_turned}
@@ -78,7 +78,7 @@ one_less p name f (s ∷ ss) apart = by (bytes_eq s.name name) refl (one_less p 
 
 -- ---- in all tables
 
-shapes_changed : (name : List ℕ) (f : Shape → Shape) (ts : List Table) → all_shapes (map (change_shape_of name f) ts) ≡ map (change_shape name f) (all_shapes ts)
+pub shapes_changed : (name : List ℕ) (f : Shape → Shape) (ts : List Table) → all_shapes (map (change_shape_of name f) ts) ≡ map (change_shape name f) (all_shapes ts)
 shapes_changed name f [] = refl
 shapes_changed name f (t ∷ ts) =
     flat_map-cons (λ (u : Table). u.shapes) (change_shape_of name f t) (map (change_shape_of name f) ts)

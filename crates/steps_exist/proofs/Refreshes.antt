@@ -1,5 +1,5 @@
 -- A refresh of a table ends: each of its jobs leaves at least all but one of the projections that weren't up to date.
-use Rattle.std.proofs.Common.{◌≡◌, ◌≤◌, ◌<◌, not, ◌++◌, ℕ, zero, suc, inl, inr, Bool, true, false, cond, List, [], ◌∷◌, length, filter, map, refl, sym, ◌∙◌, ap, subst, arith}
+use Rattle.std.proofs.Common.{◌≡◌, ◌≤◌, ◌<◌, not, ◌++◌, ℕ, zero, suc, inl, inr, Bool, true, false, cond, List, [], ◌∷◌, length, map, refl, sym, ◌∙◌, ap, subst, arith}
 use Rattle.std.specs.Prelude.{Option, Some, None, bytes_eq, option_map}
 use Rattle.std.specs.List.{AllPairs}
 use Rattle.std.specs.Option.{option_map_or}

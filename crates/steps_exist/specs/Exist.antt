@@ -1,13 +1,15 @@
 -- That there is a step, and a run.
-use Rattle.std.specs.Prelude.{ℕ, ◌≡◌, ◌||◌, ◌++◌, Bool, List, ◌∷◌, Option, is_some}
+use Rattle.std.specs.Prelude.{ℕ, ◌≡◌, ◌||◌, ◌++◌, Bool, true, false, List, ◌∷◌, Option, is_some}
+use Rattle.std.specs.List.{All}
 use Rattle.sql_words.specs.Texts.{statement_texts}
 use Rattle.sql_tree.specs.declared.refusal.Refusal.{Refusal}
 use Rattle.sql_tree.specs.declared.statement.Statement.{Statement}
+use Rattle.db_model.specs.Epochs.{all_shapes}
 use Rattle.db_model.specs.State.{State}
 use Rattle.db_model.specs.Loading.{Files}
 use Rattle.db_model.specs.Mover.{MovesAll, MoverSteps}
 use Rattle.db_model.specs.Run.{Run, RunTexts, Setting}
-use Rattle.db_model.specs.Sound.{IsSound}
+use Rattle.db_model.specs.Sound.{IsSound, IsSoundDatabase}
 use Rattle.db_model.specs.Step.{Step}
 
 -- each text, whatever it says, has a step in a sound state
@@ -23,6 +25,11 @@ EveryStateMovesOn = (old : State) → (new : State) × MoverSteps old new
 -- a moveout of all comes to its end in a sound state
 abbrev pub EveryMoveoutEnds : Type 0
 EveryMoveoutEnds = (old : State) → IsSound old → (stopped : Bool) × (new : State) × MovesAll old stopped new
+
+-- behind a moveout of all that wasn't stopped, each projection that is up to date is on disk up to the newest closed epoch
+abbrev pub MoveoutsReachTheLast : Type 0
+MoveoutsReachTheLast =
+    (old new : State) → MovesAll old false new → IsSoundDatabase new.database → All (λ s. s.fresh ≡ true → s.lge ≡ new.database.last) (all_shapes new.database.tables)
 
 -- texts run one after the other, however many
 abbrev pub EveryTextsHaveARun : Type 0

@@ -1,6 +1,6 @@
 //! Laws that there are steps and runs.
 
-ghost use Rattle.steps_exist.specs.Exist.{EveryTextHasAStep, EveryStateMovesOn, EveryMoveoutEnds, EveryTextsHaveARun, EveryScriptHasARun, EveryRunGoesOn, EveryAnswerGoesOn};
+ghost use Rattle.steps_exist.specs.Exist.{EveryTextHasAStep, EveryStateMovesOn, EveryMoveoutEnds, MoveoutsReachTheLast, EveryTextsHaveARun, EveryScriptHasARun, EveryRunGoesOn, EveryAnswerGoesOn};
 
 use step_laws::steps_keep_states_sound;
 
@@ -9,10 +9,12 @@ pub fn every_text_has_a_step()
     ensures { EveryTextHasAStep }
 {}
 
-/// The mover has a step in every state, and a moveout of all ends in every sound one.
+/// The mover has a step in every state, and a moveout of all ends in every sound one; where it wasn't stopped each projection that is up to
+/// date is on disk up to the newest closed epoch.
 pub fn every_state_moves_on()
     ensures step { EveryStateMovesOn }
     ensures all { EveryMoveoutEnds }
+    ensures reached { MoveoutsReachTheLast }
 {}
 
 /// Every script has a run from a sound state, with whatever steps of the mover behind each statement, and with or without an end; and
