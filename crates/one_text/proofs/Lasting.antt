@@ -1,4 +1,4 @@
--- How far the numbers rise in a script from an empty folder on.
+-- How far the numbers rise in a script.
 use Rattle.std.proofs.Common.{◌≡◌, ℕ, ◌≤◌, ◌<◌, ◌+◌, ◌*◌, Bool, true, false, cond, List, [], ◌∷◌, length, refl, sym, arith, subst, inl, inr}
 use Rattle.std.specs.Prelude.{Option, Some, None, nat_lt, ◌==◌}
 use Rattle.std.specs.Option.{option_map_or}
@@ -20,7 +20,7 @@ use Rattle.db_model.specs.Run.{EndsUnless, RunTexts, Setting}
 use Rattle.db_model.specs.State.{State, committed, has_changes, own_changes, with_changes}
 use Rattle.db_model.specs.Step.{Effect, RefusedTextLeaves, Step}
 use Rattle.db_model.specs.Views.{table_found}
-use Rattle.one_text.specs.Lasting.{FirstScriptsHaveOneText, NumbersLast}
+use Rattle.one_text.specs.Lasting.{ShortScriptsHaveOneText, NumbersLast}
 use Rattle.one_text.proofs.OneScript.{passed, scripts_once}
 use Rattle.one_text.proofs.OneStep.{OneList, OneReading}
 
@@ -174,35 +174,32 @@ step_draws serves a files text printed why x step = effect_draws a files step.re
 
 -- ---- how far they rise in so many
 
--- the numbers after so many events from an empty folder on; while a projection has at most 8,194 containers, an event of n events before it
--- draws at most 2^22 * 8197 * (2 * n + 3) numbers
+-- the numbers after so many events: while a projection has at most 10,240 containers, an event of n events before it draws at most
+-- 2^22 * 10243 * (2 * n + 2051) numbers
 record IsEarly (n : ℕ) (s : State) : Type 0 where
-  pub parts : s.parts ≤ 2 * n
-  pub next : s.next ≤ 1 + 34380709888 * (n * n + 2 * n)
+  pub parts : s.parts ≤ 2048 + 2 * n
+  pub next : s.next ≤ 36028797018963968 + 42962255872 * (n * n + 2050 * n)
 
 times : (a b c : ℕ) → a ≤ b → a * c ≤ b * c
 times a b c le = grind (arith, le)
 
-turned : (a b : ℕ) → a * b ≡ b * a
-turned a b = grind arith
-
 -- the square of the containers and three more
-squared : (p n : ℕ) → p ≤ 2 * n → n ≤ 4096 → (p + 3) * (p + 3) ≤ 8197 * (2 * n + 3)
-squared p n few early = over ((p + 3) * (p + 3)) (8197 * (p + 3)) (p + 3) (2 * n + 3) (times (p + 3) 8197 (p + 3) (omega (arith, few, early))) refl (omega (arith, few))
+squared : (p n : ℕ) → p ≤ 2048 + 2 * n → n ≤ 4096 → (p + 3) * (p + 3) ≤ 10243 * (2 * n + 2051)
+squared p n few early = over ((p + 3) * (p + 3)) (10243 * (p + 3)) (p + 3) (2 * n + 2051) (times (p + 3) 10243 (p + 3) (omega (arith, few, early))) refl (omega (arith, few))
   where
-    over : (q r c d : ℕ) → q ≤ r → r ≡ 8197 * c → c ≤ d → q ≤ 8197 * d
+    over : (q r c d : ℕ) → q ≤ r → r ≡ 10243 * c → c ≤ d → q ≤ 10243 * d
     over q r c d le is more = omega (arith, le, is, more)
 
-risen : (next old q n : ℕ) → next ≤ old + 4194304 * q → q ≤ 8197 * (2 * n + 3) → old ≤ 1 + 34380709888 * (n * n + 2 * n) → next ≤ 1 + 34380709888 * ((n + 1) * (n + 1) + 2 * (n + 1))
+risen : (next old q n : ℕ) → next ≤ old + 4194304 * q → q ≤ 10243 * (2 * n + 2051) → old ≤ 36028797018963968 + 42962255872 * (n * n + 2050 * n) → next ≤ 36028797018963968 + 42962255872 * ((n + 1) * (n + 1) + 2050 * (n + 1))
 risen next old q n upto most from = summed (n * n) ((n + 1) * (n + 1)) refl (spread n)
   where
     spread : (m : ℕ) → (m + 1) * (m + 1) ≡ m * m + 2 * m + 1
     spread m = grind arith
 
-    summed : (s t : ℕ) → s ≡ n * n → t ≡ n * n + 2 * n + 1 → next ≤ 1 + 34380709888 * (t + 2 * (n + 1))
+    summed : (s t : ℕ) → s ≡ n * n → t ≡ n * n + 2 * n + 1 → next ≤ 36028797018963968 + 42962255872 * (t + 2050 * (n + 1))
     summed s t is also = linear (n * n) t also from
       where
-        linear : (r u : ℕ) → u ≡ r + 2 * n + 1 → old ≤ 1 + 34380709888 * (r + 2 * n) → next ≤ 1 + 34380709888 * (u + 2 * (n + 1))
+        linear : (r u : ℕ) → u ≡ r + 2 * n + 1 → old ≤ 36028797018963968 + 42962255872 * (r + 2050 * n) → next ≤ 36028797018963968 + 42962255872 * (u + 2050 * (n + 1))
         linear r u same before = omega (arith, same, before, upto, most)
 
 later : (n : ℕ) (a x : State) → n ≤ 4096 → IsEarly n a → DrawsWithin a x → IsEarly (n + 1) x
@@ -224,7 +221,7 @@ unspent n s early is = by (are_spent s) refl
         below : (a b c : ℕ) → a ≤ b → b ≤ c → a ≤ c
         below a b c first second = omega (arith, first, second)
 
-    far : (q : ℕ) → q ≤ 16785409 → s.next ≤ 1 + 34380709888 * (q + 2 * n) → s.next < 1152921504606846976
+    far : (q : ℕ) → q ≤ 16785409 → s.next ≤ 36028797018963968 + 42962255872 * (q + 2050 * n) → s.next < 1152921504606846976
     far q most upto = omega (arith, most, upto, early)
 
     by : (b : Bool) → are_spent s ≡ b → are_spent s ≡ false
@@ -252,7 +249,7 @@ numbers_last setting start script printed refused new none few fresh (mid, ran, 
     let (m, most, early) = texts_early setting (statement_texts script) 0 start printed refused mid none (omega (arith, few)) (record { parts = omega (arith, parts); next = omega (arith, next) }) ran in
     ends_early setting.halts m mid new most early ends
 
-pub first_scripts_once : OneReading → OneList → FirstScriptsHaveOneText
-first_scripts_once reading list setting start begin script printed other refused also new left none few quiet fresh beginning same ran again =
+pub short_scripts_once : OneReading → OneList → ShortScriptsHaveOneText
+short_scripts_once reading list setting start begin script printed other refused also new left none few quiet fresh beginning same ran again =
     scripts_once reading list setting start begin script printed other refused also new left none quiet same ran again
     (numbers_last setting start script printed refused new none few fresh ran) (numbers_last setting begin script other also left none few beginning again)

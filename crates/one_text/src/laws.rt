@@ -1,5 +1,5 @@
 ghost use Rattle.one_text.specs.OneText.{StatementsHaveOneText, StepsOfOneFate, QueriesHaveOneCause, QueriesHaveOneText, SelectsHaveOneText};
-ghost use Rattle.one_text.specs.Lasting.{FirstScriptsHaveOneText, NumbersLast};
+ghost use Rattle.one_text.specs.Lasting.{ShortScriptsHaveOneText, NumbersLast};
 ghost use Rattle.one_text.specs.Movers.{JobsHaveOneText, MoversHaveOneText};
 ghost use Rattle.one_text.specs.Scripts.{ScriptsHaveOneText};
 
@@ -42,15 +42,15 @@ pub fn a_script_has_one_text()
     one_printed_list();
 }
 
-/// The numbers that files are called by last: over an empty folder a script of as many statements as one may have leaves some, run
-/// without steps of the mover behind its statements, whatever its events draw.
+/// The numbers that files are called by last: from a state that has numbers for a script, as that over an empty folder has, a script of as
+/// many statements as one may have leaves some, run without steps of the mover behind its statements, whatever its events draw.
 pub fn numbers_last()
     ensures { NumbersLast }
 {}
 
-/// So over an empty folder a script that leaves the mover alone has one text, and nothing is said of numbers.
-pub fn a_first_script_has_one_text()
-    ensures { FirstScriptsHaveOneText }
+/// So there a script that leaves the mover alone has one text, whatever its events draw.
+pub fn a_short_script_has_one_text()
+    ensures { ShortScriptsHaveOneText }
 {
     one_reading();
     one_printed_list();

@@ -1,5 +1,0 @@
-use Rattle.one_text.proofs.Lasting.{first_scripts_once}
-use Rattle.one_text.proofs.laws.a_first_script_has_one_text.Goals as goal
-
-pub returns : goal.returns
-returns c = first_scripts_once c.one_reading.ensures c.one_printed_list.ensures
