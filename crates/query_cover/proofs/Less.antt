@@ -30,7 +30,7 @@ IsOut keep row = (rest : List Value) → is_kept keep (row ++ rest) ≡ false
 abbrev joined : Rows → List Value → Rows
 joined rests row = map (λ rest. row ++ rest) rests
 
-none_of : (keep : List Expr) (row : List Value) (rests : Rows) → IsOut keep row → filter (is_kept keep) (joined rests row) ≡ []
+pub none_of : (keep : List Expr) (row : List Value) (rests : Rows) → IsOut keep row → filter (is_kept keep) (joined rests row) ≡ []
 none_of keep row [] out = refl
 none_of keep row (rest ∷ rests) out =
     ap (λ (b : Bool). cond b ((row ++ rest) ∷ filter (is_kept keep) (joined rests row)) (filter (is_kept keep) (joined rests row))) (out rest) ∙ none_of keep row rests out

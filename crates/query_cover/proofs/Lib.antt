@@ -3,3 +3,4 @@ pub mod Same
 pub mod Permuted
 pub mod Placed
 pub mod Less
+pub mod Enough

@@ -126,7 +126,7 @@ great_blanked q inputs wide great = subst (HasGreatSum q) (sym (kept_blanked q i
 great_unblanked : (q : BoundQuery) (inputs : List (List (List Value))) → HaveWidths q.sources inputs → IsSumTooGreat q (blanked_from (is_used q) 0 q.sources inputs) → IsSumTooGreat q inputs
 great_unblanked q inputs wide great = great_from q (kept q inputs) (subst (HasGreatSum q) (kept_blanked q inputs wide) great)
 
-permuted_back : (inputs others : List (List (List Value))) → ArePermuted inputs others → ArePermuted others inputs
+pub permuted_back : (inputs others : List (List (List Value))) → ArePermuted inputs others → ArePermuted others inputs
 permuted_back [] [] p = tt
 permuted_back [] (ys ∷ others) p = absurd p
 permuted_back (xs ∷ inputs) [] p = absurd p

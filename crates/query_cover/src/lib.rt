@@ -5,11 +5,12 @@
 //! the table's width of what it reads, with NULL in the columns that it doesn't use (`placed_rows_are_seen`).
 //!
 //! It prints the same, too, with and without rows of its first FROM item on which, whatever rows of the others stand behind them, no
-//! tuple meets all conditions (`rows_out_of_bounds_decide_nothing`); so such rows need not be read.
+//! tuple meets all conditions (`rows_out_of_bounds_decide_nothing`), and so it does of all FROM items at once (`enough_rows_decide`); so such
+//! rows need not be read.
 #![tactic(auto)]
 
 mod bounds;
 mod laws;
 
-pub use bounds::rows_out_of_bounds_decide_nothing;
+pub use bounds::{enough_rows_decide, rows_out_of_bounds_decide_nothing};
 pub use laws::{a_projection_shows_the_table, placed_rows_are_seen, used_columns_decide};

@@ -5,3 +5,4 @@ pub mod Fronts
 pub mod Hulls
 pub mod Nearest
 pub mod Bits
+pub mod Shifts

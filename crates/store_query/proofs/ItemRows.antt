@@ -1,8 +1,9 @@
 -- What is read of a store.
-use Rattle.std.proofs.Common.{◌≡◌, ℕ, ◌+◌, ◌<◌, ◌++◌, ◌⊎◌, Bool, true, false, List, [], ◌∷◌, length, map, Option, Some, None, refl, sym, ap, ◌∙◌, inl, inr, arith, subst}
+use Rattle.std.proofs.Common.{◌≡◌, ℕ, ◌+◌, ◌<◌, ◌++◌, ◌⊎◌, Bool, true, false, List, [], ◌∷◌, drop, length, map, Option, Some, None, refl, sym, ap, ◌∙◌, inl, inr, arith, subst}
 use Rattle.std.specs.Prelude.{IsSomeAnd}
 use Rattle.std.specs.List.{All, AllZip, slice_get}
 use Rattle.std.specs.Option.{option_map_or}
+use Rattle.std.proofs.Math.Seq.{drop-append_seam}
 use Rattle.std.proofs.lemmas.List.{append-nil, nil_from_length}
 use Rattle.std.proofs.lemmas.List.Elements.{All-cons, All-head, All-nil, All-weaker}
 use Rattle.common_laws.specs.Bags.{SameBag}
@@ -29,20 +30,21 @@ use Rattle.stored_rows.specs.Stored.{Projected, Stores}
 use Rattle.folder_model.specs.Projections.{ordinals}
 use Rattle.store_commit.specs.Seen.{Seen}
 use Rattle.col_disk.specs.Faults as disk_faults
+use Rattle.query_cover.specs.Enough.{AreEnough, AreEnoughFrom, IsOut}
 use Rattle.query_cover.specs.Seen.{AreSeen, AreSeenFrom, placed}
 use Rattle.query_cover.proofs.Placed.{shows_same}
 use Rattle.query_run.specs.Runs.{HasTaken}
 use Rattle.query_run.specs.declared.run.Run.{Run}
 use Rattle.wanted_rows.specs.Wanted.{tally}
-use Rattle.store_query.specs.Feeding.{HasEnough, HasRead, IsBeyond, IsOut, TakesItem, TakesLess, TakesRows}
+use Rattle.store_query.specs.Feeding.{HasRead, IsBeyond, Passes, TakesItem, TakesLess, TakesRows}
 use Rattle.store_query.specs.Lessening.{asked, cleared, deletes_of, HasChanges, IsLess}
 use Rattle.store_query.specs.Placing.{ArePlacesOf}
 use Rattle.store_query.specs.Faults.{of_store, IsUnblamed}
-use Rattle.store_query.specs.Reading.{epoch_of, item_rows, pending_of, rows_of, source_rows, AreOver, CanRead, IsOver, IsRead, IsSeen}
+use Rattle.store_query.specs.Reading.{epoch_of, item_rows, pending_of, rows_of, source_rows, AreOver, CanRead, IsOver, IsRead, Suffice}
 use Rattle.store_query.specs.Taking.{IsTaken}
 use Rattle.store_query.proofs.Fed.{gone_counted}
 use Rattle.store_query.proofs.Putting.{places_cover}
-use Rattle.store_query.proofs.Seeing.{changed_seen, fitting, gone_in, gone_is, mark_before, pending_in, pending_is, rows_asked, rows_split}
+use Rattle.store_query.proofs.Seeing.{changed_seen, fitting, gone_in, gone_is, mark_before, pending_in, pending_is, rows_asked, rows_split, wide_front}
 use Rattle.store_query.proofs.Served.{taken_serves, Serves}
 
 abbrev no_rows : List (List Value)
@@ -50,13 +52,7 @@ no_rows = []
 
 -- ---- a FROM item
 
--- rows that a scan of the projection at these places makes, with the changes of a session, are these
-pub record AreRows (s : Seen) (changes : List Changes) (at : At) (f : FromItem) (m : Contents) (p : Projected) (epoch : ℕ) (places : List (Option ℕ)) (out : List (List Value)) : Type 0 where
-  pub scanned : List (List Value)
-  pub found : (rows : List Stamped) → Stores m p rows → scanned ≡ map (placed places) (visible epoch rows)
-  pub changed : HasChanges (map (λ a. cleared places a.row) (deletes_of at s.catalogue.tables changes f)) (pending_of at s.catalogue.tables changes f) scanned out
-
--- so are these rows for the query, whatever the projection stores
+-- rows that a projection shows, with the changes of a session, are for the query those of the table
 over_seen : (m : Contents) (s : Seen) (changes : List Changes) (at : At) (q : BoundQuery) (f : FromItem) (d : Database) (p : Projected) (epoch : ℕ) (places : List (Option ℕ)) (out : List (List Value)) (t : Table) (taken : IsTaken s q f p)
     → IsRead m s changes at d → ArePlacesOf q f.first f.columns (ordinals p.entry) places → epoch ≡ epoch_of at s.catalogue.last → slice_get d.tables f.table ≡ Some t → f.columns ≡ length t.columns
     → (serves : Serves m q f d taken.table t p)
@@ -82,23 +78,6 @@ over_seen m s changes at q f d p epoch places out t taken read are epoch_is is w
     let all : out ≡ less ++ more = out_is ∙ ap (λ (xs : List (List Value)). less ++ xs) behind in
     subst (λ (xs : List (List Value)). AreSeen q f.first f.columns xs (rows_of at d changes t)) (sym all)
     (subst (AreSeen q f.first f.columns (less ++ more)) (sym (rows_split at d changes t read.epoch)) seen)
-
-read_over : (m : Contents) (s : Seen) (changes : List Changes) (at : At) (q : BoundQuery) (f : FromItem) (d : Database) (p : Projected) (epoch : ℕ) (places : List (Option ℕ)) (out : List (List Value)) (t : Table)
-    → IsTaken s q f p → IsRead m s changes at d → ArePlacesOf q f.first f.columns (ordinals p.entry) places → epoch ≡ epoch_of at s.catalogue.last → AreRows s changes at f m p epoch places out
-    → slice_get d.tables f.table ≡ Some t → f.columns ≡ length t.columns → AreSeen q f.first f.columns out (rows_of at d changes t)
-read_over m s changes at q f d p epoch places out t taken read are epoch_is rows is wide =
-    let serves = taken_serves m s q f d t p taken read.are is in
-    over_seen m s changes at q f d p epoch places out t taken read are epoch_is is wide serves
-    (subst (λ (xs : List (List Value)). HasChanges (map (λ a. cleared places a.row) (deletes_of at s.catalogue.tables changes f)) (pending_of at s.catalogue.tables changes f) xs out) (rows.found serves.history.stored serves.history.are)
-    rows.changed)
-
-pub item_seen : (m : Contents) (s : Seen) (changes : List Changes) (at : At) (q : BoundQuery) (f : FromItem) (d : Database) (p : Projected) (epoch : ℕ) (places : List (Option ℕ)) (out : List (List Value))
-    → IsTaken s q f p → IsRead m s changes at d → ArePlacesOf q f.first f.columns (ordinals p.entry) places → epoch ≡ epoch_of at s.catalogue.last → AreRows s changes at f m p epoch places out → IsSeen at changes q d f out
-item_seen m s changes at q f d p epoch places out taken read are epoch_is rows = λ over. by (slice_get d.tables f.table) refl over
-  where
-    by : (o : Option Table) → slice_get d.tables f.table ≡ o → IsSomeAnd o (λ t. f.columns ≡ length t.columns) → AreSeen q f.first f.columns out (option_map_or (rows_of at d changes) o [])
-    by None is none = absurd none
-    by (Some t) is wide = read_over m s changes at q f d p epoch places out t taken read are epoch_is rows is wide
 
 table_at : (d : Database) (f : FromItem) → IsOver d.tables f → (t : Table) × (slice_get d.tables f.table ≡ Some t) × (f.columns ≡ length t.columns)
 table_at d f over = by (slice_get d.tables f.table) refl over
@@ -136,26 +115,88 @@ none_beyond bounds columns (row ∷ passed) none beyond =
     let in_none : within bounds row ≡ true = ap (λ (bs : List Bound). within bs row) none in
     absurd (cc)
 
+-- none is gone, or none was passed over
+nothing_passed : (places : List (Option ℕ)) (deletes : List Asked) (bounds : List Bound) (passed : List (List Value)) → (deletes ≡ []) ⊎ (bounds ≡ []) → All (IsBeyond bounds (length places)) passed
+    → (map (λ (a : Asked). cleared places a.row) deletes ≡ []) ⊎ (passed ≡ [])
+nothing_passed places deletes bounds passed (inl none) beyond = inl (ap (map (λ (a : Asked). cleared places a.row)) none)
+nothing_passed places deletes bounds passed (inr none) beyond = inr (none_beyond bounds (length places) passed none beyond)
+
 -- on a row that lies out of the bounds of the conditions no tuple is kept
-beyond_out : (q : BoundQuery) (bounds : List Bound) (columns : ℕ) (row : List Value) → All (λ b. b.column < columns) bounds → ((row : List Value) → is_kept q.keep row ≡ true → within bounds row ≡ true) → IsBeyond bounds columns row → IsOut q row
-beyond_out q bounds columns row own kept (long, beyond) = λ rest. by rest (is_kept q.keep (row ++ rest)) refl
+beyond_out : (q : BoundQuery) (first : ℕ) (bounds : List Bound) (columns : ℕ) (row : List Value) → All (λ b. b.column < columns) bounds → ((row : List Value) → is_kept q.keep row ≡ true → within bounds (drop first row) ≡ true)
+    → IsBeyond bounds columns row → IsOut q first row
+beyond_out q first bounds columns row own kept (long, beyond) = λ before rest at. by before rest at (is_kept q.keep (before ++ (row ++ rest))) refl
   where
-    by : (rest : List Value) (b : Bool) → is_kept q.keep (row ++ rest) ≡ b → is_kept q.keep (row ++ rest) ≡ false
-    by rest false is = is
-    by rest true is =
-        let front : within bounds row ≡ true = front_within bounds row rest (subst (λ (n : ℕ). All (λ b. b.column < n) bounds) (sym long) own) (kept (row ++ rest) is) in
+    by : (before rest : List Value) → length before ≡ first → (b : Bool) → is_kept q.keep (before ++ (row ++ rest)) ≡ b → is_kept q.keep (before ++ (row ++ rest)) ≡ false
+    by before rest at false is = is
+    by before rest at true is =
+        let behind : drop first (before ++ (row ++ rest)) ≡ row ++ rest = subst (λ (n : ℕ). drop n (before ++ (row ++ rest)) ≡ row ++ rest) at (drop-append_seam before (row ++ rest)) in
+        let front : within bounds row ≡ true =
+        front_within bounds row rest (subst (λ (n : ℕ). All (λ b. b.column < n) bounds) (sym long) own) (sym (ap (within bounds) behind) ∙ kept (before ++ (row ++ rest)) is) in
         absurd (cc)
 
--- the bounds of the rows that a run takes of a FROM item, where these are to be taken out
-pub record AreBounds (q : BoundQuery) (columns : ℕ) (deletes : List Asked) (bounds : List Bound) : Type 0 where
+-- the bounds of the rows of a FROM item, whose first column has this place, where these are to be taken out
+pub record AreBounds (q : BoundQuery) (first columns : ℕ) (deletes : List Asked) (bounds : List Bound) : Type 0 where
   pub own : All (λ b. b.column < columns) bounds
-  pub kept : (row : List Value) → is_kept q.keep row ≡ true → within bounds row ≡ true
+  pub kept : (row : List Value) → is_kept q.keep row ≡ true → within bounds (drop first row) ≡ true
   pub whole : (deletes ≡ []) ⊎ (bounds ≡ [])
+
+-- ---- rows that suffice
+
+-- of the rows that a projection shows these came, within the bounds; without the gone ones, and with the pending ones, they suffice for the item
+less_suffice : (m : Contents) (s : Seen) (changes : List Changes) (at : At) (q : BoundQuery) (f : FromItem) (d : Database) (p : Projected) (epoch : ℕ) (places : List (Option ℕ)) (bounds : List Bound) (came less : List (List Value)) (t : Table)
+    (taken : IsTaken s q f p) → IsRead m s changes at d → ArePlacesOf q f.first f.columns (ordinals p.entry) places → epoch ≡ epoch_of at s.catalogue.last → slice_get d.tables f.table ≡ Some t → f.columns ≡ length t.columns
+    → (serves : Serves m q f d taken.table t p) → AreBounds q f.first f.columns (deletes_of at s.catalogue.tables changes f) bounds
+    → Passes bounds (length places) (map (placed places) (visible epoch serves.history.stored)) came → IsLess (map (λ a. cleared places a.row) (deletes_of at s.catalogue.tables changes f)) came less
+    → (rows : List (List Value)) × AreSeen q f.first f.columns rows (rows_of at d changes t) × AreEnough q f.first f.columns (less ++ pending_of at s.catalogue.tables changes f) rows
+less_suffice m s changes at q f d p epoch places bounds came less t taken read are epoch_is is wide serves bounds_are passes lessens =
+    let deletes = deletes_of at s.catalogue.tables changes f in
+    let gone = map (λ (a : Asked). cleared places a.row) deletes in
+    let behind = pending_of at s.catalogue.tables changes f in
+    let shown = map (placed places) (visible epoch serves.history.stored) in
+    let passed = passes.passed in
+    let lessened : IsLess gone shown (less ++ passed) = less_passed gone shown came less passed passes.parts lessens (nothing_passed places deletes bounds passed bounds_are.whole passes.beyond) in
+    let seen : AreSeen q f.first f.columns ((less ++ passed) ++ behind) (rows_of at d changes t) =
+    over_seen m s changes at q f d p epoch places ((less ++ passed) ++ behind) t taken read are epoch_is is wide serves (less ++ passed, lessened, refl) in
+    let own : All (λ b. b.column < length places) bounds = subst (λ (n : ℕ). All (λ b. b.column < n) bounds) (sym are.long) bounds_are.own in
+    let parts : SameBag ((less ++ passed) ++ behind) ((less ++ behind) ++ passed) = behind_passed less passed behind in (
+      (less ++ passed) ++ behind,
+      seen,
+      record {
+        wide = wide_front f.columns (less ++ behind) passed ((less ++ passed) ++ behind) parts seen.wide;
+        passed = passed;
+        parts = parts;
+        out = All-weaker (IsBeyond bounds (length places)) (IsOut q f.first) (λ row beyond. beyond_out q f.first bounds (length places) row own bounds_are.kept beyond) passed passes.beyond;
+      },
+    )
+
+-- rows that a scan of the projection at these places makes within bounds, with the changes of a session, are these
+pub record AreRows (s : Seen) (changes : List Changes) (at : At) (f : FromItem) (m : Contents) (p : Projected) (epoch : ℕ) (places : List (Option ℕ)) (bounds : List Bound) (out : List (List Value)) : Type 0 where
+  pub scanned : List (List Value)
+  pub found : (rows : List Stamped) → Stores m p rows → Passes bounds (length places) (map (placed places) (visible epoch rows)) scanned
+  pub changed : HasChanges (map (λ a. cleared places a.row) (deletes_of at s.catalogue.tables changes f)) (pending_of at s.catalogue.tables changes f) scanned out
+
+pub item_suffices : (m : Contents) (s : Seen) (changes : List Changes) (at : At) (q : BoundQuery) (f : FromItem) (d : Database) (p : Projected) (epoch : ℕ) (places : List (Option ℕ)) (bounds : List Bound) (out : List (List Value))
+    → IsTaken s q f p → IsRead m s changes at d → ArePlacesOf q f.first f.columns (ordinals p.entry) places → epoch ≡ epoch_of at s.catalogue.last → AreBounds q f.first f.columns (deletes_of at s.catalogue.tables changes f) bounds
+    → AreRows s changes at f m p epoch places bounds out → Suffice at changes q d f out
+item_suffices m s changes at q f d p epoch places bounds out taken read are epoch_is bounds_are rows = λ over. by (table_at d f over) rows.changed
+  where
+    by : (t : Table) × (slice_get d.tables f.table ≡ Some t) × (f.columns ≡ length t.columns)
+        → HasChanges (map (λ a. cleared places a.row) (deletes_of at s.catalogue.tables changes f)) (pending_of at s.catalogue.tables changes f) rows.scanned out
+        → (all : List (List Value)) × AreSeen q f.first f.columns all (item_rows at d changes f) × AreEnough q f.first f.columns out all
+    by (t, is, wide) (less, lessens, out_is) =
+        let serves = taken_serves m s q f d t p taken read.are is in
+        let found =
+        less_suffice m s changes at q f d p epoch places bounds rows.scanned less t taken read are epoch_is is wide serves bounds_are (rows.found serves.history.stored serves.history.are) lessens in
+        let at_table : rows_of at d changes t ≡ item_rows at d changes f = sym (ap (λ (o : Option Table). option_map_or (rows_of at d changes) o no_rows) is) in (
+          found.0,
+          subst (AreSeen q f.first f.columns found.0) at_table found.1,
+          subst (λ (xs : List (List Value)). AreEnough q f.first f.columns xs found.0) (sym out_is) found.2,
+        )
 
 -- so it is where the rows go to a run of the query
 pub item_taken : (m : Contents) (s : Seen) (changes : List Changes) (at : At) (q : BoundQuery) (f : FromItem) (d : Database) (p : Projected) (epoch : ℕ) (places : List (Option ℕ)) (bounds : List Bound) (first : Asked → ℕ) (old mid new : Run) → IsTaken s q f p
     → ArePlacesOf q f.first f.columns (ordinals p.entry) places → epoch ≡ epoch_of at s.catalogue.last → ((a : Asked) → first a ≡ tally a (map (λ x. asked (cleared places x.row)) (deletes_of at s.catalogue.tables changes f)))
-    → AreBounds q f.columns (deletes_of at s.catalogue.tables changes f) bounds
+    → AreBounds q f.first f.columns (deletes_of at s.catalogue.tables changes f) bounds
     → ((rows : List Stamped) → Stores m p rows → TakesLess q bounds (length places) first (map (placed places) (visible epoch rows)) old mid) → TakesRows q (pending_of at s.catalogue.tables changes f) mid new
     → IsRead m s changes at d → IsOver d.tables f → TakesItem at changes q d f old new
 item_taken m s changes at q f d p epoch places bounds first old mid new taken are epoch_is first_is bounds_are takes pending read over = λ more has. by more (table_at d f over) has
@@ -169,34 +210,17 @@ item_taken m s changes at q f d p epoch places bounds first old mid new taken ar
     counted : (a : Asked) → first a ≡ tally a (map asked gone)
     counted a = first_is a ∙ ap (tally a) (sym (gone_counted places (deletes_of at s.catalogue.tables changes f)))
 
-    nothing : (passed : List (List Value)) → All (IsBeyond bounds (length places)) passed → (deletes_of at s.catalogue.tables changes f ≡ []) ⊎ (bounds ≡ []) → (gone ≡ []) ⊎ (passed ≡ [])
-    nothing passed beyond (inl none) = inl (ap (map (λ (a : Asked). cleared places a.row)) none)
-    nothing passed beyond (inr none) = inr (none_beyond bounds (length places) passed none beyond)
-
     by : (more : List (List (List Value))) → (t : Table) × (slice_get d.tables f.table ≡ Some t) × (f.columns ≡ length t.columns) → HasTaken q more [] old
-        → (rows : List (List Value)) × IsSeen at changes q d f rows × HasEnough q more rows new
+        → (rows : List (List Value)) × Suffice at changes q d f rows × HasTaken q more rows new
     by more (t, is, wide) has =
         let serves = taken_serves m s q f d t p taken read.are is in
-        let stored = serves.history.stored in
-        let took = takes stored serves.history.are more has in
-        let came = took.0 in
+        let took = takes serves.history.stored serves.history.are more has in
         let less = took.1 in
-        let passes = took.2 in
-        let passed = passes.passed in
-        let lessens : IsLess gone (map (placed places) (visible epoch stored)) (less ++ passed) =
-        less_passed gone (map (placed places) (visible epoch stored)) came less passed passes.parts (took.3 gone counted) (nothing passed passes.beyond bounds_are.whole) in
-        let seen : AreSeen q f.first f.columns ((less ++ passed) ++ behind) (rows_of at d changes t) =
-        over_seen m s changes at q f d p epoch places ((less ++ passed) ++ behind) t taken read are epoch_is is wide serves (less ++ passed, lessens, refl) in
-        let own : All (λ b. b.column < length places) bounds = subst (λ (n : ℕ). All (λ b. b.column < n) bounds) (sym are.long) bounds_are.own in (
-          (less ++ passed) ++ behind,
-          λ there. subst (λ (o : Option Table). AreSeen q f.first f.columns ((less ++ passed) ++ behind) (option_map_or (rows_of at d changes) o no_rows)) (sym is) seen,
-          record {
-            came = less ++ behind;
-            passed = passed;
-            parts = behind_passed less passed behind;
-            out = All-weaker (IsBeyond bounds (length places)) (IsOut q) (λ row beyond. beyond_out q bounds (length places) row own bounds_are.kept beyond) passed passes.beyond;
-            taken = pending more less took.4;
-          },
+        let found = less_suffice m s changes at q f d p epoch places bounds took.0 less t taken read are epoch_is is wide serves bounds_are took.2 (took.3 gone counted) in
+        let at_table : rows_of at d changes t ≡ item_rows at d changes f = sym (ap (λ (o : Option Table). option_map_or (rows_of at d changes) o no_rows) is) in (
+          less ++ behind,
+          λ there. (found.0, subst (AreSeen q f.first f.columns found.0) at_table found.1, found.2),
+          pending more less took.4,
         )
 
 -- no file of the projection is to blame
@@ -210,15 +234,25 @@ item_unblamed m s changes at q f d p fault taken read over blames = by (slice_ge
 
 -- ---- all FROM items
 
-pub seen_from : (at : At) (changes : List Changes) (q : BoundQuery) (d : Database) (first : ℕ) (fs : List FromItem) (seen : List (List (List Value))) → AreOver first d.tables fs → AllZip (IsSeen at changes q d) fs seen
-    → AreSeenFrom q first fs seen (map (item_rows at d changes) fs)
-seen_from at changes q d first [] [] over all = tt
-seen_from at changes q d first [] (x ∷ seen) over all = absurd all
-seen_from at changes q d first (f ∷ fs) [] over all = absurd all
-seen_from at changes q d first (f ∷ fs) (x ∷ seen) (is, here, over) (one, more) = (
-  subst (λ (n : ℕ). AreSeen q n f.columns x (item_rows at d changes f)) is (one here),
-  seen_from at changes q d (first + f.columns) fs seen over more,
-)
+-- rows that suffice for each FROM item
+pub record AllSuffice (at : At) (changes : List Changes) (q : BoundQuery) (d : Database) (first : ℕ) (fs : List FromItem) (some : List (List (List Value))) : Type 0 where
+  pub rows : List (List (List Value))
+  pub seen : AreSeenFrom q first fs rows (map (item_rows at d changes) fs)
+  pub enough : AreEnoughFrom q first fs some rows
+
+all_suffice : (at : At) (changes : List Changes) (q : BoundQuery) (d : Database) (first : ℕ) (fs : List FromItem) (some : List (List (List Value))) → AreOver first d.tables fs → AllZip (Suffice at changes q d) fs some
+    → AllSuffice at changes q d first fs some
+all_suffice at changes q d first [] [] over all = record { rows = []; seen = tt; enough = tt }
+all_suffice at changes q d first [] (x ∷ some) over all = absurd all
+all_suffice at changes q d first (f ∷ fs) [] over all = absurd all
+all_suffice at changes q d first (f ∷ fs) (x ∷ some) (is, here, over) (one, more) =
+    let own = one here in
+    let others = all_suffice at changes q d (first + f.columns) fs some over more in
+    record {
+      rows = own.0 ∷ others.rows;
+      seen = (subst (λ (n : ℕ). AreSeen q n f.columns own.0 (item_rows at d changes f)) is own.1, others.seen);
+      enough = (subst (λ (n : ℕ). AreEnough q n f.columns x own.0) is own.2, others.enough);
+    }
 
 pub each_over : (first : ℕ) (tables : List Table) (fs : List FromItem) → AreOver first tables fs → All (IsOver tables) fs
 each_over first tables [] over = All-nil (IsOver tables)
@@ -230,33 +264,33 @@ pub read_of : {D : Type 0} (disk : Ghosts D) (s : Seen) (now : D) (changes : Lis
 read_of disk s now changes at q d can = record { are = can.stands.are; sound = can.stands.sound; epoch = can.epoch; session = can.session }
 
 -- a run that has taken what a query reads of all items
-pub items_read : (at : At) (changes : List Changes) (q : BoundQuery) (d : Database) (first : FromItem) (others : List FromItem) (given more : List (List (List Value))) (old new : Run) → given ≡ more → AllZip (IsSeen at changes q d) others more
+pub items_read : (at : At) (changes : List Changes) (q : BoundQuery) (d : Database) (first : FromItem) (others : List FromItem) (given more : List (List (List Value))) (old new : Run) → given ≡ more → AllZip (Suffice at changes q d) others more
     → HasTaken q given [] old → TakesItem at changes q d first old new → HasRead at changes q d (first ∷ others) new
-items_read at changes q d first others given more old new same seen none takes =
+items_read at changes q d first others given more old new same suffice none takes =
     let own = subst (λ (xs : List (List (List Value))). HasTaken q xs [] old) same none in
     let took = takes more own in
     record {
       rows = took.0;
       more = more;
-      seen = (took.1, seen);
-      enough = took.2;
+      suffice = (took.1, suffice);
+      taken = took.2;
     }
 
 -- a query without a FROM item reads nothing
 pub nothing_read : (at : At) (d : Database) (changes : List Changes) (q : BoundQuery) (items : List FromItem) → items ≡ q.sources → length items ≡ 0 → source_rows at d changes q ≡ []
 nothing_read at d changes q items is none = ap (map (item_rows at d changes)) (sym is ∙ nil_from_length items none)
 
--- what a run took and holds is, for the query, what the FROM items have
-pub run_seen : {D : Type 0} (disk : Ghosts D) (s : Seen) (now : D) (changes : List Changes) (at : At) (q : BoundQuery) (d : Database) (items : List FromItem) (r : Run) → items ≡ q.sources
+-- what a run took and holds suffices for all FROM items
+pub run_suffices : {D : Type 0} (disk : Ghosts D) (s : Seen) (now : D) (changes : List Changes) (at : At) (q : BoundQuery) (d : Database) (items : List FromItem) (r : Run) → items ≡ q.sources
     → ((m : Contents) → disk.holds now ≡ Some m → (e : Database) → IsRead m s changes at e → All (IsOver e.tables) items → HasRead at changes q e items r) → CanRead disk s now changes at q d
-    → (rows : List (List Value)) × (more : List (List (List Value))) × AreSeenFrom q 0 q.sources (rows ∷ more) (source_rows at d changes q) × HasEnough q more rows r
-run_seen disk s now changes at q d items r is reads can =
+    → (rows : List (List Value)) × (more : List (List (List Value))) × AllSuffice at changes q d 0 q.sources (rows ∷ more) × HasTaken q more rows r
+run_suffices disk s now changes at q d items r is reads can =
     let over = subst (λ (fs : List FromItem). All (IsOver d.tables) fs) (sym is) (each_over 0 d.tables q.sources can.over) in
     let has = reads can.stands.files can.stands.quiet.told_is d (read_of disk s now changes at q d can) over in (
       has.rows,
       has.more,
-      seen_from at changes q d 0 q.sources (has.rows ∷ has.more) can.over (subst (λ (fs : List FromItem). AllZip (IsSeen at changes q d) fs (has.rows ∷ has.more)) is has.seen),
-      has.enough,
+      all_suffice at changes q d 0 q.sources (has.rows ∷ has.more) can.over (subst (λ (fs : List FromItem). AllZip (Suffice at changes q d) fs (has.rows ∷ has.more)) is has.suffice),
+      has.taken,
     )
 
 store_unblamed : (fault : StoreFault) → disk_faults.IsUnblamed fault → IsUnblamed (of_store fault)

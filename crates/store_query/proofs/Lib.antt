@@ -5,5 +5,6 @@ pub mod Pendings
 pub mod Putting
 pub mod Served
 pub mod Fed
+pub mod Gathered
 pub mod ItemRows
 pub mod Seeing

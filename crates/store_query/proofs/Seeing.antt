@@ -58,6 +58,14 @@ wide_behind : (n : ℕ) (xs ys : Rows) → AreWide n (xs ++ ys) → AreWide n ys
 wide_behind n [] ys wide = wide
 wide_behind n (x ∷ xs) ys wide = wide_behind n xs ys (All-tail (λ row. length row ≡ n) x (xs ++ ys) wide)
 
+wide_before : (n : ℕ) (xs ys : Rows) → AreWide n (xs ++ ys) → AreWide n xs
+wide_before n [] ys wide = All-nil (λ row. length row ≡ n)
+wide_before n (x ∷ xs) ys wide =
+    All-cons (λ row. length row ≡ n) x xs (All-head (λ row. length row ≡ n) x (xs ++ ys) wide) (wide_before n xs ys (All-tail (λ row. length row ≡ n) x (xs ++ ys) wide))
+
+pub wide_front : (n : ℕ) (xs ys rows : Rows) → SameBag rows (xs ++ ys) → AreWide n rows → AreWide n xs
+wide_front n xs ys rows parts wide = wide_before n xs ys (wide_bag n rows (xs ++ ys) parts wide)
+
 -- ---- the changes of a session, where its view is read
 
 pub pending_in : At → List Changes → Table → Rows

@@ -7,7 +7,6 @@ use Rattle.col_value.specs.declared.value.Value.{Value}
 use Rattle.sql_tree.specs.declared.query.At.{At}
 use Rattle.sql_bound.specs.declared.query.FromItem.{FromItem}
 use Rattle.sql_bound.specs.declared.query.BoundQuery.{BoundQuery}
-use Rattle.sql_bound.specs.Outputs.{is_kept}
 use Rattle.row_bounds.specs.Bounds.{within}
 use Rattle.row_bounds.specs.declared.bound.Bound.{Bound}
 use Rattle.db_model.specs.Database.{Database}
@@ -16,7 +15,7 @@ use Rattle.query_run.specs.Runs.{HasTaken}
 use Rattle.query_run.specs.declared.run.Run.{Run}
 use Rattle.wanted_rows.specs.Wanted.{tally}
 use Rattle.store_query.specs.Lessening.{asked, AreGone}
-use Rattle.store_query.specs.Reading.{IsSeen}
+use Rattle.store_query.specs.Reading.{Suffice}
 
 -- a run takes these rows
 abbrev pub TakesRows : BoundQuery → List (List Value) → Run → Run → Type 0
@@ -49,25 +48,13 @@ abbrev pub TakesLess : BoundQuery → List Bound → ℕ → (Asked → ℕ) →
 TakesLess q bounds columns need rows old new =
     (more : List (List (List Value))) → HasTaken q more [] old → (came : List (List Value)) × (less : List (List Value)) × Passes bounds columns rows came × AreGone need came less × HasTaken q more less new
 
--- no tuple that begins with the row is kept
-abbrev pub IsOut : BoundQuery → List Value → Type 0
-IsOut q row = (rest : List Value) → is_kept q.keep (row ++ rest) ≡ false
-
--- a run took these rows but for some on which no tuple is kept
-pub record HasEnough (q : BoundQuery) (more : List (List (List Value))) (rows : List (List Value)) (r : Run) : Type 0 where
-  pub came : List (List Value)
-  pub passed : List (List Value)
-  pub parts : SameBag rows (came ++ passed)
-  pub out : All (IsOut q) passed
-  pub taken : HasTaken q more came r
-
--- it takes enough of what are for the query the rows of a FROM item
+-- a run to which no row of a FROM item has come takes rows that suffice for the item
 abbrev pub TakesItem : At → List Changes → BoundQuery → Database → FromItem → Run → Run → Type 0
-TakesItem at changes q d f old new = (more : List (List (List Value))) → HasTaken q more [] old → (rows : List (List Value)) × IsSeen at changes q d f rows × HasEnough q more rows new
+TakesItem at changes q d f old new = (more : List (List (List Value))) → HasTaken q more [] old → (rows : List (List Value)) × Suffice at changes q d f rows × HasTaken q more rows new
 
--- what are for the query the rows of these FROM items: of the first one a run took enough, and it holds those of the others
+-- a run took rows of the first of these FROM items, and holds rows of the others, that suffice for them
 pub record HasRead (at : At) (changes : List Changes) (q : BoundQuery) (d : Database) (items : List FromItem) (r : Run) : Type 0 where
   pub rows : List (List Value)
   pub more : List (List (List Value))
-  pub seen : AllZip (IsSeen at changes q d) items (rows ∷ more)
-  pub enough : HasEnough q more rows r
+  pub suffice : AllZip (Suffice at changes q d) items (rows ∷ more)
+  pub taken : HasTaken q more rows r

@@ -15,6 +15,7 @@ use Rattle.db_model.specs.State.{Changes, pending_rows, session_view}
 use Rattle.db_model.specs.Sound.{IsSoundDatabase, IsSoundSession}
 use Rattle.folder_model.specs.Tables.{AreDatabase}
 use Rattle.store_commit.specs.Seen.{Seen, Stands}
+use Rattle.query_cover.specs.Enough.{AreEnough}
 use Rattle.query_cover.specs.Seen.{AreSeen}
 
 -- The rows of a table that a query reads: what the session with these changes sees, or what was committed up to an epoch.
@@ -73,6 +74,6 @@ pending_of At.View tables changes f = option_map_or (λ t. pending_rows t.name c
 pending_of At.Latest tables changes f = []
 pending_of (At.Epoch n) tables changes f = []
 
--- for the query these rows are those of a FROM item over its table
-abbrev pub IsSeen : At → List Changes → BoundQuery → Database → FromItem → List (List Value) → Type 0
-IsSeen at changes q d f rows = IsOver d.tables f → AreSeen q f.first f.columns rows (item_rows at d changes f)
+-- for the query these rows are those of a FROM item over its table, but for some on which no tuple is kept
+abbrev pub Suffice : At → List Changes → BoundQuery → Database → FromItem → List (List Value) → Type 0
+Suffice at changes q d f some = IsOver d.tables f → (rows : List (List Value)) × AreSeen q f.first f.columns rows (item_rows at d changes f) × AreEnough q f.first f.columns some rows

@@ -1,6 +1,6 @@
 //! The rows of the FROM items.
 
-ghost use Rattle.std.specs.Prelude.{◌≡◌, ◌<◌, ◌⊎◌, ◌∷◌, true, List as Items, [], Some, map, IfOk, IfErr, OnOk};
+ghost use Rattle.std.specs.Prelude.{◌≡◌, ◌<◌, ◌⊎◌, ◌∷◌, true, List as Items, [], Some, drop, map, IfOk, IfErr, OnOk};
 ghost use Rattle.std.specs.List.{All, AllZip};
 ghost use Rattle.std.specs.Option.{IfSome};
 ghost use Rattle.common_laws.specs.Causes.{HasCause};
@@ -17,20 +17,20 @@ ghost use Rattle.col_disk.specs.Faults.{IsUnblamed};
 ghost use Rattle.table_store.specs.Faults.{BlamesStored};
 ghost use Rattle.store_query.specs.Feeding.{HasRead, TakesItem};
 ghost use Rattle.store_query.specs.Lessening.{cleared, deletes_of, HasChanges};
-ghost use Rattle.store_query.specs.Reading.{epoch_of, pending_of, IsOver, IsRead, IsSeen};
+ghost use Rattle.store_query.specs.Reading.{epoch_of, pending_of, IsOver, IsRead, Suffice};
 ghost use Rattle.store_query.specs.Taking.{IsTaken};
 
 use crate::feeding::{feed_rows, feed_scan};
+use crate::gathering::scan_within;
 use crate::lessening::{deletes_of, wants_of, without_deletes};
 use crate::pending::{add_rows, pending_of};
 use crate::places::places_of;
 use col_disk::{Disk, StoreFault};
 use col_value::{Asked, List, Row};
-use exec_scan::scan_rows;
 use plan_choice::choose;
 use proj_store::ProjStore;
 use query_run::Run;
-use row_bounds::{Bound, bounds_of};
+use row_bounds::{Bound, bounds_from};
 use sql_bound::{BoundQuery, FromItem};
 use sql_tree::At;
 use std::alloc::{AllocError, Global};
@@ -92,7 +92,26 @@ fn with_changes(
     Ok(rows)
 }
 
-/// The rows that a query reads of a FROM item's table: those of the chosen projection, with the session's changes.
+/// The bounds in which the rows of a FROM item have to lie. There are none where the session deletes rows of its table, since each of these
+/// has to come to be taken out.
+fn bounds_for(
+    alloc: Global,
+    query: &BoundQuery,
+    item: FromItem,
+    deletes: &[Asked],
+) -> Result<Vec<Bound>, AllocError>
+    ensures own { IfOk result (λ v. All (λ b. b.column < item.columns) v.items) }
+    ensures kept { IfOk result (λ v. (row : Items Item) → is_kept query.now.keep row ≡ true → within v.items (drop item.first row) ≡ true) }
+    ensures whole { IfOk result (λ v. (deletes.now ≡ []) ⊎ (v.items ≡ [])) }
+{
+    if deletes.is_empty() {
+        return bounds_from(alloc, query.keep.as_slice(), item.first, item.columns);
+    }
+    Ok(Vec::new(alloc))
+}
+
+/// The rows that a query reads of a FROM item's table: those of the chosen projection, but for some that lie out of the bounds of the
+/// conditions, with the session's changes.
 fn rows_of_item<D: Disk>(
     alloc: Global,
     tables: &TableStore,
@@ -102,7 +121,7 @@ fn rows_of_item<D: Disk>(
     item: FromItem,
     disk: &mut D,
 ) -> Result<Vec<Row>, StoreFault>
-    ensures seen { IfOk result (λ v. (m : Contents) → D.holds disk.old ≡ Some m → (d : Database) → IsRead m tables.now changes.now at d → IsSeen at changes.now query.now d item v.items) }
+    ensures suffice { IfOk result (λ v. (m : Contents) → D.holds disk.old ≡ Some m → (d : Database) → IsRead m tables.now changes.now at d → Suffice at changes.now query.now d item v.items) }
     ensures valid { IfOk result (λ v. All IsRow v.items) }
     ensures unblamed { IfErr result (λ fault. (m : Contents) → D.holds disk.old ≡ Some m → (d : Database) → IsRead m tables.now changes.now at d → IsOver d.tables item → IsUnblamed fault) }
     ensures blamed { IfErr result (BlamesStored tables.now.stores (D.holds disk.old)) }
@@ -122,8 +141,13 @@ fn rows_of_item<D: Disk>(
         Ok(scanned) => scanned,
         Err(AllocError) => return Err(StoreFault::Memory),
     };
+    let deletes = deletes_of(tables, changes, at, item);
+    let bounds = match bounds_for(alloc, query, item, deletes) {
+        Ok(bounds) => bounds,
+        Err(AllocError) => return Err(StoreFault::Memory),
+    };
     let epoch = epoch_of(at, tables.last());
-    let rows = match scan_rows(alloc, store, epoch, scanned, disk) {
+    let rows = match scan_within(alloc, store, epoch, scanned, bounds, disk) {
         Ok(rows) => rows,
         Err(fault) => return Err(fault),
     };
@@ -131,24 +155,6 @@ fn rows_of_item<D: Disk>(
         Ok(rows) => Ok(rows),
         Err(AllocError) => Err(StoreFault::Memory),
     }
-}
-
-/// The bounds in which the rows of a FROM item have to lie. There are none where the session deletes rows of its table, since each of these
-/// has to come to be taken out.
-fn bounds_for(
-    alloc: Global,
-    query: &BoundQuery,
-    item: FromItem,
-    deletes: &[Asked],
-) -> Result<Vec<Bound>, AllocError>
-    ensures own { IfOk result (λ v. All (λ b. b.column < item.columns) v.items) }
-    ensures kept { IfOk result (λ v. (row : Items Item) → is_kept query.now.keep row ≡ true → within v.items row ≡ true) }
-    ensures whole { IfOk result (λ v. (deletes.now ≡ []) ⊎ (v.items ≡ [])) }
-{
-    if deletes.is_empty() {
-        return bounds_of(alloc, query.keep.as_slice(), item.columns);
-    }
-    Ok(Vec::new(alloc))
 }
 
 /// Gives a run what a query reads of a FROM item's table, of which none but a batch is held: the rows of the chosen projection, but for those
@@ -202,7 +208,7 @@ fn feed_item<D: Disk>(
     }
 }
 
-/// The rows that a query reads of each of these FROM items.
+/// The rows that a query reads of each of these FROM items, but for some on which no tuple is kept.
 fn rows_of_items<D: Disk>(
     alloc: Global,
     tables: &TableStore,
@@ -212,7 +218,7 @@ fn rows_of_items<D: Disk>(
     items: &[FromItem],
     disk: &mut D,
 ) -> Result<Vec<List<Row>>, StoreFault>
-    ensures seen { IfOk result (λ v. (m : Contents) → D.holds disk.old ≡ Some m → (d : Database) → IsRead m tables.now changes.now at d → AllZip (IsSeen at changes.now query.now d) items.now v.items) }
+    ensures suffice { IfOk result (λ v. (m : Contents) → D.holds disk.old ≡ Some m → (d : Database) → IsRead m tables.now changes.now at d → AllZip (Suffice at changes.now query.now d) items.now v.items) }
     ensures valid { IfOk result (λ v. All (All IsRow) v.items) }
     ensures unblamed { IfErr result (λ fault. (m : Contents) → D.holds disk.old ≡ Some m → (d : Database) → IsRead m tables.now changes.now at d → All (IsOver d.tables) items.now → IsUnblamed fault) }
     ensures blamed { IfErr result (BlamesStored tables.now.stores (D.holds disk.old)) }

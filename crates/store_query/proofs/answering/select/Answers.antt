@@ -2,7 +2,7 @@ use Rattle.std.proofs.Common.{◌≡◌, ◌∙◌, List, ◌∷◌, Err, refl, 
 use Rattle.col_disk.proofs.Moving.{moved_none}
 use Rattle.query_run.specs.declared.fault.QueryFault.{QueryFault}
 use Rattle.query_run.specs.declared.fault.QueryFault.TheVariants as query
-use Rattle.query_cover.proofs.Less.{great_less, not_great_less, printed_less}
+use Rattle.query_cover.proofs.Enough.{great_enough, not_great_enough, printed_enough}
 use Rattle.query_cover.proofs.Permuted.{great_seen, not_great_seen, printed_seen}
 use Rattle.store_query.specs.declared.fault.SelectFault.{SelectFault}
 use Rattle.store_query.specs.declared.fault.SelectFault.TheVariants as select
@@ -11,7 +11,7 @@ use Rattle.sql_bound.specs.Outputs.{IsSumTooGreat}
 use Rattle.store_query.specs.Faults.{of_query, BlamesRead, IsUnblamed}
 use Rattle.store_query.specs.Reading.{source_rows}
 use Rattle.store_query.proofs.Blames.{query_blames, read_blames}
-use Rattle.store_query.proofs.ItemRows.{nothing_read, run_seen, select_unblamed}
+use Rattle.store_query.proofs.ItemRows.{nothing_read, run_suffices, select_unblamed}
 use Rattle.store_query.proofs.answering.select.Goals as goal
 
 great_told : (f : QueryFault) → of_query f ≡ select.SumOutOfRange → f ≡ query.SumOutOfRange
@@ -46,19 +46,17 @@ pub returns-in-Ok-finish-clause-printed : goal.returns-in-Ok-finish-clause-print
 returns-in-Ok-finish-clause-printed g c = λ d can.
     let q = c.args.query.now in
     let own = sym c.in-Some.ensures.cases.0 ∙ c.as_slice.ensures in
-    let seen = run_seen g.D.Disk c.args.tables.now c.args.disk.now c.args.changes.now c.args.at q d (c.in-Some.first.now ∷ c.in-Some.others.now) c.in-Ok-run_of.run' own c.in-Ok-run_of.ensures.read can in
-    let enough = seen.3 in
-    printed_seen q (seen.0 ∷ seen.1) (source_rows c.args.at d c.args.changes.now q) c.in-Ok-finish.rows.items seen.2
-    (printed_less q enough.came enough.passed seen.0 seen.1 c.in-Ok-finish.rows.items enough.parts enough.out (c.in-Ok-finish.ensures.printed seen.1 enough.came enough.taken))
+    let (first, more, suffice, taken) = run_suffices g.D.Disk c.args.tables.now c.args.disk.now c.args.changes.now c.args.at q d (c.in-Some.first.now ∷ c.in-Some.others.now) c.in-Ok-run_of.run' own c.in-Ok-run_of.ensures.read can in
+    printed_seen q suffice.rows (source_rows c.args.at d c.args.changes.now q) c.in-Ok-finish.rows.items suffice.seen
+    (printed_enough q (first ∷ more) suffice.rows c.in-Ok-finish.rows.items suffice.enough (c.in-Ok-finish.ensures.printed more first taken))
 
 pub returns-in-Ok-finish-clause-in_range : goal.returns-in-Ok-finish-clause-in_range
 returns-in-Ok-finish-clause-in_range g c = λ d can great.
     let q = c.args.query.now in
     let own = sym c.in-Some.ensures.cases.0 ∙ c.as_slice.ensures in
-    let seen = run_seen g.D.Disk c.args.tables.now c.args.disk.now c.args.changes.now c.args.at q d (c.in-Some.first.now ∷ c.in-Some.others.now) c.in-Ok-run_of.run' own c.in-Ok-run_of.ensures.read can in
-    let enough = seen.3 in
-    c.in-Ok-finish.ensures.in_range seen.1 enough.came enough.taken
-    (not_great_less q enough.came enough.passed seen.0 seen.1 enough.parts enough.out (not_great_seen q (seen.0 ∷ seen.1) (source_rows c.args.at d c.args.changes.now q) seen.2 great))
+    let (first, more, suffice, taken) = run_suffices g.D.Disk c.args.tables.now c.args.disk.now c.args.changes.now c.args.at q d (c.in-Some.first.now ∷ c.in-Some.others.now) c.in-Ok-run_of.run' own c.in-Ok-run_of.ensures.read can in
+    c.in-Ok-finish.ensures.in_range more first taken
+    (not_great_enough q (first ∷ more) suffice.rows suffice.enough (not_great_seen q suffice.rows (source_rows c.args.at d c.args.changes.now q) suffice.seen great))
 
 pub returns-in-Ok-clause-in_range : goal.returns-in-Ok-clause-in_range
 returns-in-Ok-clause-in_range g c = λ d can great.
@@ -80,7 +78,6 @@ returns-in-Err-finish-clause-great g c = λ is d can.
     let own = sym c.in-Some.ensures.cases.0 ∙ c.as_slice.ensures in
     let same : c.from-in-Err-finish.result ≡ select.SumOutOfRange = cc in
     let told = great_told c.in-Err-finish.fault (sym c.from-in-Err-finish.ensures ∙ same) in
-    let seen = run_seen g.D.Disk c.args.tables.now c.args.disk.now c.args.changes.now c.args.at q d (c.in-Some.first.now ∷ c.in-Some.others.now) c.in-Ok-run_of.run' own c.in-Ok-run_of.ensures.read can in
-    let enough = seen.3 in
-    great_seen q (seen.0 ∷ seen.1) (source_rows c.args.at d c.args.changes.now q) seen.2
-    (great_less q enough.came enough.passed seen.0 seen.1 enough.parts enough.out (c.in-Err-finish.ensures.great (ap (λ (f : QueryFault). Err f) told) seen.1 enough.came enough.taken))
+    let (first, more, suffice, taken) = run_suffices g.D.Disk c.args.tables.now c.args.disk.now c.args.changes.now c.args.at q d (c.in-Some.first.now ∷ c.in-Some.others.now) c.in-Ok-run_of.run' own c.in-Ok-run_of.ensures.read can in
+    great_seen q suffice.rows (source_rows c.args.at d c.args.changes.now q) suffice.seen
+    (great_enough q (first ∷ more) suffice.rows suffice.enough (c.in-Err-finish.ensures.great (ap (λ (f : QueryFault). Err f) told) more first taken))

@@ -6,7 +6,8 @@ use Rattle.proj_store.specs.Reading.{BlamesRows}
 use Rattle.exec_scan.specs.Batches.{Shown}
 use Rattle.exec_scan.specs.Scanning.{Gives, IsAtHand, IsScanOf, Place}
 use Rattle.wanted_rows.specs.Wanted.{need_in}
-use Rattle.store_query.proofs.Fed.{asks_on, asks_start, streamed_all, streamed_more, streamed_none}
+use Rattle.store_query.proofs.Fed.{streamed_all, streamed_more, streamed_none}
+use Rattle.store_query.proofs.Gathered.{asks_on, asks_start}
 use Rattle.store_query.proofs.feeding.feed_scan.Goals as goal
 
 pub loop-batch-init : goal.loop-batch-init
@@ -33,7 +34,7 @@ returns-in-Ok-None-clause-moved g c = moved_join g.D.Disk c.loop-batch.invariant
 pub returns-in-Err-clause-unblamed : goal.returns-in-Err-clause-unblamed
 returns-in-Err-clause-unblamed g c = λ m told rows stores.
     let was = c.loop-batch.invariant.streamed m told rows stores in
-    c.in-Err.ensures.unblamed m (c.loop-batch.invariant.kept ∙ told) was.rest was.left
+    c.in-Err.ensures.unblamed m (c.loop-batch.invariant.kept ∙ told) was.gathered.rest was.gathered.left
 
 pub returns-in-Err-clause-blamed : goal.returns-in-Err-clause-blamed
 returns-in-Err-clause-blamed g c =

@@ -7,7 +7,8 @@ use Rattle.stored_rows.specs.Stored.{Stores}
 use Rattle.exec_scan.specs.Scanning.{IsAtHand, IsScanOf, steps_left}
 use Rattle.query_run.specs.Runs.{IsRunOf}
 use Rattle.wanted_rows.specs.Wanted.{need_in}
-use Rattle.store_query.proofs.Fed.{Asks, Streamed}
+use Rattle.store_query.proofs.Fed.{Streamed}
+use Rattle.store_query.proofs.Gathered.{Asks}
 use Rattle.store_query.proofs.feeding.feed_scan.Given as goal
 
 abbrev pub invariant-loop-batch : goal.invariant-loop-batch

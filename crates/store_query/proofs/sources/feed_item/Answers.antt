@@ -47,7 +47,7 @@ returns-in-Ok-feed_rows-clause-taken g c = λ m told d read over.
     let are : ArePlacesOf q f.first f.columns (ordinals p.entry) places = subst (λ (ks : List ProjColumn). ArePlacesOf q f.first f.columns (map (λ k. k.ordinal) ks) places) columns c.in-Ok.ensures.places in
     let first : (a : Asked) → need_in c.in-Ok-wants_of.wants a ≡ tally a (map (λ x. asked (cleared places x.row)) c.deletes_of-deletes.result.now) =
     subst (λ (ps : List (Option ℕ)). (a : Asked) → need_in c.in-Ok-wants_of.wants a ≡ tally a (map (λ x. asked (cleared ps x.row)) c.deletes_of-deletes.result.now)) c.as_slice.ensures.value c.in-Ok-wants_of.ensures in
-    let bounds : AreBounds q f.columns (deletes_of c.args.at s.catalogue.tables c.args.changes.now f) c.in-Ok-bounds_for.bounds.items =
+    let bounds : AreBounds q f.first f.columns (deletes_of c.args.at s.catalogue.tables c.args.changes.now f) c.in-Ok-bounds_for.bounds.items =
     record {
       own = c.in-Ok-bounds_for.ensures.own;
       kept = c.in-Ok-bounds_for.ensures.kept;

@@ -8,13 +8,13 @@ use Rattle.col_disk.proofs.Moving.{moved_join, moved_none}
 use Rattle.col_value.specs.declared.value.Value.{Value}
 use Rattle.col_value.specs.Order.{IsRow}
 use Rattle.exec_scan.proofs.Indexed.{zip_more}
-use Rattle.store_query.specs.Reading.{IsSeen}
+use Rattle.store_query.specs.Reading.{Suffice}
 use Rattle.store_query.proofs.ItemRows.{blank}
 use Rattle.store_query.proofs.sources.rows_of_items.Goals as goal
 
 pub loop-item-init : goal.loop-item-init
 loop-item-init g c = record {
-  seen = λ m told d read. subst (λ (xs : List (List (List Value))). AllZip (IsSeen c.args.at c.args.changes.now c.args.query.now d) [] xs) (sym c.new-out.ensures.items) tt;
+  suffice = λ m told d read. subst (λ (xs : List (List (List Value))). AllZip (Suffice c.args.at c.args.changes.now c.args.query.now d) [] xs) (sym c.new-out.ensures.items) tt;
   valid = subst (λ (xs : List (List (List Value))). All (All IsRow) xs) (sym c.new-out.ensures.items) (All-nil (All IsRow));
   kept = refl;
   moved = moved_none g.D.Disk c.args.disk.now;
@@ -33,10 +33,10 @@ pub loop-item-preserved : goal.loop-item-preserved
 loop-item-preserved g c =
     let was = c.loop-item.invariant in
     record {
-      seen = λ m told d read. zip_more (IsSeen c.args.at c.args.changes.now c.args.query.now d) c.args.items.now c.loop-item.out.items c.push.new.self.items c.loop-item.item-index blank c.new.result c.loop-item-test.true
-          c.in-Ok-push.ensures.items (was.seen m told d read)
-          (subst (λ (xs : List (List Value)). IsSeen c.args.at c.args.changes.now c.args.query.now d (get_or c.args.items.now c.loop-item.item-index blank) xs) (sym c.new.ensures)
-          (c.in-Ok.ensures.seen m (was.kept ∙ told) d read));
+      suffice = λ m told d read. zip_more (Suffice c.args.at c.args.changes.now c.args.query.now d) c.args.items.now c.loop-item.out.items c.push.new.self.items c.loop-item.item-index blank c.new.result c.loop-item-test.true
+          c.in-Ok-push.ensures.items (was.suffice m told d read)
+          (subst (λ (xs : List (List Value)). Suffice c.args.at c.args.changes.now c.args.query.now d (get_or c.args.items.now c.loop-item.item-index blank) xs) (sym c.new.ensures)
+          (c.in-Ok.ensures.suffice m (was.kept ∙ told) d read));
       valid = subst (λ (xs : List (List (List Value))). All (All IsRow) xs) (sym c.in-Ok-push.ensures.items)
           (All-push (All IsRow) c.loop-item.out.items c.new.result was.valid (subst (λ (xs : List (List Value)). All IsRow xs) (sym c.new.ensures) c.in-Ok.ensures.valid));
       kept = c.rows_of_item.ensures.kept ∙ was.kept;

@@ -1,4 +1,4 @@
-use Rattle.std.proofs.Common.{◌∙◌, [], List, refl, subst}
+use Rattle.std.proofs.Common.{◌∙◌, [], refl, subst}
 use Rattle.std.specs.Prelude.{Option}
 use Rattle.common_laws.specs.Maps.{Contents}
 use Rattle.table_store.specs.Faults.{BlamesStored}
@@ -17,7 +17,7 @@ returns-in-Err-clause-unblamed g c = λ m told d read over. c.in-Err.ensures.unb
 pub returns-in-Ok-feed_item-clause-read : goal.returns-in-Ok-feed_item-clause-read
 returns-in-Ok-feed_item-clause-read g c = λ m told d read over.
     items_read c.args.at c.args.changes.now c.args.query.now d c.args.first c.args.others.now c.in-Ok.more.items c.in-Ok.more.items c.in-Ok-new.run' c.feed_item.new.run refl
-    (c.in-Ok.ensures.seen m told d read) c.in-Ok-new.ensures
+    (c.in-Ok.ensures.suffice m told d read) c.in-Ok-new.ensures
     (c.in-Ok-feed_item.ensures.taken m (c.rows_of_items.ensures.kept ∙ told) d read (All-head (IsOver d.tables) c.args.first c.args.others.now over))
 
 pub returns-in-Ok-feed_item-clause-moved : goal.returns-in-Ok-feed_item-clause-moved
