@@ -7,8 +7,7 @@
 //! needed are read, block by block; its epochs only where they are told, or some of them are later than the epoch that is asked for. A
 //! `Batch` holds up to 1,024 rows: those of a block in its columns, with the places of the rows that are left. None of them is made before
 //! `copy_row` asks for it, and that replaces the values of a row that is used again.
-//! `scan_rows` is all batches together: exactly the visible rows of the projection. `retains` says whether a row is retained from a mark on,
-//! and reads nothing. `compare_lanes` compares the numbers of a lane with one number.
+//! `retains` says whether a row is retained from a mark on, and reads nothing. `compare_lanes` compares the numbers of a lane with one number.
 #![tactic(auto)]
 
 mod batch;
@@ -22,10 +21,8 @@ mod ruling;
 mod scan;
 mod shown;
 mod slots;
-mod whole;
 
 pub use batch::Batch;
 pub use retained::retains;
 pub use row_bounds::compare_lanes;
 pub use scan::Scan;
-pub use whole::scan_rows;

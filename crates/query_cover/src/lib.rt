@@ -4,13 +4,12 @@
 //! (`used_columns_decide`). So it may read any projection that has these columns (`a_projection_shows_the_table`), and make rows of
 //! the table's width of what it reads, with NULL in the columns that it doesn't use (`placed_rows_are_seen`).
 //!
-//! It prints the same, too, with and without rows of its first FROM item on which, whatever rows of the others stand behind them, no
-//! tuple meets all conditions (`rows_out_of_bounds_decide_nothing`), and so it does of all FROM items at once (`enough_rows_decide`); so such
-//! rows need not be read.
+//! It prints the same, too, with and without rows of its FROM items on which, whatever rows of the others stand before and behind them, no
+//! tuple meets all conditions (`enough_rows_decide`); so such rows need not be read.
 #![tactic(auto)]
 
 mod bounds;
 mod laws;
 
-pub use bounds::{enough_rows_decide, rows_out_of_bounds_decide_nothing};
+pub use bounds::enough_rows_decide;
 pub use laws::{a_projection_shows_the_table, placed_rows_are_seen, used_columns_decide};
