@@ -70,6 +70,7 @@ impl TableStore {
         ensures catalogue { OnOk result (self.new.catalogue ≡ with_entry_at self.old.catalogue.last next table place entry self.old.catalogue) }
         ensures unblamed { IfErr result (λ fault. (m : Contents) (held : Items Stamped) → D.holds disk.old ≡ Some m → Holds m entry held → IsUnblamed fault) }
         ensures blamed { IfErr result (BlamesLoad entry.containers (D.holds disk.old)) }
+        ensures unwritten { IfErr result (λ fault. (IsUnblamed fault → ⊥) → D.holds disk.new ≡ D.holds disk.old) }
         ensures same { OnErr result (self.new ≡ self.old) }
         ensures cause { HasCause StoreFault.Disk (D.faults disk.old) (D.faults disk.new) result }
     {
