@@ -9,7 +9,7 @@ ghost use Rattle.common_laws.specs.Maps.{Contents};
 ghost use Rattle.catalog_types.specs.Numbers.{file_count};
 ghost use Rattle.col_disk.specs.Moved.{Moved, NoName, Named, Either};
 ghost use Rattle.ros_container.specs.Encodings.{written_of};
-ghost use Rattle.moveout_job.specs.OnDisk.{IsListedBelow};
+ghost use Rattle.moveout_job.specs.OnDisk.{HasVectorBelow, IsListedBelow};
 ghost use Rattle.ros_container.specs.Files.{body_of, index_of};
 ghost use Rattle.container_writer.specs.Ordered.{container_cmp};
 ghost use Rattle.container_writer.specs.Writing.{listed, DataFrom, HoldsBag, AreNumbered};
@@ -262,6 +262,7 @@ impl RefreshJob {
         ensures held { IfOk result (λ r. (m n : Contents) → D.holds disk.old ≡ Some m → D.holds disk.new ≡ Some n → IsSorted (container_cmp old.now) self.now.draft.rows → SameBag self.now.draft.rows (map asked_of (wanted self.now.mark self.now.epoch false self.now.via rows.now)) → IsDraft m (written_of old.now) self.now.draft → length old.now.columns < self.now.draft.done → self.now.draft.base + file_count (length old.now.columns) ≤ next → HoldsBoth n r.entry (wanted self.now.mark self.now.epoch false self.now.via rows.now) (wanted self.now.mark self.now.epoch true self.now.via rows.now)) }
         ensures upto { IfOk result (λ r. r.next ≤ next + 2 * (length old.now.columns + 1) + 2) }
         ensures levels { IfOk result (λ r. All (λ k. k.level ≡ 0) r.entry.containers) }
+        ensures vectors { IfOk result (λ r. (n : Contents) → D.holds disk.new ≡ Some n → All (HasVectorBelow r.next n) r.entry.containers) }
         ensures moved { Moved ⟦<D as Disk>⟧ (DataFrom next) NoName disk.old disk.new }
         ensures cause { HasCause DiskFault.Failed (D.faults disk.old) (D.faults disk.new) result }
     {
@@ -308,6 +309,7 @@ impl RefreshJob {
         ensures count { IfOk result (λ r. length r.entry.containers ≤ 2) }
         ensures levels { IfOk result (λ r. sum_by (λ k. 4 ^ k.level) r.entry.containers ≤ r.entry.born) }
         ensures below { IfOk result (λ r. IsListedBelow r.next r.entry) }
+        ensures vectors { IfOk result (λ r. (n : Contents) → D.holds disk.new ≡ Some n → All (HasVectorBelow r.next n) r.entry.containers) }
         ensures next { IfOk result (λ r. next ≤ r.next) }
         ensures upto { IfOk result (λ r. r.next ≤ next + 2 * (length old.now.columns + 1) + 2) }
         ensures loadable { IfOk result (λ r. All (λ i. i < length old.now.columns) old.now.sort → IsLoadable r.entry) }

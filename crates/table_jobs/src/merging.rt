@@ -17,6 +17,7 @@ ghost use Rattle.moveout_job.specs.OnDisk.{IsListedBelow};
 ghost use Rattle.mergeout_job.specs.Oldest.{HasFour};
 ghost use Rattle.db_model.specs.Database.{Database};
 ghost use Rattle.store_commit.specs.Seen.{Stands};
+ghost use Rattle.table_store.specs.Faults.{BlamesHeld};
 ghost use Rattle.table_store.specs.Installing.{IsRenewal};
 ghost use Rattle.table_store.specs.Moving.{IsFreshAt};
 ghost use Rattle.table_jobs.specs.Blamed.{BlamesMerge};
@@ -114,6 +115,7 @@ pub fn merge<D: Disk>(
     ensures drawn { OnOk result (OfProjection table place store.old.catalogue (DrawsMerged table place store.old.catalogue store.new.catalogue)) }
     ensures unblamed { IfErr result (λ fault. (d : Database) → Stands ⟦<D as Disk>⟧ store.old disk.old d → IsUnblamed fault) }
     ensures blamed { IfErr result (λ fault. OfProjection table place store.old.catalogue (BlamesMerge (D.holds disk.old) fault)) }
+    ensures named { IfErr result (λ fault. (m : Contents) → D.holds disk.new ≡ Some m → BlamesHeld store.old.stores (Some m) fault) }
     ensures same { OnErr result (store.new ≡ store.old) }
     ensures cause { HasCause StoreFault.Disk (D.faults disk.old) (D.faults disk.new) result }
 {

@@ -1,11 +1,13 @@
 //! The purge of a projection.
 
-ghost use Rattle.std.specs.Prelude.{◌≡◌, ◌≤◌, true, false, length, IfErr, IfOk, OnErr, OnOk};
+ghost use Rattle.std.specs.Prelude.{◌≡◌, ◌≤◌, true, false, length, Some, IfErr, IfOk, OnErr, OnOk};
 ghost use Rattle.common_laws.specs.Causes.{HasCause};
+ghost use Rattle.common_laws.specs.Maps.{Contents};
 ghost use Rattle.col_disk.specs.Faults.{IsUnblamed};
 ghost use Rattle.col_disk.specs.declared.disk.StoreFault.TheVariants.{Memory as no_memory};
 ghost use Rattle.db_model.specs.Database.{Database};
 ghost use Rattle.store_commit.specs.Seen.{Stands};
+ghost use Rattle.table_store.specs.Faults.{BlamesHeld};
 ghost use Rattle.table_store.specs.Moving.{IsFreshAt};
 ghost use Rattle.table_jobs.specs.Blamed.{BlamesPurge};
 ghost use Rattle.table_jobs.specs.Jobs.{DrawsAnew, MakesRise, OfProjection};
@@ -40,6 +42,7 @@ pub fn purge<D: Disk>(
     ensures drawn { OnOk result (OfProjection table place store.old.catalogue (DrawsAnew table place 1 store.old.catalogue store.new.catalogue)) }
     ensures unblamed { IfErr result (λ fault. (d : Database) → Stands ⟦<D as Disk>⟧ store.old disk.old d → IsUnblamed fault) }
     ensures blamed { IfErr result (λ fault. OfProjection table place store.old.catalogue (BlamesPurge (D.holds disk.old) fault)) }
+    ensures named { IfErr result (λ fault. (m : Contents) → D.holds disk.new ≡ Some m → BlamesHeld store.old.stores (Some m) fault) }
     ensures same { OnErr result (store.new ≡ store.old) }
     ensures cause { HasCause StoreFault.Disk (D.faults disk.old) (D.faults disk.new) result }
 {

@@ -17,7 +17,7 @@ ghost use Rattle.db_model.specs.Database.{Database};
 ghost use Rattle.sound_laws.specs.Moves.{reached_at};
 ghost use Rattle.store_commit.specs.Making.{Makes};
 ghost use Rattle.store_commit.specs.Seen.{Stands};
-ghost use Rattle.table_store.specs.Faults.{IsReadable};
+ghost use Rattle.table_store.specs.Faults.{BlamesHeld, IsReadable};
 ghost use Rattle.table_store.specs.Installing.{IsRenewal};
 ghost use Rattle.table_jobs.specs.Jobs.{DrawsAnew, OfProjection};
 ghost use Rattle.table_jobs.specs.Sources.{ordinals_of, ArePlaces, IsMadeOf, IsPlaceOf};
@@ -188,6 +188,7 @@ pub fn refresh<D: Disk>(
     ensures made { (d : Database) → Stands ⟦<D as Disk>⟧ store.old disk.old d → Makes ⟦<D as Disk>⟧ no_memory store.old store.new disk.old disk.new result d (reached_at d.last table place d) }
     ensures drawn { OnOk result (OfProjection table place store.old.catalogue (DrawsAnew table place 2 store.old.catalogue store.new.catalogue)) }
     ensures unblamed { IfErr result (λ fault. (d : Database) → Stands ⟦<D as Disk>⟧ store.old disk.old d → IsUnblamed fault) }
+    ensures named { IfErr result (λ fault. (m : Contents) → D.holds disk.new ≡ Some m → BlamesHeld store.old.stores (Some m) fault) }
     ensures same { OnErr result (store.new ≡ store.old) }
     ensures cause { HasCause StoreFault.Disk (D.faults disk.old) (D.faults disk.new) result }
 {

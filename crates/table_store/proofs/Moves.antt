@@ -1,5 +1,5 @@
 -- Which file is blamed where a projection that was moved out can't be read again.
-use Rattle.std.proofs.Common.{◌≡◌, ℕ, zero, suc, ◌<◌, List, [], ◌∷◌, length, map, get_or, refl, sym, ◌∙◌, ap, subst, arith}
+use Rattle.std.proofs.Common.{◌≡◌, ℕ, zero, suc, ◌<◌, List, [], ◌∷◌, length, map, get_or, refl, sym, ◌∙◌, ap, subst, inr, arith}
 use Rattle.std.specs.Prelude.{Option, Some, IsSomeAnd}
 use Rattle.std.specs.List.{All, Any, slice_get}
 use Rattle.std.proofs.lemmas.List.{get_or-map, length-map}
@@ -16,7 +16,7 @@ use Rattle.proj_store.specs.Loaded.{Loaded}
 use Rattle.proj_store.specs.Reading.{BlamesLoad}
 use Rattle.moveout_job.specs.OnDisk.{IsKeptOrHasVector}
 use Rattle.moveout_job.proofs.Vectors.{kept_blamed}
-use Rattle.table_store.specs.Faults.{BlamesVectors, BlamesVectorsAt}
+use Rattle.table_store.specs.Faults.{BlamesEntry, BlamesHeld, BlamesVectors, BlamesVectorsAt}
 use Rattle.table_store.specs.Held.{projections_of}
 use Rattle.table_store.specs.Moving.{IsFreshAt}
 use Rattle.table_store.proofs.Drained.{at_weaker, AtPlace}
@@ -35,6 +35,10 @@ disk_at pss i j m disk_fault.Memory = tt
 pub disk_any : (pss : List (List Projected)) (m : Contents) (f : DiskFault) → BlamesVectors pss m (store_fault f)
 disk_any pss m disk_fault.Failed = tt
 disk_any pss m disk_fault.Memory = tt
+
+pub disk_held : (pss : List (List Projected)) (holds : Option Contents) (f : DiskFault) → BlamesHeld pss holds (store_fault f)
+disk_held pss holds disk_fault.Failed = tt
+disk_held pss holds disk_fault.Memory = tt
 
 -- what was written is read again
 pub written_blamed : (after : ℕ) (p : Projected) (entry copy : Projection) (mid new : Option Contents) (f : StoreFault) → ((m : Contents) → mid ≡ Some m → All (IsKeptOrHasVector after m p.entry.containers) entry.containers) → copy ≡ entry
@@ -82,3 +86,18 @@ drained_blamed pss i j p m (Damaged q) at blames =
     (at_weaker pss i j (λ x. p ≡ x) (λ x. BlamesLoad x.entry.containers (Some m) (Damaged q)) (λ x is. subst (λ (y : Projected). BlamesLoad y.entry.containers (Some m) (Damaged q)) is blames) at)
 drained_blamed pss i j p m Disk at blames = tt
 drained_blamed pss i j p m Memory at blames = tt
+
+-- ---- a file of a projection of the store
+
+pub vectors_held : (pss : List (List Projected)) (m : Contents) (f : StoreFault) → BlamesVectors pss m f → BlamesHeld pss (Some m) f
+vectors_held pss m (Damaged q) (i, ps, lt, is, (j, p, below, same, blames)) = (i, ps, lt, is, (j, p, below, same, inr blames))
+vectors_held pss m Disk blames = tt
+vectors_held pss m Memory blames = tt
+
+pub entry_held : (pss : List (List Projected)) (i j : ℕ) (p : Projected) (m : Contents) (f : StoreFault) → AtPlace pss i j (λ q. q ≡ p) → BlamesEntry p.entry (Some m) f → BlamesHeld pss (Some m) f
+entry_held pss i j p m (Damaged q) at blames =
+    let here = at_weaker pss i j (λ x. x ≡ p) (λ x. BlamesEntry x.entry (Some m) (Damaged q)) (λ x is. subst (λ (y : Projected). BlamesEntry y.entry (Some m) (Damaged q)) (sym is) blames) at in
+    let (k, ps, lt, is, inner) = any_slice (λ ps. IsSomeAnd (slice_get ps j) (λ x. BlamesEntry x.entry (Some m) (Damaged q))) pss i here in
+    (k, ps, lt, is, any_slice (λ x. BlamesEntry x.entry (Some m) (Damaged q)) ps j inner)
+entry_held pss i j p m Disk at blames = tt
+entry_held pss i j p m Memory at blames = tt

@@ -18,7 +18,7 @@ ghost use Rattle.sound_laws.specs.Moves.{moved_at};
 ghost use Rattle.table_store.specs.Held.{at_epoch, projections_of, IsHeld};
 ghost use Rattle.table_store.specs.Drawing.{Draws, DrawsJob, DrawsOne};
 ghost use Rattle.col_disk.specs.Faults.{IsUnblamed};
-ghost use Rattle.table_store.specs.Faults.{BlamesStored, BlamesVectorsAt, IsReadable};
+ghost use Rattle.table_store.specs.Faults.{BlamesHeld, BlamesStored, BlamesVectorsAt, IsReadable};
 ghost use Rattle.table_store.specs.Moving.{IsFreshAt, IsRewritten};
 ghost use Rattle.table_store.specs.Creating.{bare, created, dropped, first_entry, first_table, place_of, with_table};
 
@@ -372,6 +372,7 @@ impl TableStore {
         ensures catalogue { OnOk result (self.new.catalogue ≡ at_epoch (self.old.catalogue.last + 1) self.old.catalogue) }
         ensures unblamed { IfErr result (λ fault. (d : Database) → Stands ⟦<D as Disk>⟧ self.old disk.old d → IsUnblamed fault) }
         ensures blamed { IfErr result (BlamesStored self.old.stores (D.holds disk.old)) }
+        ensures unwritten { D.holds disk.new ≡ D.holds disk.old }
         ensures same { OnErr result (self.new ≡ self.old) }
         ensures kept { OnErr result (changes.new ≡ changes.old) }
         ensures cause { HasCause StoreFault.Disk (D.faults disk.old) (D.faults disk.new) result }
@@ -406,6 +407,7 @@ impl TableStore {
         ensures job { OnOk result (DrawsJob table place self.old.catalogue self.new.catalogue) }
         ensures unblamed { IfErr result (λ fault. (d : Database) → Stands ⟦<D as Disk>⟧ self.old disk.old d → IsUnblamed fault) }
         ensures blamed { IfErr result (λ fault. (m : Contents) → D.holds disk.new ≡ Some m → BlamesVectorsAt self.old.stores table place m fault) }
+        ensures named { IfErr result (λ fault. (m : Contents) → D.holds disk.new ≡ Some m → BlamesHeld self.old.stores (Some m) fault) }
         ensures same { OnErr result (self.new ≡ self.old) }
         ensures cause { HasCause StoreFault.Disk (D.faults disk.old) (D.faults disk.new) result }
     {

@@ -9,7 +9,7 @@ ghost use Rattle.db_model.specs.Database.{Database};
 ghost use Rattle.db_model.specs.Mover.{behind};
 ghost use Rattle.store_commit.specs.Making.{Makes};
 ghost use Rattle.store_commit.specs.Seen.{Stands};
-ghost use Rattle.table_store.specs.Faults.{BlamesVectors};
+ghost use Rattle.table_store.specs.Faults.{BlamesHeld, BlamesVectors};
 ghost use Rattle.table_store.specs.Draining.{all_caught_up, DrawsMany};
 
 use super::{TableStore, version_of};
@@ -27,6 +27,7 @@ impl TableStore {
         ensures drawn { OnOk result ((d : Database) → Stands ⟦<D as Disk>⟧ self.old disk.old d → DrawsMany (length (behind d)) self.old.catalogue self.new.catalogue) }
         ensures unblamed { IfErr result (λ fault. (d : Database) → Stands ⟦<D as Disk>⟧ self.old disk.old d → IsUnblamed fault) }
         ensures blamed { IfErr result (λ fault. (m : Contents) → D.holds disk.new ≡ Some m → BlamesVectors self.old.stores m fault) }
+        ensures named { IfErr result (λ fault. (m : Contents) → D.holds disk.new ≡ Some m → BlamesHeld self.old.stores (Some m) fault) }
         ensures same { OnErr result (self.new ≡ self.old) }
         ensures cause { HasCause StoreFault.Disk (D.faults disk.old) (D.faults disk.new) result }
     {

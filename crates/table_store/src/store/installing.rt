@@ -15,7 +15,7 @@ ghost use Rattle.store_commit.specs.Making.{Makes};
 ghost use Rattle.store_commit.specs.Seen.{Stands};
 ghost use Rattle.stored_rows.specs.Held.{Holds};
 ghost use Rattle.stored_rows.specs.Stored.{IsLoaded};
-ghost use Rattle.table_store.specs.Installing.{HoldsTable, IsRenewalAt};
+ghost use Rattle.table_store.specs.Installing.{HoldsTable, IsRenewalAt, PutsEntry};
 ghost use Rattle.table_store.specs.Moving.{with_entry_at};
 
 use super::{MOST_NUMBERS, TableStore, files_of, version_of};
@@ -68,8 +68,10 @@ impl TableStore {
         ensures made { (d : Database) → (stands : Stands ⟦<D as Disk>⟧ self.old disk.old d) → HoldsTable stands.files table entry d
             → Makes ⟦<D as Disk>⟧ no_memory self.old self.new disk.old disk.new result d (reached_at entry.lge table place d) }
         ensures catalogue { OnOk result (self.new.catalogue ≡ with_entry_at self.old.catalogue.last next table place entry self.old.catalogue) }
+        ensures puts { OnOk result (PutsEntry table place entry (D.holds disk.old) self.old.stores self.new.stores) }
         ensures unblamed { IfErr result (λ fault. (m : Contents) (held : Items Stamped) → D.holds disk.old ≡ Some m → Holds m entry held → IsUnblamed fault) }
         ensures blamed { IfErr result (BlamesLoad entry.containers (D.holds disk.old)) }
+        ensures unwritten { IfErr result (λ fault. (IsUnblamed fault → ⊥) → D.holds disk.new ≡ D.holds disk.old) }
         ensures same { OnErr result (self.new ≡ self.old) }
         ensures cause { HasCause StoreFault.Disk (D.faults disk.old) (D.faults disk.new) result }
     {

@@ -1,4 +1,4 @@
-use Rattle.std.proofs.Common.{◌≡◌, length, rules, subst, sym, ap, arith}
+use Rattle.std.proofs.Common.{◌≡◌, true, length, rules, subst, sym, ap, arith}
 use Rattle.std.specs.List.{All}
 use Rattle.catalog_types.specs.declared.catalogue.Projection.{Projection}
 use Rattle.col_disk.proofs.Moving.{moved_none, moved_join}
@@ -7,6 +7,9 @@ use Rattle.moveout_job.proofs.Renewed.{later_data, vector_data}
 use Rattle.mergeout_job.proofs.Installed.{finished_rises}
 use Rattle.refresh_job.specs.Job.{Refreshing, seen}
 use Rattle.refresh_job.proofs.Ended.{rest_at, all_level}
+use Rattle.refresh_job.proofs.Vectors.{refreshed_vectors}
+use Rattle.refresh_job.specs.Rows.{wanted}
+use Rattle.ros_container.specs.Encodings.{written_of}
 use Rattle.refresh_job.proofs.job.RefreshJob.write_rest.Goals as goal
 
 pub returns-in-Err-clause-moved : goal.returns-in-Err-clause-moved
@@ -58,3 +61,9 @@ returns-in-Ok-refreshed_entry-clause-held g c =
     rest_at g.D.Disk c.args.old.now c.in-Ok-refreshed_entry.entry inside c.args.self.now c.in-Ok-finish.first.container c.in-Ok-write_later.later.container c.args.rows.now c.as_slice-via.result.now c.in-Ok.dels.items c.as_slice-dels.result.now c.args.last _ c.args.next
     c.in-Ok-finish.first.next c.in-Ok-write_later.later.next c.self.view_is c.as_slice-via.ensures.value c.as_slice-dels.ensures.value c.in-Ok.ensures.now c.in-Ok-finish.ensures.held c.in-Ok-finish.ensures.numbers c.finish.ensures.moved
     c.in-Ok-write_later.ensures.held c.write_later.ensures.moved c.in-Ok-refreshed_entry.ensures
+
+pub returns-in-Ok-refreshed_entry-clause-vectors : goal.returns-in-Ok-refreshed_entry-clause-vectors
+returns-in-Ok-refreshed_entry-clause-vectors g c =
+    refreshed_vectors g.D.Disk (length c.args.old.now.columns) c.args.next c.in-Ok-finish.first.next c.in-Ok-write_later.later.next c.args.last _ (written_of c.args.old.now) c.self.inside.draft c.args.old.now c.in-Ok-refreshed_entry.entry
+    c.in-Ok-finish.first.container c.in-Ok-write_later.later.container (wanted c.self.inside.mark c.self.inside.epoch true c.as_slice-via.result.now c.args.rows.now) c.in-Ok-finish.ensures.numbers c.in-Ok-finish.ensures.vector
+    c.in-Ok-write_later.ensures.numbers c.write_later.ensures.moved c.in-Ok-write_later.ensures.held c.in-Ok-refreshed_entry.ensures

@@ -1,20 +1,22 @@
 use Rattle.std.proofs.Common.{◌≤◌, ◌<◌, map, length, set, rules, sym, ◌∙◌, ap, subst, arith}
 use Rattle.std.specs.Prelude.{Err}
+use Rattle.col_disk.specs.Faults.{IsUnblamed}
 use Rattle.col_disk.specs.declared.disk.StoreFault.{StoreFault}
 use Rattle.col_disk.specs.declared.disk.StoreFault.TheVariants as fault
 use Rattle.store_commit.specs.Seen.{Seen}
 use Rattle.store_commit.specs.Making.{Makes}
 use Rattle.catalog_types.specs.declared.catalogue.Projection.{Projection}
-use Rattle.sound_laws.specs.Moves.{reached_at}
+use Rattle.sound_laws.specs.Moves.{change_at, reached_at}
 use Rattle.table_store.specs.Held.{projections_of}
 use Rattle.table_store.specs.Installing.{IsRenewalAt}
 use Rattle.table_store.specs.Moving.{with_entry_at}
 use Rattle.table_store.proofs.Installed.{install_made, nothing_done, read_only, renewed_table, renewed_place}
 use Rattle.table_store.proofs.Makes.{move_held, move_seen, store_done, store_makes}
+use Rattle.table_store.proofs.Moved.{stores_moved}
 use Rattle.table_store.proofs.Shapes.{renewed_shape}
 use Rattle.proj_store.specs.Reading.{BlamesLoad}
 use Rattle.table_store.proofs.Moves.{disk_loads}
-use Rattle.table_store.proofs.Unblamed.{load_unblamed}
+use Rattle.table_store.proofs.Unblamed.{load_unblamed, of_disk}
 use Rattle.catalog_types.specs.declared.catalogue.Catalogue.{Catalogue}
 use Rattle.table_store.proofs.store.TableStore.install.Goals as goal
 
@@ -97,3 +99,28 @@ pub returns-in-Err-settle-clause-blamed : goal.returns-in-Err-settle-clause-blam
 returns-in-Err-settle-clause-blamed g c =
     let h = g.D.Disk.holds c.args.disk.now in
     subst (λ (f : StoreFault). BlamesLoad c.args.entry.containers h f) (sym c.from.ensures) (disk_loads c.args.entry.containers h c.in-Err-settle.fault)
+
+pub returns-in-Err-clause-unwritten : goal.returns-in-Err-clause-unwritten
+returns-in-Err-clause-unwritten g c = λ blames. c.read_again.ensures.looks.contents
+
+pub returns-in-Err-with_entry_at-clause-unwritten : goal.returns-in-Err-with_entry_at-clause-unwritten
+returns-in-Err-with_entry_at-clause-unwritten g c = λ blames. c.read_again.ensures.looks.contents
+
+pub returns-in-Err-settle-clause-unwritten : goal.returns-in-Err-settle-clause-unwritten
+returns-in-Err-settle-clause-unwritten g c = λ blames. absurd (blames (subst IsUnblamed (sym c.from.ensures) (of_disk c.in-Err-settle.fault)))
+
+pub returns-clause-puts : goal.returns-clause-puts
+returns-clause-puts g c =
+    let items = c.self.inside.tables.items in
+    let i = c.args.table in
+    let j = c.args.place in
+    let own : IsRenewalAt (map projections_of items) i j c.args.entry = subst (λ (s : Seen). IsRenewalAt s.stores i j c.args.entry) (sym c.self.view_is) c.requires.there in
+    record {
+      store = c.in-Ok.store.stored;
+      is = c.in-Ok.ensures.entry;
+      loaded = c.in-Ok.ensures.loaded;
+      stores =
+          stores_moved items (set items i c.replace.new.self) i j c.index_mut.result.now c.in-Ok.store (renewed_table items i j c.args.entry own) c.index_mut.ensures.value
+          (renewed_place items i j c.args.entry c.index_mut.result.now c.index_mut.ensures.value own) (ap (set items i) c.replace.ensures)
+          ∙ ap (λ (s : Seen). change_at i (change_at j (λ p. c.in-Ok.store.stored)) s.stores) c.self.view_is;
+    }

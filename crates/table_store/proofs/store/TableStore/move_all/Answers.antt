@@ -1,5 +1,5 @@
 use Rattle.std.proofs.Common.{◌≡◌, ◌<◌, ◌-◌, length, rules, sym, subst, arith}
-use Rattle.std.specs.Prelude.{Err}
+use Rattle.std.specs.Prelude.{Err, Some}
 use Rattle.col_disk.specs.declared.disk.StoreFault.{StoreFault}
 use Rattle.col_disk.specs.declared.disk.StoreFault.TheVariants as fault
 use Rattle.db_model.specs.Mover.{behind}
@@ -7,8 +7,8 @@ use Rattle.store_commit.specs.Making.{Makes}
 use Rattle.table_store.specs.Draining.{all_caught_up}
 use Rattle.table_store.proofs.Counted.{no_length, some_moved}
 use Rattle.table_store.proofs.Drains.{counted, drain_empty, drain_made, drain_none, drain_seen, drain_short, drain_unblamed, draws_last}
-use Rattle.table_store.specs.Faults.{BlamesVectors}
-use Rattle.table_store.proofs.Moves.{disk_any}
+use Rattle.table_store.specs.Faults.{BlamesHeld, BlamesVectors}
+use Rattle.table_store.proofs.Moves.{disk_any, disk_held, vectors_held}
 use Rattle.table_store.proofs.Makes.{store_done, store_makes}
 use Rattle.table_store.proofs.store.TableStore.move_all.Goals as goal
 
@@ -70,3 +70,11 @@ returns-clause-drawn g c = λ d stands.
 pub returns-in-Err-settle-clause-blamed : goal.returns-in-Err-settle-clause-blamed
 returns-in-Err-settle-clause-blamed g c = λ m told.
     subst (λ (f : StoreFault). BlamesVectors c.args.self.now.stores m f) (sym c.from.ensures) (disk_any c.args.self.now.stores m c.in-Err-settle.fault)
+
+pub returns-in-Err-clause-named : goal.returns-in-Err-clause-named
+returns-in-Err-clause-named g c = λ m told. vectors_held c.args.self.now.stores m c.in-Err.fault (c.in-Err.ensures.blamed m told)
+
+pub returns-in-Err-settle-clause-named : goal.returns-in-Err-settle-clause-named
+returns-in-Err-settle-clause-named g c = λ m told.
+    let stores = c.args.self.now.stores in
+    subst (λ (f : StoreFault). BlamesHeld stores (Some m) f) (sym c.from.ensures) (disk_held stores (Some m) c.in-Err-settle.fault)

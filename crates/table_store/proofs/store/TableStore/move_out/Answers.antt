@@ -1,5 +1,5 @@
 use Rattle.std.proofs.Common.{List, map, length, set, sym, ap, subst, arith}
-use Rattle.std.specs.Prelude.{Err}
+use Rattle.std.specs.Prelude.{Err, Some}
 use Rattle.std.specs.List.{All}
 use Rattle.col_disk.specs.declared.disk.StoreFault.{StoreFault}
 use Rattle.col_disk.specs.declared.disk.StoreFault.TheVariants as fault
@@ -14,8 +14,8 @@ use Rattle.table_store.specs.Moving.{IsFreshAt, IsRewritten}
 use Rattle.table_store.proofs.Moved.{fresh_table, fresh_place, rewritten_catalogue}
 use Rattle.table_store.proofs.Makes.{move_short, move_made, move_seen, move_held, store_makes, store_done}
 use Rattle.col_disk.specs.Faults.{IsUnblamed}
-use Rattle.table_store.specs.Faults.{BlamesVectorsAt, IsReadable}
-use Rattle.table_store.proofs.Moves.{disk_at}
+use Rattle.table_store.specs.Faults.{BlamesHeld, BlamesVectorsAt, IsReadable}
+use Rattle.table_store.proofs.Moves.{any_blamed, disk_at, disk_held, vectors_held}
 use Rattle.table_store.proofs.Unblamed.{move_unblamed, of_disk}
 use Rattle.table_store.proofs.store.TableStore.move_out.Goals as goal
 
@@ -117,3 +117,18 @@ pub returns-in-Err-settle-clause-blamed : goal.returns-in-Err-settle-clause-blam
 returns-in-Err-settle-clause-blamed g c = λ m told.
     let stores = c.args.self.now.stores in
     subst (λ (f : StoreFault). BlamesVectorsAt stores c.args.table c.args.place m f) (sym c.from.ensures) (disk_at stores c.args.table c.args.place m c.in-Err-settle.fault)
+
+pub returns-in-Err-clause-named : goal.returns-in-Err-clause-named
+returns-in-Err-clause-named g c = λ m told.
+    let i = c.args.table in
+    let j = c.args.place in
+    let f = c.in-Err.fault in
+    vectors_held c.args.self.now.stores m f
+    (any_blamed c.args.self.now.stores i j m f
+    (subst (λ (s : Seen). BlamesVectorsAt s.stores i j m f) c.self.view_is
+    (subst (λ (ts : List (List Loaded)). BlamesVectorsAt (map projections_of ts) i j m f) c.as_slice.ensures.value (c.in-Err.ensures.blamed m told))))
+
+pub returns-in-Err-settle-clause-named : goal.returns-in-Err-settle-clause-named
+returns-in-Err-settle-clause-named g c = λ m told.
+    let stores = c.args.self.now.stores in
+    subst (λ (f : StoreFault). BlamesHeld stores (Some m) f) (sym c.from.ensures) (disk_held stores (Some m) c.in-Err-settle.fault)
