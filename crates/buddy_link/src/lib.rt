@@ -12,3 +12,4 @@ mod replay;
 
 pub use catch_model::LinkFault;
 pub use link::Link;
+pub use store_core::Store;

@@ -13,7 +13,7 @@ use Rattle.folder_model.specs.Reopening.{Reopens}
 use Rattle.folder_model.proofs.Committing.{stands_reopens}
 use Rattle.store_commit.specs.Making.{ReopensToEither}
 use Rattle.table_store.proofs.Standing.{reads_only}
-use Rattle.store_core.specs.Running.{Running, IsState}
+use Rattle.buddy_link.specs.Running.{Running, IsState}
 use Rattle.catch_model.specs.Caught.{later_mark, IsCaughtUp}
 use Rattle.catch_model.specs.Refused.{IsAccepted}
 use Rattle.catch_model.specs.declared.fault.LinkFault.{LinkFault}

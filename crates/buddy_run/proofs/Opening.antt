@@ -7,7 +7,7 @@ use Rattle.col_disk.proofs.Moving.{leaves_join, leaves_wider}
 use Rattle.db_model.specs.Database.{Database}
 use Rattle.db_model.specs.State.{opened_with}
 use Rattle.folder_model.specs.Reopening.{Reopens}
-use Rattle.store_core.specs.Running.{Running, IsState}
+use Rattle.buddy_link.specs.Running.{Running, IsState}
 use Rattle.store_opening.specs.Opening.{IsStill}
 use Rattle.buddy_run.specs.Ends.{LinkIsOnTheWay, IsOpened, IsStillOrCut, ReopensEither}
 use Rattle.buddy_run.proofs.Following.{read_leaves}

@@ -8,7 +8,7 @@ ghost use Rattle.col_disk.specs.Moved.{Leaves, Moved, NoName};
 ghost use Rattle.db_model.specs.Database.{Database};
 ghost use Rattle.db_model.specs.State.{State, opened_with};
 ghost use Rattle.folder_model.specs.Reopening.{Reopens};
-ghost use Rattle.store_core.specs.Running.{IsState};
+ghost use Rattle.buddy_link.specs.Running.{IsState};
 ghost use Rattle.store_opening.specs.Opening.{IsStill};
 ghost use Rattle.buddy_run.specs.declared.status.LinkStatus.TheVariants.{Usage as usage, SinkFault as sink_fault, DiskFault as disk_fault};
 ghost use Rattle.catch_files.specs.Parting.{IsShort};
@@ -16,12 +16,11 @@ ghost use Rattle.catch_text.specs.Lines as lines;
 ghost use Rattle.buddy_run.specs.Ends.{BringsUp, LinkIsOnTheWay, IsOpened, IsSinkStop, IsStillOrCut, LinkEnds, ReopensEither, StopsBy, IsToldBy, StopEnds, IsDiskFault};
 
 use crate::status::LinkStatus;
-use buddy_link::{Link, LinkFault};
+use buddy_link::{Link, LinkFault, Store};
 use catch_text::{caught_text, refusal_text};
 use col_disk::{Disk, StoreFault};
 use col_io::{Sink, SinkFault, write_all};
 use std::alloc::{AllocError, Global};
-use store_core::Store;
 
 /// How far a catch-up came: from which epoch of the folder behind, to which one that was the newest of the folder ahead at the begin, and to
 /// which one at last.

@@ -4,14 +4,13 @@ ghost use Rattle.std.specs.Prelude.{◌↔◌, IfOk, IsTrue};
 ghost use Rattle.std.specs.List.{All};
 ghost use Rattle.col_value.specs.Order.{IsRow};
 
-use buddy_link::{Link, LinkFault};
+use buddy_link::{Link, LinkFault, Store};
 use catch_rows::ahead_fault;
 use col_disk::{DiskFault, MemDisk, StoreFault};
 use col_value::{Asked, ColType, Column, List, Name, Row, Stamped, Value};
 use row_matching::table_history;
 use std::alloc::{AllocError, Global};
 use std::test::Fail;
-use store_core::Store;
 use value_bytes::is_value;
 
 const TABLE: &[u8] = b"t";

@@ -1,5 +1,5 @@
 use Rattle.std.proofs.Common.{◌≡◌, ℕ, sym, ap, ◌∙◌, subst}
-use Rattle.store_core.specs.Running.{IsState}
+use Rattle.buddy_link.specs.Running.{IsState}
 use Rattle.catch_model.specs.declared.fault.LinkFault.TheVariants.{AheadDisk}
 use Rattle.buddy_link.specs.Linked.{Linked}
 use Rattle.buddy_link.specs.Linking.{GoesOn, MayGoOn}
