@@ -7,3 +7,6 @@ pub mod Remade
 pub mod Made
 pub mod There
 pub mod Purges
+pub mod Named
+pub mod Whole
+pub mod Gone

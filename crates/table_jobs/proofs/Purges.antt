@@ -75,3 +75,7 @@ draws_purged was is root i j next old entry begin same from upto narrow count =
 pub on_ok : {T E : Type 0} (r : Result T E) (A B : Type 0) → (A → B) → OnOk r A → OnOk r B
 on_ok (Ok x) A B h a = h a
 on_ok (Err e) A B h a = tt
+
+pub both_ok : {T E : Type 0} (r : Result T E) (A B C : Type 0) → (A → B → C) → OnOk r A → OnOk r B → OnOk r C
+both_ok (Ok x) A B C h a b = h a b
+both_ok (Err e) A B C h a b = tt

@@ -2,3 +2,4 @@ pub mod Jobs
 pub mod Blamed
 pub use Rattle.mergeout_job.specs.Oldest
 pub mod Sources
+pub mod Purged

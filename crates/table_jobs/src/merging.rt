@@ -100,7 +100,8 @@ fn merge_out<D: Disk>(
 }
 
 /// The four oldest containers of a level of the projection at a place give way to one a level up, without the rows that were deleted up to
-/// the ancient history mark, and what is in memory goes to disk with it. Numbers from 2^61 on are answered as want of memory.
+/// the ancient history mark, and what is in memory goes to disk with it. Numbers from 2^61 on are answered as want of memory. `Damaged` names a
+/// file of a container that holds no rows, or the delete vector of one that has none.
 pub fn merge<D: Disk>(
     alloc: Global,
     store: &mut TableStore,

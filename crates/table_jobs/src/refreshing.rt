@@ -12,12 +12,12 @@ ghost use Rattle.container_writer.specs.Writing.{DataFrom};
 ghost use Rattle.container_draft.specs.Draft.{IsDraft};
 ghost use Rattle.proj_store.specs.Reading.{HasVectors};
 ghost use Rattle.proj_store.specs.Sound.{IsLoadable};
-ghost use Rattle.moveout_job.specs.OnDisk.{IsListedBelow};
+ghost use Rattle.moveout_job.specs.OnDisk.{HasVectorBelow, IsListedBelow};
 ghost use Rattle.db_model.specs.Database.{Database};
 ghost use Rattle.sound_laws.specs.Moves.{reached_at};
 ghost use Rattle.store_commit.specs.Making.{Makes};
 ghost use Rattle.store_commit.specs.Seen.{Stands};
-ghost use Rattle.table_store.specs.Faults.{BlamesHeld, IsReadable};
+ghost use Rattle.table_store.specs.Faults.{BlamesEntry, BlamesHeld, IsReadable};
 ghost use Rattle.table_store.specs.Installing.{IsRenewal};
 ghost use Rattle.table_jobs.specs.Jobs.{DrawsAnew, OfProjection};
 ghost use Rattle.table_jobs.specs.Sources.{ordinals_of, ArePlaces, IsMadeOf, IsPlaceOf};
@@ -149,6 +149,8 @@ fn refresh_from<D: Disk>(
     ensures reached { IfOk result (λ r. r.entry.lge ≡ last) }
     ensures loadable { IfOk result (λ r. All (λ i. i < length shape.now.columns) shape.now.sort → IsLoadable r.entry) }
     ensures unblamed { IfErr result (λ fault. (m : Contents) → D.holds disk.old ≡ Some m → IsListedBelow next source.now.stored.entry → IsReadable m source.now.stored → IsUnblamed fault) }
+    ensures named { IfErr result (λ fault. (m : Contents) → D.holds disk.new ≡ Some m → IsListedBelow next source.now.stored.entry → BlamesEntry source.now.stored.entry (Some m) fault) }
+    ensures vectors { IfOk result (λ r. (n : Contents) → D.holds disk.new ≡ Some n → All (HasVectorBelow r.next n) r.entry.containers) }
     ensures moved { Moved ⟦<D as Disk>⟧ (DataFrom next) NoName disk.old disk.new }
     ensures cause { HasCause StoreFault.Disk (D.faults disk.old) (D.faults disk.new) result }
 {
@@ -176,7 +178,8 @@ fn refresh_from<D: Disk>(
 }
 
 /// The projection at a place, which isn't up to date, gets the rows of its table from an up-to-date projection that has all columns, and is
-/// on disk up to the newest closed epoch. Numbers from 2^61 on are answered as want of memory.
+/// on disk up to the newest closed epoch. Numbers from 2^61 on are answered as want of memory. `Damaged` names a file of a container of that one
+/// that holds no rows.
 pub fn refresh<D: Disk>(
     alloc: Global,
     store: &mut TableStore,

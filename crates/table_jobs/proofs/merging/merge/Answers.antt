@@ -1,14 +1,21 @@
 use Rattle.std.proofs.Common.{◌≡◌, ◌≤◌, inl, inr, refl, sym, ◌∙◌, ap, subst, arith}
-use Rattle.std.specs.Prelude.{Err}
+use Rattle.std.specs.Prelude.{Err, Some}
 use Rattle.std.proofs.lemmas.Result.{on_ok_weaker}
+use Rattle.common_laws.specs.Maps.{Contents}
 use Rattle.catalog_types.specs.declared.catalogue.Catalogue.{Catalogue}
+use Rattle.col_disk.specs.Faults.{IsUnblamed}
 use Rattle.col_disk.specs.declared.disk.StoreFault.TheVariants as fault
+use Rattle.container_cut.proofs.Faults.{on_errs}
 use Rattle.mergeout_job.specs.Oldest.{HasFour}
+use Rattle.proj_store.specs.Reading.{BlamesLoad}
+use Rattle.table_store.specs.Faults.{BlamesHeld}
+use Rattle.table_store.proofs.Moves.{entry_held}
 use Rattle.table_jobs.specs.Jobs.{DrawsMerged}
 use Rattle.table_jobs.specs.Blamed.{BlamesMerge}
 use Rattle.table_jobs.proofs.Holding.{IsOwnAt}
 use Rattle.table_jobs.proofs.Raising.{IsRooted, own_entry, own_unblamed, draws_merged, err_weaker, raise_fails, raised_holds, raises}
 use Rattle.table_jobs.proofs.Rooted.{IsEntryOf, of_own, own_below, own_fresh, own_narrow, own_reached, own_renewal, own_there, own_valid}
+use Rattle.table_jobs.proofs.Named.{install_named, rows_named}
 use Rattle.table_jobs.proofs.merging.merge.Goals as goal
 
 pub merge_out-requires-clause-four : goal.merge_out-requires-clause-four
@@ -135,3 +142,26 @@ returns-clause-blamed g c =
     let below = own_below c.root-root.result.now p.entry (own_valid c.args.store.now c.root-root.result.now c.args.table c.args.place p rooted own) in
     err_weaker c.install.result (λ f blames.
     own_entry c.args.store.now c.root-root.result.now c.args.table c.args.place p (BlamesMerge (g.D.Disk.holds c.args.disk.now) f) rooted own (inr (c.in-Ok.ensures.loads below f blames))) c.install.ensures.blamed
+
+pub returns-in-Err-clause-named : goal.returns-in-Err-clause-named
+returns-in-Err-clause-named g c = λ m told.
+    let rooted : IsRooted c.args.store.now c.root-root.result.now = record { catalogue = c.root-root.ensures.root; entries = c.root-root.ensures.entries; valid = c.root-root.ensures.valid } in
+    let p = c.index-as_slice-place.result.stored in
+    let own : IsOwnAt c.args.store.now.stores c.args.table c.args.place p =
+    own_there c.tables.result.now c.args.store.now.stores c.args.table c.args.place c.index-tables-table.result c.as_slice.result.now c.index-as_slice-place.result c.tables.ensures c.requires.fresh c.index-tables-table.is c.as_slice.ensures c.index-as_slice-place.is in
+    let below = own_below c.root-root.result.now p.entry (own_valid c.args.store.now c.root-root.result.now c.args.table c.args.place p rooted own) in
+    entry_held c.args.store.now.stores c.args.table c.args.place p m c.in-Err.fault own (rows_named g.D.Disk p.entry c.root-root.result.now.next c.in-Err.fault below c.merge_out.ensures.moved c.in-Err.ensures.blamed m told)
+
+pub returns-clause-named : goal.returns-clause-named
+returns-clause-named g c =
+    let rooted : IsRooted c.args.store.now c.root-root.result.now = record { catalogue = c.root-root.ensures.root; entries = c.root-root.ensures.entries; valid = c.root-root.ensures.valid } in
+    let p = c.index-as_slice-place.result.stored in
+    let own : IsOwnAt c.args.store.now.stores c.args.table c.args.place p =
+    own_there c.tables.result.now c.args.store.now.stores c.args.table c.args.place c.index-tables-table.result c.as_slice.result.now c.index-as_slice-place.result c.tables.ensures c.requires.fresh c.index-tables-table.is c.as_slice.ensures c.index-as_slice-place.is in
+    let below = own_below c.root-root.result.now p.entry (own_valid c.args.store.now c.root-root.result.now c.args.table c.args.place p rooted own) in
+    on_errs c.install.result (BlamesLoad c.in-Ok.merged.entry.containers (g.D.Disk.holds c.merge_out.new.disk)) (λ f. (IsUnblamed f → ⊥) → g.D.Disk.holds c.install.new.disk ≡ g.D.Disk.holds c.merge_out.new.disk)
+    (λ f. (m : Contents) → g.D.Disk.holds c.install.new.disk ≡ Some m → BlamesHeld c.args.store.now.stores (Some m) f)
+    (λ f blames still m told.
+    entry_held c.args.store.now.stores c.args.table c.args.place p m f own
+    (install_named g.D.Disk p.entry c.root-root.result.now.next f below c.merge_out.ensures.moved (c.in-Ok.ensures.loads below f blames) still m told))
+    c.install.ensures.blamed c.install.ensures.unwritten

@@ -9,7 +9,12 @@ use Rattle.db_model.specs.Database.{Database}
 use Rattle.sound_laws.specs.Moves.{reached_at}
 use Rattle.store_commit.specs.Seen.{Stands}
 use Rattle.stored_rows.specs.Held.{Holds}
+use Rattle.container_cut.proofs.Faults.{on_errs}
+use Rattle.proj_store.specs.Reading.{BlamesLoad}
+use Rattle.table_store.specs.Faults.{BlamesHeld}
 use Rattle.table_store.specs.Installing.{IsRenewal}
+use Rattle.table_store.proofs.Moves.{entry_held}
+use Rattle.table_jobs.proofs.Named.{made_named}
 use Rattle.table_jobs.proofs.Raising.{IsRooted}
 use Rattle.table_jobs.proofs.Remade.{nothing_made, of_fault, remade_holds, remake_fails, remake_unblamed, remakes}
 use Rattle.table_jobs.proofs.Rooted.{own_narrow, own_renewal}
@@ -97,3 +102,18 @@ returns-clause-unblamed g c =
     let (n, held, told, holds) =
     remade_holds g.D.Disk c.args.store.now c.root-root.result.now c.args.table c.in-Some.from p entry d rooted from.there from.fresh from.below c.refresh_from.ensures.moved c.in-Ok.ensures.made stands in
     blames n held told holds) c.install.ensures.unblamed
+
+pub returns-in-Err-clause-named : goal.returns-in-Err-clause-named
+returns-in-Err-clause-named g c = λ m told.
+    let rooted : IsRooted c.args.store.now c.root-root.result.now = record { catalogue = c.root-root.ensures.root; entries = c.root-root.ensures.entries; valid = c.root-root.ensures.valid } in
+    let p = c.index-parts-from.result.stored in
+    let from : IsSource c.args.store.now c.root-root.result.now c.args.table c.in-Some.from p =
+    source c.args.store.now c.root-root.result.now c.args.table c.args.place c.in-Some.from c.tables.result.now c.index-tables-table.result c.as_slice-parts.result.now c.index-parts-from.result rooted c.tables.ensures c.requires.stale c.index-tables-table.is c.as_slice-parts.ensures c.index-parts-from.is c.in-Some.ensures.fresh in
+    entry_held c.args.store.now.stores c.args.table c.in-Some.from p m c.in-Err.fault from.there (c.in-Err.ensures.named m told from.below)
+
+pub returns-clause-named : goal.returns-clause-named
+returns-clause-named g c =
+    let r = c.in-Ok.refreshed in
+    on_errs c.install.result (BlamesLoad r.entry.containers (g.D.Disk.holds c.refresh_from.new.disk)) (λ f. (IsUnblamed f → ⊥) → g.D.Disk.holds c.install.new.disk ≡ g.D.Disk.holds c.refresh_from.new.disk)
+    (λ f. (m : Contents) → g.D.Disk.holds c.install.new.disk ≡ Some m → BlamesHeld c.args.store.now.stores (Some m) f)
+    (λ f blames still m told. made_named g.D.Disk r.next r.entry.containers c.args.store.now.stores f c.in-Ok.ensures.vectors blames still m told) c.install.ensures.blamed c.install.ensures.unwritten

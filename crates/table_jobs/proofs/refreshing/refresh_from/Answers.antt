@@ -1,12 +1,17 @@
 use Rattle.std.proofs.Common.{◌≡◌, ℕ, ◌+◌, ◌*◌, List, length, sym, ◌∙◌, ap, subst, arith}
+use Rattle.std.specs.Prelude.{Some}
 use Rattle.catalog_types.specs.declared.catalogue.Projection.{Projection}
+use Rattle.col_disk.specs.declared.disk.StoreFault.{StoreFault}
 use Rattle.col_disk.specs.Moved.{Moved, NoName}
 use Rattle.col_disk.proofs.Moving.{moved_none, moved_still}
 use Rattle.container_writer.specs.Writing.{DataFrom}
 use Rattle.folder_model.specs.Projections.{ordinals}
+use Rattle.table_store.specs.Faults.{BlamesEntry}
 use Rattle.table_store.proofs.Unblamed.{part_unblamed}
 use Rattle.table_jobs.specs.Sources.{ordinals_of, ArePlaces}
 use Rattle.table_jobs.proofs.Made.{IsOn, begun_moved, is_made, made_moved, reread_unblamed}
+use Rattle.table_jobs.proofs.Named.{disk_named, rows_named}
+use Rattle.table_jobs.proofs.Writing.{listed_below}
 use Rattle.table_jobs.proofs.refreshing.refresh_from.Goals as goal
 
 pub returns-then-next-ge-MOST_NUMBERS-clause-moved : goal.returns-then-next-ge-MOST_NUMBERS-clause-moved
@@ -55,3 +60,17 @@ pub returns-clause-moved : goal.returns-clause-moved
 returns-clause-moved g c =
     made_moved g.D.Disk c.args.next (c.args.next + 2 * (length c.as_slice-columns.result.now + 1)) (omega arith)
     (begun_moved g.D.Disk c.in-Ok-begin.job.draft.base c.args.next c.in-Ok-begin.ensures.base c.begin.ensures.moved c.write_columns.ensures.moved) c.install.ensures.moved
+
+pub returns-in-Err-begin-clause-named : goal.returns-in-Err-begin-clause-named
+returns-in-Err-begin-clause-named g c = λ m told below.
+    rows_named g.D.Disk c.args.source.now.stored.entry c.args.next c.in-Err-begin.fault below (moved_still g.D.Disk c.begin.ensures.moved) c.in-Err-begin.ensures.blamed m told
+
+pub returns-in-Err-write_columns-clause-named : goal.returns-in-Err-write_columns-clause-named
+returns-in-Err-write_columns-clause-named g c = λ m told below.
+    let p = c.args.source.now.stored.entry in
+    subst (λ (f : StoreFault). BlamesEntry p (Some m) f) (sym c.from.ensures) (disk_named p (Some m) c.in-Err-write_columns.fault)
+
+pub returns-clause-named : goal.returns-clause-named
+returns-clause-named g c = λ m told below.
+    let after = c.args.next + 2 * (length c.as_slice-columns.result.now + 1) in
+    rows_named g.D.Disk c.args.source.now.stored.entry after c.in-Err-install.fault (listed_below c.args.next c.args.source.now.stored.entry (omega arith) below) c.install.ensures.moved c.in-Err-install.ensures.blamed m told
