@@ -1,9 +1,8 @@
 -- What an entry holds that was written for a projection of a table.
-use Rattle.std.proofs.Common.{◌≡◌, ℕ, zero, suc, ◌+◌, ◌*◌, ◌≤◌, ◌<◌, Bool, true, false, List, [], ◌∷◌, length, map, get_or, refl, sym, ◌∙◌, ap, subst, arith}
+use Rattle.std.proofs.Common.{◌≡◌, ℕ, zero, suc, ◌≤◌, Bool, true, false, List, [], ◌∷◌, map, refl, sym, ◌∙◌, ap, subst, arith}
 use Rattle.std.specs.Prelude.{max, Option, Some, None, IsSomeAnd}
 use Rattle.std.specs.Bool.{OnTrue}
 use Rattle.std.specs.List.{All, AllZip, slice_get}
-use Rattle.std.proofs.lemmas.List.{get_or-map, get_or_default, length-map}
 use Rattle.common_laws.specs.Bags.{SameBag}
 use Rattle.common_laws.specs.Maps.{Contents}
 use Rattle.common_laws.proofs.BagLaws.{bag_trans}
@@ -16,7 +15,6 @@ use Rattle.row_history.specs.History.{retained, on_columns}
 use Rattle.catalog_types.specs.declared.catalogue.Catalogue.{Catalogue}
 use Rattle.catalog_types.specs.declared.catalogue.Container.{Container}
 use Rattle.catalog_types.specs.declared.catalogue.Projection.{Projection}
-use Rattle.catalog_types.specs.declared.catalogue.ProjColumn.{ProjColumn}
 use Rattle.catalog_types.specs.declared.catalogue.Table as kept
 use Rattle.ros_container.specs.Encodings.{Written, written_of}
 use Rattle.container_writer.specs.Writing.{DataFrom}
@@ -32,7 +30,6 @@ use Rattle.db_model.specs.Database.{Database, Shape, Table}
 use Rattle.folder_model.specs.Projections.{ordinals, shape_of, HasHistory, HasRows, IsHistoryOf}
 use Rattle.folder_model.specs.Tables.{AreDatabase, StandForTables, StandsForTable}
 use Rattle.table_store.specs.Installing.{HoldsTable, IsRenewal}
-use Rattle.table_store.specs.Moving.{IsFreshAt}
 
 -- ---- while files of later numbers are written
 

@@ -1,6 +1,6 @@
 -- The purge of a projection that is up to date.
-use Rattle.std.proofs.Common.{◌≡◌, ℕ, zero, suc, ◌+◌, ◌*◌, ◌≤◌, ◌<◌, ◌++◌, Bool, true, false, List, [], ◌∷◌, length, refl, sym, ◌∙◌, ap, subst, arith}
-use Rattle.std.specs.Prelude.{Option, Some, None, Result, Ok, Err, OnOk}
+use Rattle.std.proofs.Common.{◌≡◌, ℕ, zero, suc, ◌+◌, ◌*◌, ◌≤◌, ◌++◌, true, List, [], ◌∷◌, length, refl, sym, ap, subst, arith}
+use Rattle.std.specs.Prelude.{Result, Ok, Err, OnOk}
 use Rattle.std.specs.List.{Any}
 use Rattle.std.proofs.lemmas.List.{append-nil}
 use Rattle.common_laws.specs.Maps.{Contents}
@@ -15,7 +15,7 @@ use Rattle.col_value.specs.declared.row.Stamped.{Stamped}
 use Rattle.ros_container.specs.Encodings.{written_of}
 use Rattle.del_vector.specs.Marks.{epoch_at}
 use Rattle.stored_rows.specs.Held.{HoldsRows, stamped_from}
-use Rattle.stored_rows.specs.Stored.{Beside, Projected, StoresRows, Stores}
+use Rattle.stored_rows.specs.Stored.{Beside, Projected, StoresRows}
 use Rattle.container_writer.specs.Writing.{listed}
 use Rattle.container_cut.specs.Blamed.{BlamesProjection, IsDamageOf}
 use Rattle.purge_job.specs.Purging.{IsPurged}

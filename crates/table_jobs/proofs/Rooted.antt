@@ -1,5 +1,5 @@
 -- A projection that stands at a place of a store, and what its valid catalogue says of it.
-use Rattle.std.proofs.Common.{◌≡◌, ℕ, zero, suc, ◌+◌, ◌≤◌, ◌<◌, Bool, true, false, List, [], ◌∷◌, length, map, get_or, refl, sym, ◌∙◌, ap, subst, arith}
+use Rattle.std.proofs.Common.{◌≡◌, ℕ, zero, suc, ◌≤◌, ◌<◌, Bool, true, false, List, [], ◌∷◌, length, map, get_or, refl, sym, ◌∙◌, ap, subst, arith}
 use Rattle.std.specs.Prelude.{IsSomeAnd}
 use Rattle.std.specs.Bool.{OnTrue}
 use Rattle.std.specs.List.{All, slice_get}
@@ -8,7 +8,7 @@ use Rattle.std.proofs.lemmas.List.Elements.{All-head, All-tail}
 use Rattle.catalog_types.specs.declared.catalogue.Catalogue.{Catalogue}
 use Rattle.catalog_types.specs.declared.catalogue.Projection.{Projection}
 use Rattle.catalog_types.specs.declared.catalogue.Table as kept
-use Rattle.catalog_types.specs.Parts.{HasReached, IsProjection, IsTable}
+use Rattle.catalog_types.specs.Parts.{IsProjection, IsTable}
 use Rattle.stored_rows.specs.Stored.{Projected}
 use Rattle.moveout_job.specs.OnDisk.{IsListedBelow}
 use Rattle.proj_store.specs.Loaded.{Loaded}

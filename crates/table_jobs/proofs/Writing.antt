@@ -1,11 +1,11 @@
 -- The columns of a job, written one after the other.
-use Rattle.std.proofs.Common.{◌≡◌, ℕ, ◌+◌, ◌*◌, ◌≤◌, inl, inr, List, length, arith}
+use Rattle.std.proofs.Common.{◌≡◌, ℕ, ◌+◌, ◌*◌, ◌≤◌, inl, inr, List, arith}
 use Rattle.std.specs.Prelude.{Some}
 use Rattle.std.proofs.lemmas.List.Elements.{All-weaker}
 use Rattle.common_laws.specs.Maps.{Contents}
 use Rattle.col_disk.specs.Moved.{Either, Moved, Named, NoName}
 use Rattle.col_disk.specs.declared.disk.Disk.{Ghosts}
-use Rattle.col_disk.proofs.Moving.{moved_join, moved_told, moved_wider}
+use Rattle.col_disk.proofs.Moving.{moved_told, moved_wider}
 use Rattle.ros_container.specs.Encodings.{Written}
 use Rattle.ros_container.specs.Files.{body_of, index_of}
 use Rattle.container_writer.specs.Writing.{DataFrom}

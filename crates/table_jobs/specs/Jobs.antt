@@ -1,9 +1,8 @@
 -- What the jobs of a statement make of a store.
-use Rattle.std.specs.Prelude.{ℕ, ◌≡◌, ◌≤◌, ◌<◌, ◌+◌, ◌*◌, ◌==◌, true, false, List, length, filter, Result, IsSomeAnd}
+use Rattle.std.specs.Prelude.{ℕ, ◌≡◌, ◌≤◌, ◌<◌, ◌+◌, ◌*◌, true, false, length, Result, IsSomeAnd}
 use Rattle.std.specs.List.{slice_get}
 use Rattle.col_disk.specs.declared.disk.Disk.{Ghosts}
 use Rattle.catalog_types.specs.declared.catalogue.Catalogue.{Catalogue}
-use Rattle.catalog_types.specs.declared.catalogue.Container.{Container}
 use Rattle.catalog_types.specs.declared.catalogue.Projection.{Projection}
 use Rattle.db_model.specs.Database.{Database}
 use Rattle.sound_laws.specs.Moves.{change_at, reached_at}

@@ -1,5 +1,5 @@
-use Rattle.std.proofs.Common.{◌≡◌, ◌≤◌, inl, inr, refl, sym, ◌∙◌, ap, subst, arith}
-use Rattle.std.specs.Prelude.{Err, Some}
+use Rattle.std.proofs.Common.{◌≡◌, ◌≤◌, inl, inr, ap, arith}
+use Rattle.std.specs.Prelude.{Some}
 use Rattle.std.proofs.lemmas.Result.{on_ok_weaker}
 use Rattle.common_laws.specs.Maps.{Contents}
 use Rattle.catalog_types.specs.declared.catalogue.Catalogue.{Catalogue}
@@ -14,7 +14,7 @@ use Rattle.table_jobs.specs.Jobs.{DrawsMerged}
 use Rattle.table_jobs.specs.Blamed.{BlamesMerge}
 use Rattle.table_jobs.proofs.Holding.{IsOwnAt}
 use Rattle.table_jobs.proofs.Raising.{IsRooted, own_entry, own_unblamed, draws_merged, err_weaker, raise_fails, raised_holds, raises}
-use Rattle.table_jobs.proofs.Rooted.{IsEntryOf, of_own, own_below, own_fresh, own_narrow, own_reached, own_renewal, own_there, own_valid}
+use Rattle.table_jobs.proofs.Rooted.{of_own, own_below, own_fresh, own_narrow, own_reached, own_renewal, own_there, own_valid}
 use Rattle.table_jobs.proofs.Named.{install_named, rows_named}
 use Rattle.table_jobs.proofs.merging.merge.Goals as goal
 

@@ -1,9 +1,8 @@
-use Rattle.std.proofs.Common.{◌≡◌, ℕ, ◌+◌, ◌*◌, ◌≤◌, length, refl, sym, ◌∙◌, ap, subst, arith}
+use Rattle.std.proofs.Common.{ℕ, sym, ◌∙◌, ap, subst, arith}
 use Rattle.catalog_types.specs.declared.catalogue.Projection.{Projection}
 use Rattle.col_disk.specs.Moved.{Moved, NoName}
 use Rattle.col_disk.proofs.Moving.{moved_join, moved_none, moved_still, moved_told}
-use Rattle.ros_container.specs.Encodings.{written_of}
-use Rattle.container_writer.specs.Writing.{DataFrom, listed}
+use Rattle.container_writer.specs.Writing.{DataFrom}
 use Rattle.merge_rows.specs.Inputs.{IsMerging, KeepsFrom, Merging}
 use Rattle.mergeout_job.specs.Merged.{merged}
 use Rattle.table_jobs.proofs.Holding.{keeps_before, merging_kept, reached_later}
