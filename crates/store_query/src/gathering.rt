@@ -22,25 +22,30 @@ use proj_store::ProjStore;
 use row_bounds::Bound;
 use std::alloc::{AllocError, Global};
 
-/// The row of a batch at a place.
-fn row_at(alloc: Global, batch: &Batch, place: usize) -> Result<Row, AllocError>
+/// The row of a batch at a place; room is made for so many values.
+fn row_at(alloc: Global, batch: &Batch, place: usize, width: usize) -> Result<Row, AllocError>
     requires { place < length batch.now.rows }
     ensures row { IfOk result (λ r. IsSomeAnd (slice_get batch.now.rows place) (λ x. r ≡ x)) }
     ensures valid { IfOk result IsRow }
 {
-    let mut row = Vec::new(alloc);
+    let mut row = Vec::with_capacity(alloc, width)?;
     batch.copy_row(alloc, place, &mut row)?;
     Ok(Row::new(row))
 }
 
-/// Appends the rows of a batch.
-fn add_batch(alloc: Global, out: &mut Vec<Row>, batch: &Batch) -> Result<(), AllocError>
+/// Appends the rows of a batch, each with room for so many values.
+fn add_batch(
+    alloc: Global,
+    out: &mut Vec<Row>,
+    batch: &Batch,
+    width: usize,
+) -> Result<(), AllocError>
     requires { All IsRow out.old.items }
     ensures rows { OnOk result (out.new.items ≡ out.old.items ++ batch.now.rows) }
     ensures valid { OnOk result (All IsRow out.new.items) }
 {
     for i in 0..batch.len() {
-        out.push(row_at(alloc, batch, i)?)?;
+        out.push(row_at(alloc, batch, i, width)?)?;
     }
     Ok(())
 }
@@ -64,6 +69,7 @@ pub fn scan_within<D: Disk>(
     ensures moved { Moved ⟦<D as Disk>⟧ NoName NoName disk.old disk.new }
     ensures cause { HasCause StoreFault.Disk (D.faults disk.old) (D.faults disk.new) result }
 {
+    let width = places.len();
     let mut scan = Scan::new(epoch, places, bounds, false);
     let mut out = Vec::new(alloc);
     loop {
@@ -72,7 +78,7 @@ pub fn scan_within<D: Disk>(
             Ok(None) => return Ok(out),
             Err(fault) => return Err(fault),
         };
-        match add_batch(alloc, &mut out, &batch) {
+        match add_batch(alloc, &mut out, &batch, width) {
             Ok(()) => {}
             Err(AllocError) => return Err(StoreFault::Memory),
         }
