@@ -27,3 +27,4 @@ pub mod Refreshing
 pub mod Found
 pub mod Stepping
 pub mod LeastNames
+pub mod Named

@@ -8,6 +8,7 @@ pub mod Shaping
 pub mod Jobs
 pub mod Waiting
 pub mod Stepping
+pub mod Named
 pub use Rattle.row_matching.specs.Matching
 pub use Rattle.store_commit.specs.Seen
 pub use Rattle.store_opening.specs.Opening

@@ -4,7 +4,8 @@
 //! db_model (`IsState`). Each event says which states it may make of that, that where memory was short the store is the state as before,
 //! and that whatever a crash left at any moment of it reopens to the database before the event or to one after it, cut at its last good
 //! epoch (`Does` of `specs/Events.antt`). A statement of several jobs may have done some of them then (`JobsOf` of `specs/Jobs.antt`).
-//! Whether a statement is refused is looked at above, before its event.
+//! Whether a statement is refused is looked at above, before its event. A file that a fault names is one of the store's projections, and bad in
+//! what the disk holds when the event returns, whatever it holds (`NamesHeld` of `specs/Named.antt`).
 //!
 //! The mover's job in flight (`Mover` of `specs/Running.antt`) counts its steps: all its files are written in its last one, and until then
 //! nothing of it is on the disk.

@@ -24,6 +24,7 @@ ghost use Rattle.sound_laws.specs.Moves.{moved_at};
 ghost use Rattle.table_store.specs.Moving.{IsFreshAt};
 ghost use Rattle.folder_model.specs.Reopening.{Reopens};
 ghost use Rattle.store_opening.specs.Opening.{BlamesOpening, IsLeftAlone, IsOpening, IsStartOf, IsStill, WhereBlamed};
+ghost use Rattle.store_core.specs.Named.{NamesHeld, NamesRead};
 ghost use Rattle.store_core.specs.Running.{IsState, frame_of};
 ghost use Rattle.store_core.specs.Stepping.{is_behind};
 ghost use Rattle.store_core.specs.Waiting.{has_name};
@@ -227,6 +228,7 @@ impl Store {
             → Does ⟦<D as Disk>⟧ no_memory self.old self.new disk.old disk.new result state (λ new. new ≡ changes_committed state) }
         ensures unblamed { IfErr result (λ fault. (state : State) → IsState ⟦<D as Disk>⟧ self.old disk.old state → IsUnblamedStore fault) }
         ensures blamed { IfErr result (BlamesStored self.old.seen.stores (D.holds disk.old)) }
+        ensures named { IfErr result (NamesHeld ⟦<D as Disk>⟧ self.new disk.new) }
         ensures same { OnErr result (self.new ≡ self.old) }
         ensures cause { HasCause StoreFault.Disk (D.faults disk.old) (D.faults disk.new) result }
     {
@@ -276,6 +278,7 @@ impl Store {
         ensures job { OnOk result (DrawsJob table place self.old.seen.catalogue self.new.seen.catalogue) }
         ensures unblamed { IfErr result (λ fault. (state : State) → IsState ⟦<D as Disk>⟧ self.old disk.old state → IsUnblamedStore fault) }
         ensures blamed { IfErr result (λ fault. (m : Contents) → D.holds disk.new ≡ Some m → BlamesVectorsAt self.old.seen.stores table place m fault) }
+        ensures named { IfErr result (NamesHeld ⟦<D as Disk>⟧ self.new disk.new) }
         ensures same { OnErr result (self.new ≡ self.old) }
         ensures cause { HasCause StoreFault.Disk (D.faults disk.old) (D.faults disk.new) result }
     {
@@ -291,6 +294,7 @@ impl Store {
         ensures stays { IfOk result (λ moved. moved ≡ false → self.new ≡ self.old) }
         ensures unblamed { IfErr result (λ fault. (state : State) → IsState ⟦<D as Disk>⟧ self.old disk.old state → IsUnblamedStore fault) }
         ensures blamed { IfErr result (λ fault. (m : Contents) → D.holds disk.new ≡ Some m → BlamesVectors self.old.seen.stores m fault) }
+        ensures named { IfErr result (NamesHeld ⟦<D as Disk>⟧ self.new disk.new) }
         ensures same { OnErr result (self.new ≡ self.old) }
         ensures cause { HasCause StoreFault.Disk (D.faults disk.old) (D.faults disk.new) result }
     {
@@ -319,6 +323,7 @@ impl Store {
         ensures great { IsErrOf result SelectFault.SumOutOfRange → (state : State) (q : Query) → IsState ⟦<D as Disk>⟧ self.now disk.old state → IsAsked state at q query.now → IsSumTooGreat (bound_in state q) (inputs at state q) }
         ensures unblamed { IfErr result (λ fault. (state : State) (q : Query) → IsState ⟦<D as Disk>⟧ self.now disk.old state → IsAsked state at q query.now → IsUnblamed fault) }
         ensures blamed { IfErr result (BlamesRead self.now.seen.stores (D.holds disk.old)) }
+        ensures named { IfErr result (NamesRead ⟦<D as Disk>⟧ self.now disk.new) }
         ensures kept { D.holds disk.new ≡ D.holds disk.old }
         ensures moved { Moved ⟦<D as Disk>⟧ NoName NoName disk.old disk.new }
         ensures cause { HasCause SelectFault.Disk (D.faults disk.old) (D.faults disk.new) result }

@@ -11,6 +11,7 @@ ghost use Rattle.db_model.specs.State.{State, own_changes, pending_rows};
 ghost use Rattle.col_disk.specs.Faults.{IsUnblamed};
 ghost use Rattle.row_matching.specs.Matching.{AreMatches};
 ghost use Rattle.table_store.specs.Faults.{BlamesStored};
+ghost use Rattle.store_core.specs.Named.{NamesHeld};
 ghost use Rattle.store_core.specs.Running.{IsState};
 ghost use Rattle.store_core.specs.Sessions.{own_of, with_marked};
 
@@ -36,6 +37,7 @@ impl Store {
         ensures valid { IfOk result (λ r. All (λ a. IsRow a.row) r.committed.items × All IsRow r.pending.items) }
         ensures unblamed { IfErr result (λ fault. (state : State) → IsState ⟦<D as Disk>⟧ self.now disk.old state → IsUnblamed fault) }
         ensures blamed { IfErr result (BlamesStored self.now.seen.stores (D.holds disk.old)) }
+        ensures named { IfErr result (NamesHeld ⟦<D as Disk>⟧ self.now disk.new) }
         ensures kept { D.holds disk.new ≡ D.holds disk.old }
         ensures moved { Moved ⟦<D as Disk>⟧ NoName NoName disk.old disk.new }
         ensures cause { HasCause StoreFault.Disk (D.faults disk.old) (D.faults disk.new) result }

@@ -16,6 +16,7 @@ ghost use Rattle.table_jobs.specs.Oldest.{HasFour};
 ghost use Rattle.table_store.specs.Moving.{IsFreshAt};
 ghost use Rattle.store_core.specs.Jobs.{is_of, stale_place, RaisesAllOf, RefreshesAllOf, RefreshesAt, RisesAt};
 ghost use Rattle.store_core.specs.Events.{Does};
+ghost use Rattle.store_core.specs.Named.{NamesHeld};
 ghost use Rattle.store_core.specs.Running.{IsState};
 ghost use Rattle.store_core.specs.Stepping.{NoneIsDue};
 
@@ -90,6 +91,7 @@ impl Store {
         ensures drawn { OnOk result (OfProjection next.at.table next.at.place self.old.seen.catalogue (DrawsMerged next.at.table next.at.place self.old.seen.catalogue self.new.seen.catalogue)) }
         ensures unblamed { IfErr result (λ fault. (state : State) → IsState ⟦<D as Disk>⟧ self.old disk.old state → IsUnblamedStore fault) }
         ensures blamed { IfErr result (λ fault. OfProjection next.at.table next.at.place self.old.seen.catalogue (BlamesMerge (D.holds disk.old) fault)) }
+        ensures named { IfErr result (NamesHeld ⟦<D as Disk>⟧ self.new disk.new) }
         ensures same { OnErr result (self.new ≡ self.old) }
         ensures cause { HasCause StoreFault.Disk (D.faults disk.old) (D.faults disk.new) result }
     {
@@ -117,6 +119,7 @@ impl Store {
         ensures drawn { OnOk result (OfProjection table place self.old.seen.catalogue (DrawsAnew table place 1 self.old.seen.catalogue self.new.seen.catalogue)) }
         ensures unblamed { IfErr result (λ fault. (state : State) → IsState ⟦<D as Disk>⟧ self.old disk.old state → IsUnblamedStore fault) }
         ensures blamed { IfErr result (λ fault. OfProjection table place self.old.seen.catalogue (BlamesPurge (D.holds disk.old) fault)) }
+        ensures named { IfErr result (NamesHeld ⟦<D as Disk>⟧ self.new disk.new) }
         ensures same { OnErr result (self.new ≡ self.old) }
         ensures cause { HasCause StoreFault.Disk (D.faults disk.old) (D.faults disk.new) result }
     {
@@ -136,6 +139,7 @@ impl Store {
         ensures does { (state : State) → IsState ⟦<D as Disk>⟧ self.old disk.old state → Does ⟦<D as Disk>⟧ no_memory self.old self.new disk.old disk.new result state (RefreshesAt table place state) }
         ensures drawn { OnOk result (OfProjection table place self.old.seen.catalogue (DrawsAnew table place 2 self.old.seen.catalogue self.new.seen.catalogue)) }
         ensures unblamed { IfErr result (λ fault. (state : State) → IsState ⟦<D as Disk>⟧ self.old disk.old state → IsUnblamedStore fault) }
+        ensures named { IfErr result (NamesHeld ⟦<D as Disk>⟧ self.new disk.new) }
         ensures same { OnErr result (self.new ≡ self.old) }
         ensures cause { HasCause StoreFault.Disk (D.faults disk.old) (D.faults disk.new) result }
     {
@@ -168,6 +172,7 @@ impl Store {
     pub fn merge_all<D: Disk>(&mut self, alloc: Global, disk: &mut D) -> Result<bool, StoreFault>
         ensures left { IfOk result (λ stopped. stopped ≡ false → NoneIsDue self.new.seen.catalogue.tables) }
         ensures jobs { (state : State) → IsState ⟦<D as Disk>⟧ self.old disk.old state → RaisesAllOf ⟦<D as Disk>⟧ (λ s. true) self.new disk.old disk.new result state }
+        ensures named { IfErr result (NamesHeld ⟦<D as Disk>⟧ self.new disk.new) }
         ensures cause { HasCause StoreFault.Disk (D.faults disk.old) (D.faults disk.new) result }
     {
         self.projections_fit();
@@ -198,6 +203,7 @@ impl Store {
     ) -> Result<bool, StoreFault>
         ensures jobs { (state : State) (name : List ℕ) → IsState ⟦<D as Disk>⟧ self.old disk.old state → IsSomeAnd (slice_get self.old.seen.catalogue.tables table) (λ t. t.name ≡ name)
             → RaisesAllOf ⟦<D as Disk>⟧ (is_of name state) self.new disk.old disk.new result state }
+        ensures named { IfErr result (NamesHeld ⟦<D as Disk>⟧ self.new disk.new) }
         ensures cause { HasCause StoreFault.Disk (D.faults disk.old) (D.faults disk.new) result }
     {
         self.mover.drop_job();
@@ -225,6 +231,7 @@ impl Store {
     ) -> Result<bool, StoreFault>
         ensures jobs { (state : State) (name : List ℕ) → IsState ⟦<D as Disk>⟧ self.old disk.old state → IsSomeAnd (slice_get self.old.seen.catalogue.tables table) (λ t. t.name ≡ name)
             → RefreshesAllOf ⟦<D as Disk>⟧ name self.new disk.old disk.new result state }
+        ensures named { IfErr result (NamesHeld ⟦<D as Disk>⟧ self.new disk.new) }
         ensures cause { HasCause StoreFault.Disk (D.faults disk.old) (D.faults disk.new) result }
     {
         self.places_fit();

@@ -11,6 +11,7 @@ ghost use Rattle.db_model.specs.Refusals.{locked};
 ghost use Rattle.db_model.specs.Sound.{RowFits};
 ghost use Rattle.db_model.specs.State.{State};
 ghost use Rattle.store_core.specs.Events.{Does};
+ghost use Rattle.store_core.specs.Named.{NamesHeld};
 ghost use Rattle.store_core.specs.Running.{IsState};
 ghost use Rattle.col_disk.specs.Faults.{IsUnblamed as IsUnblamedStore};
 ghost use Rattle.table_store.specs.Faults.{BlamesStored};
@@ -36,6 +37,7 @@ impl Store {
             → Does ⟦<D as Disk>⟧ no_memory self.old self.new disk.old disk.new result state (λ new. new ≡ rows_loaded name.now rows.items state) }
         ensures unblamed { IfErr result (λ fault. (state : State) → IsState ⟦<D as Disk>⟧ self.old disk.old state → IsUnblamedStore fault) }
         ensures blamed { IfErr result (BlamesStored self.old.seen.stores (D.holds disk.old)) }
+        ensures named { IfErr result (NamesHeld ⟦<D as Disk>⟧ self.new disk.new) }
         ensures same { OnErr result (self.new ≡ self.old) }
         ensures cause { HasCause StoreFault.Disk (D.faults disk.old) (D.faults disk.new) result }
     {

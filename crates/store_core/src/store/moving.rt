@@ -1,12 +1,13 @@
 //! A moveout of all projections, and the end of all sessions.
 
-ghost use Rattle.std.specs.Prelude.{◌≡◌, ◌≤◌, ℕ, length, nat_le, is_some, Some, IfErr};
+ghost use Rattle.std.specs.Prelude.{◌≡◌, ◌≤◌, ℕ, length, nat_le, is_some, Some, IfErr, OnErr};
 ghost use Rattle.common_laws.specs.Causes.{HasCause};
 ghost use Rattle.common_laws.specs.Maps.{Contents};
 ghost use Rattle.db_model.specs.State.{State};
 ghost use Rattle.mover_policy.specs.First.{all_projections, behind_in, first_in};
 ghost use Rattle.table_store.specs.Faults.{BlamesVectors};
 ghost use Rattle.store_core.specs.Moving.{MovesAllOf};
+ghost use Rattle.store_core.specs.Named.{NamesHeld};
 ghost use Rattle.store_core.specs.Running.{IsState};
 ghost use Rattle.store_core.specs.Sessions.{eight_dropped, with_none};
 
@@ -63,6 +64,8 @@ impl Store {
     pub fn move_all<D: Disk>(&mut self, alloc: Global, disk: &mut D) -> Result<bool, StoreFault>
         ensures moves { (state : State) → IsState ⟦<D as Disk>⟧ self.old disk.old state → MovesAllOf ⟦<D as Disk>⟧ self.new disk.old disk.new result state }
         ensures blamed { IfErr result (λ fault. (m : Contents) → D.holds disk.new ≡ Some m → BlamesVectors self.old.seen.stores m fault) }
+        ensures named { IfErr result (NamesHeld ⟦<D as Disk>⟧ self.new disk.new) }
+        ensures same { OnErr result (self.new.seen ≡ self.old.seen) }
         ensures cause { HasCause StoreFault.Disk (D.faults disk.old) (D.faults disk.new) result }
     {
         self.projections_fit();

@@ -9,6 +9,7 @@ ghost use Rattle.col_disk.specs.declared.disk.StoreFault.TheVariants.{Memory as 
 ghost use Rattle.db_model.specs.Numbers.{are_spent};
 ghost use Rattle.db_model.specs.State.{State};
 ghost use Rattle.store_core.specs.Events.{Does};
+ghost use Rattle.store_core.specs.Named.{NamesHeld};
 ghost use Rattle.store_core.specs.Running.{IsState};
 ghost use Rattle.mover_policy.specs.First.{projection_at};
 ghost use Rattle.store_core.specs.Stepping.{all_stale, is_behind, is_less, stale_in, with_asked, Begins, BeginsAt, BeginsNext, BeginsRefresh, FinishesJob, InstallsJob, IsLeastOf, IsStaleNamed, MergesNext, MoverStepsOf};
@@ -198,6 +199,7 @@ impl Store {
         ensures merges { OnOk result (MergesNext self.old.seen.catalogue self.new.seen.catalogue) }
         ensures does { (state : State) → IsState ⟦<D as Disk>⟧ self.old disk.old state → Does ⟦<D as Disk>⟧ no_memory self.old self.new disk.old disk.new result state (InstallsJob state) }
         ensures unblamed { IfErr result (λ fault. (state : State) → IsState ⟦<D as Disk>⟧ self.old disk.old state → IsUnblamedStore fault) }
+        ensures named { IfErr result (NamesHeld ⟦<D as Disk>⟧ self.new disk.new) }
         ensures same { OnErr result (self.new ≡ self.old) }
         ensures cause { HasCause StoreFault.Disk (D.faults disk.old) (D.faults disk.new) result }
     {
@@ -227,6 +229,7 @@ impl Store {
     ) -> Result<(), StoreFault>
         ensures does { (state : State) → IsState ⟦<D as Disk>⟧ self.old disk.old state → Does ⟦<D as Disk>⟧ no_memory self.old self.new disk.old disk.new result state (InstallsJob state) }
         ensures unblamed { IfErr result (λ fault. (state : State) → IsState ⟦<D as Disk>⟧ self.old disk.old state → IsUnblamedStore fault) }
+        ensures named { IfErr result (NamesHeld ⟦<D as Disk>⟧ self.new disk.new) }
         ensures same { OnErr result (self.new ≡ self.old) }
         ensures cause { HasCause StoreFault.Disk (D.faults disk.old) (D.faults disk.new) result }
     {
@@ -251,6 +254,7 @@ impl Store {
         ensures merges { OnOk result (self.old.mover.refreshing ≡ None → MergesNext self.old.seen.catalogue self.new.seen.catalogue) }
         ensures does { (state : State) → IsState ⟦<D as Disk>⟧ self.old disk.old state → Does ⟦<D as Disk>⟧ no_memory self.old self.new disk.old disk.new result state (InstallsJob state) }
         ensures unblamed { IfErr result (λ fault. (state : State) → IsState ⟦<D as Disk>⟧ self.old disk.old state → IsUnblamedStore fault) }
+        ensures named { IfErr result (NamesHeld ⟦<D as Disk>⟧ self.new disk.new) }
         ensures same { OnErr result (self.new ≡ self.old) }
         ensures cause { HasCause StoreFault.Disk (D.faults disk.old) (D.faults disk.new) result }
     {
@@ -266,6 +270,7 @@ impl Store {
         ensures merges { OnOk result (self.old.mover.refreshing ≡ None → MergesNext self.old.seen.catalogue self.new.seen.catalogue) }
         ensures does { (state : State) → IsState ⟦<D as Disk>⟧ self.old disk.old state → Does ⟦<D as Disk>⟧ no_memory self.old self.new disk.old disk.new result state (FinishesJob state) }
         ensures unblamed { IfErr result (λ fault. (state : State) → IsState ⟦<D as Disk>⟧ self.old disk.old state → IsUnblamedStore fault) }
+        ensures named { IfErr result (NamesHeld ⟦<D as Disk>⟧ self.new disk.new) }
         ensures same { OnErr result (self.new ≡ self.old) }
         ensures cause { HasCause StoreFault.Disk (D.faults disk.old) (D.faults disk.new) result }
     {
@@ -283,6 +288,7 @@ impl Store {
         ensures begins { OnOk result (nat_le 1152921504606846976 self.old.seen.catalogue.next ≡ false → self.old.mover.busy ≡ 0 → is_behind self.old ≡ false → BeginsNext self.old self.new) }
         ensures merges { OnOk result (nat_le 1152921504606846976 self.old.seen.catalogue.next ≡ false → self.old.mover.busy ≡ 1 → self.old.mover.refreshing ≡ None → MergesNext self.old.seen.catalogue self.new.seen.catalogue) }
         ensures steps { (state : State) → IsState ⟦<D as Disk>⟧ self.old disk.old state → MoverStepsOf ⟦<D as Disk>⟧ self.new disk.old disk.new result state }
+        ensures named { IfErr result (NamesHeld ⟦<D as Disk>⟧ self.new disk.new) }
         ensures cause { HasCause StoreFault.Disk (D.faults disk.old) (D.faults disk.new) result }
     {
         if self.are_spent() {
@@ -303,6 +309,7 @@ impl Store {
     fn move_or_begin<D: Disk>(&mut self, alloc: Global, disk: &mut D) -> Result<(), StoreFault>
         ensures begins { OnOk result (is_behind self.old ≡ false → BeginsNext self.old self.new) }
         ensures steps { (state : State) → IsState ⟦<D as Disk>⟧ self.old disk.old state → are_spent state ≡ false → state.busy ≡ 0 → MoverStepsOf ⟦<D as Disk>⟧ self.new disk.old disk.new result state }
+        ensures named { IfErr result (NamesHeld ⟦<D as Disk>⟧ self.new disk.new) }
         ensures cause { HasCause StoreFault.Disk (D.faults disk.old) (D.faults disk.new) result }
     {
         match self.move_first(alloc, disk) {

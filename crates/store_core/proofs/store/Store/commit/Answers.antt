@@ -8,6 +8,7 @@ use Rattle.store_commit.specs.Seen.{Seen, Stands}
 use Rattle.table_store.specs.Faults.{BlamesStored}
 use Rattle.store_core.proofs.Doing.{does_failed}
 use Rattle.store_core.proofs.Sessions.{put_at, put_back, commit_at, idle_at}
+use Rattle.store_core.proofs.Named.{stored_named}
 use Rattle.store_core.proofs.store.Store.commit.Goals as goal
 
 pub returns-then-not-has_changes-clause-does : goal.returns-then-not-has_changes-clause-does
@@ -53,3 +54,8 @@ returns-in-Err-clause-unblamed g c = λ state here. c.in-Err.ensures.unblamed st
 
 pub returns-in-Err-clause-blamed : goal.returns-in-Err-clause-blamed
 returns-in-Err-clause-blamed g c = subst (λ (r : Running). BlamesStored r.seen.stores (g.D.Disk.holds c.args.disk.now) c.in-Err.fault) c.self.view_is c.in-Err.ensures.blamed
+
+pub returns-in-Err-clause-named : goal.returns-in-Err-clause-named
+returns-in-Err-clause-named g c =
+    stored_named g.D.Disk (running c.commit.new.self c.put.new.self c.self.inside.current c.self.inside.mover) c.args.disk.now c.commit.new.disk c.in-Err.fault c.in-Err.ensures.unwritten
+    (subst (λ (s : Seen). BlamesStored s.stores (g.D.Disk.holds c.args.disk.now) c.in-Err.fault) (sym c.in-Err.ensures.same) c.in-Err.ensures.blamed)

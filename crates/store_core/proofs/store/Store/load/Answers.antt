@@ -4,12 +4,13 @@ use Rattle.col_disk.specs.declared.disk.StoreFault.TheVariants.{Memory}
 use Rattle.db_model.specs.Events.{rows_loaded, rows_pending}
 use Rattle.db_model.specs.Sound.{IsSound}
 use Rattle.db_model.specs.State.{has_changes, with_rows}
-use Rattle.store_commit.specs.Seen.{Stands}
+use Rattle.store_commit.specs.Seen.{Stands, Seen}
 use Rattle.store_core.specs.Running.{Running, running}
 use Rattle.table_store.specs.Faults.{BlamesStored}
 use Rattle.store_core.proofs.Doing.{does_failed}
 use Rattle.store_core.proofs.Loaded.{load_at, load_idle, load_short}
 use Rattle.store_core.proofs.Sessions.{put_at}
+use Rattle.store_core.proofs.Named.{stored_named}
 use Rattle.store_core.proofs.store.Store.load.Goals as goal
 
 pub returns-in-Err-clause-does : goal.returns-in-Err-clause-does
@@ -53,3 +54,8 @@ returns-clause-does g c = λ state t here there fit free.
 
 pub returns-in-Err-commit-clause-blamed : goal.returns-in-Err-commit-clause-blamed
 returns-in-Err-commit-clause-blamed g c = subst (λ (r : Running). BlamesStored r.seen.stores (g.D.Disk.holds c.args.disk.now) c.in-Err-commit.fault) c.self.view_is c.in-Err-commit.ensures.blamed
+
+pub returns-in-Err-commit-clause-named : goal.returns-in-Err-commit-clause-named
+returns-in-Err-commit-clause-named g c =
+    stored_named g.D.Disk (running c.commit.new.self c.self.inside.txns c.self.inside.current c.self.inside.mover) c.args.disk.now c.commit.new.disk c.in-Err-commit.fault c.in-Err-commit.ensures.unwritten
+    (subst (λ (s : Seen). BlamesStored s.stores (g.D.Disk.holds c.args.disk.now) c.in-Err-commit.fault) (sym c.in-Err-commit.ensures.same) c.in-Err-commit.ensures.blamed)

@@ -7,6 +7,7 @@ use Rattle.row_matching.proofs.Alike.{found_alike}
 use Rattle.store_core.specs.Running.{Running, running}
 use Rattle.store_core.proofs.Changed.{can_match, own_is_alike}
 use Rattle.store_core.proofs.Events.{viewed}
+use Rattle.store_core.proofs.Named.{stored_named}
 use Rattle.store_core.proofs.store.Store.matches.Goals as goal
 
 pub returns-clause-matched : goal.returns-clause-matched
@@ -26,3 +27,8 @@ returns-clause-unblamed g c = IfErr-weaker c.match_rows.result _ _ (λ fault non
 
 pub returns-clause-blamed : goal.returns-clause-blamed
 returns-clause-blamed g c = subst (λ (r : Running). IfErr c.match_rows.result (BlamesStored r.seen.stores (g.D.Disk.holds c.args.disk.now))) c.self.view_is c.match_rows.ensures.blamed
+
+pub returns-clause-named : goal.returns-clause-named
+returns-clause-named g c =
+    IfErr-weaker c.match_rows.result _ _ (λ fault blames. stored_named g.D.Disk c.args.self.now c.args.disk.now c.match_rows.new.disk fault c.match_rows.ensures.kept blames)
+    (subst (λ (r : Running). IfErr c.match_rows.result (BlamesStored r.seen.stores (g.D.Disk.holds c.args.disk.now))) c.self.view_is c.match_rows.ensures.blamed)

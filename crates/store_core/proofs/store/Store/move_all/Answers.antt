@@ -9,6 +9,7 @@ use Rattle.table_store.specs.Faults.{BlamesVectors}
 use Rattle.store_core.proofs.Chain.{failed, moved_done, moved_fails, moved_spent, projections_within, unit_fault}
 use Rattle.store_core.proofs.Stepping.{gave_up_at}
 use Rattle.table_store.specs.Draining.{all_caught_up}
+use Rattle.store_core.proofs.Named.{still_held}
 use Rattle.store_core.proofs.store.Store.move_all.Goals as goal
 
 pub returns-then-are_spent-clause-moves : goal.returns-then-are_spent-clause-moves
@@ -36,3 +37,10 @@ returns-clause-moves g c = λ state here.
 
 pub returns-in-Err-clause-blamed : goal.returns-in-Err-clause-blamed
 returns-in-Err-clause-blamed g c = λ m told. subst (λ (r : Running). BlamesVectors r.seen.stores m c.in-Err.fault) c.self.view_is (c.in-Err.ensures.blamed m told)
+
+pub returns-in-Err-clause-named : goal.returns-in-Err-clause-named
+returns-in-Err-clause-named g c =
+    still_held g.D.Disk c.self.inside.tables (running c.move_all.new.self c.self.inside.txns c.self.inside.current c.drop_job.new.self) c.move_all.new.disk c.in-Err.fault c.in-Err.ensures.named c.in-Err.ensures.same
+
+pub returns-in-Err-clause-same : goal.returns-in-Err-clause-same
+returns-in-Err-clause-same g c = c.in-Err.ensures.same ∙ ap (λ (r : Running). r.seen) c.self.view_is

@@ -8,9 +8,10 @@ use Rattle.std.specs.Prelude.{IfErr, OnOk, Some}
 use Rattle.std.proofs.lemmas.Result.{IfErr-weaker}
 use Rattle.common_laws.specs.Maps.{Contents}
 use Rattle.store_commit.specs.Seen.{Stands}
-use Rattle.store_core.specs.Running.{Running}
+use Rattle.store_core.specs.Running.{Running, running}
 use Rattle.table_store.specs.Faults.{BlamesVectorsAt}
 use Rattle.table_store.specs.Drawing.{DrawsJob}
+use Rattle.store_core.proofs.Named.{still_named}
 use Rattle.store_core.proofs.store.Store.move_out.Goals as goal
 
 pub returns-clause-does : goal.returns-clause-does
@@ -28,3 +29,7 @@ returns-clause-unblamed g c =
 pub returns-clause-blamed : goal.returns-clause-blamed
 returns-clause-blamed g c =
     subst (λ (r : Running). IfErr c.move_out.result (λ fault. (m : Contents) → g.D.Disk.holds c.move_out.new.disk ≡ Some m → BlamesVectorsAt r.seen.stores c.args.table c.args.place m fault)) c.self.view_is c.move_out.ensures.blamed
+
+pub returns-clause-named : goal.returns-clause-named
+returns-clause-named g c =
+    still_named g.D.Disk c.self.inside.tables (running c.move_out.new.self c.self.inside.txns c.self.inside.current c.self.inside.mover) c.move_out.new.disk c.move_out.result c.move_out.ensures.named c.move_out.ensures.same

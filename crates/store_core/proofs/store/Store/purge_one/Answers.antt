@@ -5,8 +5,9 @@ use Rattle.col_disk.specs.declared.disk.StoreFault.TheVariants.{Memory}
 use Rattle.store_commit.specs.Seen.{Stands}
 use Rattle.table_jobs.specs.Blamed.{BlamesPurge}
 use Rattle.table_jobs.specs.Jobs.{DrawsAnew, OfProjection}
-use Rattle.store_core.specs.Running.{Running}
+use Rattle.store_core.specs.Running.{Running, running}
 use Rattle.store_core.proofs.Raising.{rise_does}
+use Rattle.store_core.proofs.Named.{still_named}
 use Rattle.store_core.proofs.store.Store.purge_one.Goals as goal
 
 pub returns-clause-does : goal.returns-clause-does
@@ -31,3 +32,7 @@ returns-clause-blamed g c =
     let i = c.args.table in
     let j = c.args.place in
     subst (λ (r : Running). IfErr c.purge.result (λ fault. OfProjection i j r.seen.catalogue (BlamesPurge (g.D.Disk.holds c.args.disk.now) fault))) c.self.view_is c.purge.ensures.blamed
+
+pub returns-clause-named : goal.returns-clause-named
+returns-clause-named g c =
+    still_named g.D.Disk c.self.inside.tables (running c.purge.new.store c.self.inside.txns c.self.inside.current c.self.inside.mover) c.purge.new.disk c.purge.result c.purge.ensures.named c.purge.ensures.same

@@ -10,6 +10,7 @@ use Rattle.store_core.proofs.Doing.{does_failed}
 use Rattle.store_core.proofs.Found.{of_weaker}
 use Rattle.store_core.proofs.Refreshing.{asked_but, refresh_does}
 use Rattle.store_core.proofs.Stepping.{short_job}
+use Rattle.store_core.proofs.Named.{still_held}
 use Rattle.store_core.proofs.store.Store.refresh_one.Goals as goal
 
 pub returns-in-Err-clause-does : goal.returns-in-Err-clause-does
@@ -50,3 +51,7 @@ returns-clause-drawn g c =
 pub returns-in-Err-refresh-clause-unblamed : goal.returns-in-Err-refresh-clause-unblamed
 returns-in-Err-refresh-clause-unblamed g c = λ state here.
     c.in-Err-refresh.ensures.unblamed state.database (subst (λ (r : Running). Stands g.D.Disk r.seen c.args.disk.now state.database) (sym c.self.view_is) here.database)
+
+pub returns-in-Err-refresh-clause-named : goal.returns-in-Err-refresh-clause-named
+returns-in-Err-refresh-clause-named g c =
+    still_held g.D.Disk c.self.inside.tables (running c.refresh.new.store c.self.inside.txns c.self.inside.current c.self.inside.mover) c.refresh.new.disk c.in-Err-refresh.fault c.in-Err-refresh.ensures.named c.in-Err-refresh.ensures.same

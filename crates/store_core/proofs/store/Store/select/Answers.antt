@@ -5,6 +5,7 @@ use Rattle.store_query.specs.Faults.{BlamesRead}
 use Rattle.store_core.specs.Running.{Running, running}
 use Rattle.store_core.proofs.Asking.{can_read, rows_same, listed_so, too_great, not_too_great}
 use Rattle.store_core.proofs.Events.{viewed}
+use Rattle.store_core.proofs.Named.{read_named}
 use Rattle.store_core.proofs.store.Store.select.Goals as goal
 
 pub returns-clause-listed : goal.returns-clause-listed
@@ -39,3 +40,8 @@ returns-clause-unblamed g c = IfErr-weaker c.select.result _ _ (λ fault none st
 
 pub returns-clause-blamed : goal.returns-clause-blamed
 returns-clause-blamed g c = subst (λ (r : Running). IfErr c.select.result (BlamesRead r.seen.stores (g.D.Disk.holds c.args.disk.now))) c.self.view_is c.select.ensures.blamed
+
+pub returns-clause-named : goal.returns-clause-named
+returns-clause-named g c =
+    IfErr-weaker c.select.result _ _ (λ fault blames. read_named g.D.Disk c.args.self.now c.args.disk.now c.select.new.disk fault c.select.ensures.kept blames)
+    (subst (λ (r : Running). IfErr c.select.result (BlamesRead r.seen.stores (g.D.Disk.holds c.args.disk.now))) c.self.view_is c.select.ensures.blamed)
