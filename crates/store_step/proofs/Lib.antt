@@ -9,4 +9,5 @@ mod Marked
 mod Served
 mod Rows
 mod Copied
+pub mod Named
 pub use Rattle.store_core.proofs.Unblamed

@@ -9,4 +9,5 @@ pub mod Marks
 pub use Rattle.store_core.specs.Running
 pub use Rattle.store_core.specs.Events
 pub use Rattle.store_core.specs.Cuts
+pub use Rattle.store_core.specs.Named
 pub use Rattle.store_core.specs.Opening

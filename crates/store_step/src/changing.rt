@@ -16,6 +16,7 @@ ghost use Rattle.sql_bound.specs.Bounds.{is_narrow};
 ghost use Rattle.sql_tree.specs.declared.statement.Statement.{Statement};
 ghost use Rattle.statement_plan.specs.declared.plans.Plan.{Plan};
 ghost use Rattle.statement_plan.specs.Planned.{IsPlanned};
+ghost use Rattle.store_core.specs.Named.{NamesHeld};
 ghost use Rattle.store_core.specs.Running.{frame_of, IsState};
 ghost use Rattle.store_core.specs.Sessions.{with_marked};
 ghost use Rattle.store_step.specs.Arms.{Answers, Holds};
@@ -97,6 +98,7 @@ pub fn delete_rows<D: Disk>(
     requires { IsPlanned (frame_of store.old) (Statement.Delete delete.now) (Plan.Delete place bound.now) }
     ensures answers { (files : LoadFiles) (state : State) → IsState ⟦<D as Disk>⟧ store.old disk.old state
         → Answers ⟦<D as Disk>⟧ files (Statement.Delete delete.now) store.new disk.old disk.new result state }
+    ensures named { IfErr result (NamesHeld ⟦<D as Disk>⟧ store.new disk.new) }
     ensures cause { HasCause StoreFault.Disk (D.faults disk.old) (D.faults disk.new) result }
 {
     every_image_reopens::<D>();
@@ -195,6 +197,7 @@ pub fn update_rows<D: Disk>(
     requires { IsPlanned (frame_of store.old) (Statement.Update update.now) (Plan.Update place bound.now) }
     ensures answers { (files : LoadFiles) (state : State) → IsState ⟦<D as Disk>⟧ store.old disk.old state
         → Answers ⟦<D as Disk>⟧ files (Statement.Update update.now) store.new disk.old disk.new result state }
+    ensures named { IfErr result (NamesHeld ⟦<D as Disk>⟧ store.new disk.new) }
     ensures cause { HasCause StoreFault.Disk (D.faults disk.old) (D.faults disk.new) result }
 {
     every_image_reopens::<D>();

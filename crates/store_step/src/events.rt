@@ -1,6 +1,6 @@
 //! Statements that call the disk.
 
-ghost use Rattle.std.specs.Prelude.{◌≡◌, None, Some};
+ghost use Rattle.std.specs.Prelude.{◌≡◌, None, Some, IfErr};
 ghost use Rattle.common_laws.specs.Causes.{HasCause};
 ghost use Rattle.db_model.specs.Loading.{Files as LoadFiles};
 ghost use Rattle.db_model.specs.Refusals.{table_created_refusal, table_dropped_refusal};
@@ -10,6 +10,7 @@ ghost use Rattle.query_laws.specs.Bounded.{IsBoundedQuery};
 ghost use Rattle.sql_tree.specs.declared.statement.Statement.{Statement};
 ghost use Rattle.statement_plan.specs.Places.{table_place};
 ghost use Rattle.statement_plan.specs.Planned.{select_refusal, IsBoundIn};
+ghost use Rattle.store_core.specs.Named.{NamesHeld};
 ghost use Rattle.store_core.specs.Running.{frame_of, IsState};
 ghost use Rattle.store_step.specs.Arms.{Answers};
 
@@ -37,6 +38,7 @@ pub fn create_table<D: Disk>(
 ) -> Result<Answer, StoreFault>
     ensures answers { (files : LoadFiles) (state : State) → IsState ⟦<D as Disk>⟧ store.old disk.old state → table_created_refusal state name columns ≡ None
         → Answers ⟦<D as Disk>⟧ files (Statement.CreateTable name columns) store.new disk.old disk.new result state }
+    ensures named { IfErr result (NamesHeld ⟦<D as Disk>⟧ store.new disk.new) }
     ensures cause { HasCause StoreFault.Disk (D.faults disk.old) (D.faults disk.new) result }
 {
     every_image_reopens::<D>();
@@ -63,6 +65,7 @@ pub fn drop_table<D: Disk>(
     requires { table_place name.now (frame_of store.old).database.tables ≡ Some place }
     ensures answers { (files : LoadFiles) (state : State) → IsState ⟦<D as Disk>⟧ store.old disk.old state → table_dropped_refusal state name.now ≡ None
         → Answers ⟦<D as Disk>⟧ files (Statement.DropTable name.now) store.new disk.old disk.new result state }
+    ensures named { IfErr result (NamesHeld ⟦<D as Disk>⟧ store.new disk.new) }
     ensures cause { HasCause StoreFault.Disk (D.faults disk.old) (D.faults disk.new) result }
 {
     every_image_reopens::<D>();
@@ -79,6 +82,7 @@ pub fn drop_table<D: Disk>(
 pub fn commit<D: Disk>(alloc: Global, store: &mut Store, disk: &mut D) -> Result<Answer, StoreFault>
     ensures answers { (files : LoadFiles) (state : State) → IsState ⟦<D as Disk>⟧ store.old disk.old state → commit_refusal state ≡ None
         → Answers ⟦<D as Disk>⟧ files Statement.Commit store.new disk.old disk.new result state }
+    ensures named { IfErr result (NamesHeld ⟦<D as Disk>⟧ store.new disk.new) }
     ensures cause { HasCause StoreFault.Disk (D.faults disk.old) (D.faults disk.new) result }
 {
     every_image_reopens::<D>();
@@ -102,6 +106,7 @@ pub fn select<D: Disk>(
     requires { IsBoundedQuery bound.now }
     ensures answers { (files : LoadFiles) (state : State) → IsState ⟦<D as Disk>⟧ store.now disk.old state → IsBoundIn state query.now bound.now → select_refusal state at query.now ≡ None
         → Answers ⟦<D as Disk>⟧ files (Statement.Select at query.now) store.now disk.old disk.new result state }
+    ensures named { IfErr result (NamesHeld ⟦<D as Disk>⟧ store.now disk.new) }
     ensures cause { HasCause StoreFault.Disk (D.faults disk.old) (D.faults disk.new) result }
 {
     other_files_move::<D>();

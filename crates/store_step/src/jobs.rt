@@ -1,6 +1,6 @@
 //! MERGEOUT, PURGE_TABLE and REFRESH.
 
-ghost use Rattle.std.specs.Prelude.{◌≡◌, None, Some};
+ghost use Rattle.std.specs.Prelude.{◌≡◌, None, Some, IfErr};
 ghost use Rattle.common_laws.specs.Causes.{HasCause};
 ghost use Rattle.db_model.specs.Loading.{Files as LoadFiles};
 ghost use Rattle.db_model.specs.Refusals.{unknown_table_refusal};
@@ -8,6 +8,7 @@ ghost use Rattle.db_model.specs.State.{State};
 ghost use Rattle.sql_tree.specs.declared.statement.Function.{Function};
 ghost use Rattle.sql_tree.specs.declared.statement.Statement.{Statement};
 ghost use Rattle.statement_plan.specs.Places.{table_place};
+ghost use Rattle.store_core.specs.Named.{NamesHeld};
 ghost use Rattle.store_core.specs.Running.{frame_of, IsState};
 ghost use Rattle.store_step.specs.Arms.{Answers};
 
@@ -28,6 +29,7 @@ pub fn mergeout<D: Disk>(
 ) -> Result<Answer, StoreFault>
     ensures answers { (files : LoadFiles) (state : State) → IsState ⟦<D as Disk>⟧ store.old disk.old state
         → Answers ⟦<D as Disk>⟧ files (Statement.Call Function.Mergeout) store.new disk.old disk.new result state }
+    ensures named { IfErr result (NamesHeld ⟦<D as Disk>⟧ store.new disk.new) }
     ensures cause { HasCause StoreFault.Disk (D.faults disk.old) (D.faults disk.new) result }
 {
     every_image_reopens::<D>();
@@ -53,6 +55,7 @@ pub fn purge_table<D: Disk>(
     requires { table_place name.now (frame_of store.old).database.tables ≡ Some place }
     ensures answers { (files : LoadFiles) (state : State) → IsState ⟦<D as Disk>⟧ store.old disk.old state → unknown_table_refusal state name.now ≡ None
         → Answers ⟦<D as Disk>⟧ files (Statement.Call (Function.Purge name.now)) store.new disk.old disk.new result state }
+    ensures named { IfErr result (NamesHeld ⟦<D as Disk>⟧ store.new disk.new) }
     ensures cause { HasCause StoreFault.Disk (D.faults disk.old) (D.faults disk.new) result }
 {
     every_image_reopens::<D>();
@@ -78,6 +81,7 @@ pub fn refresh_table<D: Disk>(
     requires { table_place name.now (frame_of store.old).database.tables ≡ Some place }
     ensures answers { (files : LoadFiles) (state : State) → IsState ⟦<D as Disk>⟧ store.old disk.old state → unknown_table_refusal state name.now ≡ None
         → Answers ⟦<D as Disk>⟧ files (Statement.Call (Function.Refresh name.now)) store.new disk.old disk.new result state }
+    ensures named { IfErr result (NamesHeld ⟦<D as Disk>⟧ store.new disk.new) }
     ensures cause { HasCause StoreFault.Disk (D.faults disk.old) (D.faults disk.new) result }
 {
     every_image_reopens::<D>();

@@ -3,8 +3,8 @@
 //! Over a disk over which the store is a state of db_model, `step` makes a `Step` of it and answers its text (`Steps` of
 //! `specs/Steps.antt`), `mover_step` makes a step of the mover, and `end` makes the end of a script. Each says what holds where memory was
 //! short, and `step` what holds where a load file couldn't be read; and whatever a crash leaves at any moment of it reopens to the tables
-//! before or after it, cut at one closed epoch that is no earlier than the last good one before it. No file is blamed over a state. The
-//! forms that are served are those of `is_served`.
+//! before or after it, cut at one closed epoch that is no earlier than the last good one before it. No file is blamed over a state; over
+//! other contents one is named that is bad then (`NamesStepped`). The forms that are served are those of `is_served`.
 #![tactic(auto)]
 
 mod answer;

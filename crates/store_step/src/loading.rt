@@ -1,6 +1,6 @@
 //! COPY: the rows of a load file join the session's pending rows, and the session commits.
 
-ghost use Rattle.std.specs.Prelude.{ℕ, ◌≡◌, ◌<◌, ◌||◌, false, not, map, length, List as Items, None, Some, IfOk, IsSomeAnd};
+ghost use Rattle.std.specs.Prelude.{ℕ, ◌≡◌, ◌<◌, ◌||◌, false, not, map, length, List as Items, None, Some, IfOk, IsSomeAnd, IfErr};
 ghost use Rattle.std.specs.List.{All, slice_get};
 ghost use Rattle.common_laws.specs.Causes.{HasCause};
 ghost use Rattle.col_value.specs.Order.{IsRow};
@@ -12,9 +12,11 @@ ghost use Rattle.sql_tree.specs.declared.statement.Statement.{Statement};
 ghost use Rattle.sql_tree.specs.Spells.{Spells};
 ghost use Rattle.sql_words.specs.Symbols.{symbols_of};
 ghost use Rattle.statement_plan.specs.Places.{table_place};
+ghost use Rattle.store_core.specs.Named.{NamesHeld};
 ghost use Rattle.store_core.specs.Running.{frame_of, IsState};
 ghost use Rattle.store_core.specs.Sessions.{own_of};
 ghost use Rattle.store_step.specs.Arms.{Answers};
+ghost use Rattle.store_step.specs.Faults.{NamesStepped};
 ghost use Rattle.store_step.specs.Loading.{IsLoadable};
 ghost use Rattle.store_step.specs.Steps.{Steps};
 
@@ -85,6 +87,7 @@ fn commit_rows<D: Disk>(
     requires { All IsRow rows.items }
     ensures answers { (files : LoadFiles) (file bytes : Items ℕ) (e : ℕ × ATable) (state : State) → IsState ⟦<D as Disk>⟧ store.old disk.old state → IsLoadable state files table.now file bytes e → Loads e.1.columns bytes (Load.Rows rows.items)
         → load_refusal state table.now (Load.Rows rows.items) ≡ None → Answers ⟦<D as Disk>⟧ files (Statement.Copy table.now file) store.new disk.old disk.new result state }
+    ensures named { IfErr result (NamesHeld ⟦<D as Disk>⟧ store.new disk.new) }
     ensures cause { HasCause StoreFault.Disk (D.faults disk.old) (D.faults disk.new) result }
 {
     every_image_reopens::<D>();
@@ -111,6 +114,7 @@ fn load_rows<D: Disk>(
     requires { All IsRow rows.items }
     ensures answers { (files : LoadFiles) (file bytes : Items ℕ) (e : ℕ × ATable) (state : State) → IsState ⟦<D as Disk>⟧ store.old disk.old state → IsLoadable state files table.now file bytes e → Loads e.1.columns bytes (Load.Rows rows.items)
         → Answers ⟦<D as Disk>⟧ files (Statement.Copy table.now file) store.new disk.old disk.new result state }
+    ensures named { IfErr result (NamesHeld ⟦<D as Disk>⟧ store.new disk.new) }
     ensures cause { HasCause StoreFault.Disk (D.faults disk.old) (D.faults disk.new) result }
 {
     every_image_reopens::<D>();
@@ -134,6 +138,7 @@ fn load_bytes<D: Disk>(
     requires { table_place table.now (frame_of store.old).database.tables ≡ Some place }
     ensures answers { (files : LoadFiles) (file : Items ℕ) (state : State) → IsState ⟦<D as Disk>⟧ store.old disk.old state → locked state table.now false ≡ None → files file ≡ Some bytes.now → is_large_file bytes.now ≡ false
         → Answers ⟦<D as Disk>⟧ files (Statement.Copy table.now file) store.new disk.old disk.new result state }
+    ensures named { IfErr result (NamesHeld ⟦<D as Disk>⟧ store.new disk.new) }
     ensures cause { HasCause StoreFault.Disk (D.faults disk.old) (D.faults disk.new) result }
 {
     every_image_reopens::<D>();
@@ -169,6 +174,7 @@ fn load_file<F: Files, D: Disk>(
         → Steps ⟦<D as Disk>⟧ there text store.new disk.old disk.new result state }
     ensures content { F.content files.new ≡ F.content files.old }
     ensures read { HasCause StepFault.Read (F.faults files.old) (F.faults files.new) result }
+    ensures named { IfErr result (NamesStepped ⟦<D as Disk>⟧ store.new disk.new) }
     ensures cause { HasCause StepFault.Disk (D.faults disk.old) (D.faults disk.new) result }
 {
     every_image_reopens::<D>();
@@ -203,6 +209,7 @@ pub fn copy<F: Files, D: Disk>(
         → Steps ⟦<D as Disk>⟧ there text store.new disk.old disk.new result state }
     ensures content { F.content files.new ≡ F.content files.old }
     ensures read { HasCause StepFault.Read (F.faults files.old) (F.faults files.new) result }
+    ensures named { IfErr result (NamesStepped ⟦<D as Disk>⟧ store.new disk.new) }
     ensures cause { HasCause StepFault.Disk (D.faults disk.old) (D.faults disk.new) result }
 {
     every_image_reopens::<D>();

@@ -1,12 +1,13 @@
 //! The ancient history mark.
 
-ghost use Rattle.std.specs.Prelude.{◌≡◌, ◌≤◌, None};
+ghost use Rattle.std.specs.Prelude.{◌≡◌, ◌≤◌, None, IfErr};
 ghost use Rattle.common_laws.specs.Causes.{HasCause};
 ghost use Rattle.db_model.specs.Loading.{Files as LoadFiles};
 ghost use Rattle.db_model.specs.Refusals.{CallRefuses};
 ghost use Rattle.db_model.specs.State.{State};
 ghost use Rattle.sql_tree.specs.declared.statement.Function.{Function};
 ghost use Rattle.sql_tree.specs.declared.statement.Statement.{Statement};
+ghost use Rattle.store_core.specs.Named.{NamesHeld};
 ghost use Rattle.store_core.specs.Running.{IsState};
 ghost use Rattle.store_step.specs.Arms.{Answers};
 ghost use Rattle.store_step.specs.Marks.{IsMarkOf};
@@ -36,6 +37,7 @@ pub fn set_mark<D: Disk>(
 ) -> Result<Answer, StoreFault>
     ensures answers { (files : LoadFiles) (state : State) (f : Function) → IsState ⟦<D as Disk>⟧ store.old disk.old state → IsMarkOf state f mark → CallRefuses state f None
         → Answers ⟦<D as Disk>⟧ files (Statement.Call f) store.new disk.old disk.new result state }
+    ensures named { IfErr result (NamesHeld ⟦<D as Disk>⟧ store.new disk.new) }
     ensures cause { HasCause StoreFault.Disk (D.faults disk.old) (D.faults disk.new) result }
 {
     every_image_reopens::<D>();

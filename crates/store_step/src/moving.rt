@@ -1,11 +1,12 @@
 //! The mover behind a statement, and the end of a script.
 
-ghost use Rattle.std.specs.Prelude.{◌≡◌};
+ghost use Rattle.std.specs.Prelude.{◌≡◌, IfErr, OnErr};
 ghost use Rattle.common_laws.specs.Causes.{HasCause};
 ghost use Rattle.db_model.specs.Loading.{Files as LoadFiles};
 ghost use Rattle.db_model.specs.State.{State};
 ghost use Rattle.sql_tree.specs.declared.statement.Function.{Function};
 ghost use Rattle.sql_tree.specs.declared.statement.Statement.{Statement};
+ghost use Rattle.store_core.specs.Named.{NamesHeld};
 ghost use Rattle.store_core.specs.Running.{IsState};
 ghost use Rattle.store_step.specs.Arms.{moved, Answers};
 ghost use Rattle.store_step.specs.Steps.{Ends, MoverStepped};
@@ -33,6 +34,7 @@ fn moved(done: Result<bool, StoreFault>) -> Result<(), StoreFault>
 /// One step of the mover.
 pub fn mover_step<D: Disk>(alloc: Global, store: &mut Store, disk: &mut D) -> Result<(), StoreFault>
     ensures moves { (state : State) → IsState ⟦<D as Disk>⟧ store.old disk.old state → MoverStepped ⟦<D as Disk>⟧ store.new disk.old disk.new result state }
+    ensures named { IfErr result (NamesHeld ⟦<D as Disk>⟧ store.new disk.new) }
     ensures cause { HasCause StoreFault.Disk (D.faults disk.old) (D.faults disk.new) result }
 {
     moves_keep_states_sound();
@@ -46,6 +48,7 @@ pub fn step_mover<D: Disk>(
     disk: &mut D,
 ) -> Result<Answer, StoreFault>
     ensures answers { (files : LoadFiles) (state : State) → IsState ⟦<D as Disk>⟧ store.old disk.old state → Answers ⟦<D as Disk>⟧ files Statement.Step store.new disk.old disk.new result state }
+    ensures named { IfErr result (NamesHeld ⟦<D as Disk>⟧ store.new disk.new) }
     ensures cause { HasCause StoreFault.Disk (D.faults disk.old) (D.faults disk.new) result }
 {
     in_store(printed(Vec::new(alloc)), mover_step(alloc, store, disk))
@@ -59,6 +62,7 @@ pub fn moveout<D: Disk>(
 ) -> Result<Answer, StoreFault>
     ensures answers { (files : LoadFiles) (state : State) → IsState ⟦<D as Disk>⟧ store.old disk.old state
         → Answers ⟦<D as Disk>⟧ files (Statement.Call Function.Moveout) store.new disk.old disk.new result state }
+    ensures named { IfErr result (NamesHeld ⟦<D as Disk>⟧ store.new disk.new) }
     ensures cause { HasCause StoreFault.Disk (D.faults disk.old) (D.faults disk.new) result }
 {
     every_image_reopens::<D>();
@@ -77,6 +81,8 @@ pub fn moveout<D: Disk>(
 /// draw where the numbers of files are spent.
 pub fn end<D: Disk>(alloc: Global, store: &mut Store, disk: &mut D) -> Result<(), StoreFault>
     ensures ends { (state : State) → IsState ⟦<D as Disk>⟧ store.old disk.old state → Ends ⟦<D as Disk>⟧ store.new disk.old disk.new result state }
+    ensures named { IfErr result (NamesHeld ⟦<D as Disk>⟧ store.new disk.new) }
+    ensures kept { OnErr result (store.new.seen ≡ store.old.seen) }
     ensures cause { HasCause StoreFault.Disk (D.faults disk.old) (D.faults disk.new) result }
 {
     all_rollbacks_stand::<D>();

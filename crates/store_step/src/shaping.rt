@@ -1,12 +1,13 @@
 //! Statements by which projections and columns come and go.
 
-ghost use Rattle.std.specs.Prelude.{◌≡◌};
+ghost use Rattle.std.specs.Prelude.{◌≡◌, IfErr};
 ghost use Rattle.common_laws.specs.Causes.{HasCause};
 ghost use Rattle.db_model.specs.Loading.{Files as LoadFiles};
 ghost use Rattle.db_model.specs.State.{State};
 ghost use Rattle.sql_tree.specs.declared.statement.Statement.{Statement};
 ghost use Rattle.statement_plan.specs.declared.plans.Plan.{Plan};
 ghost use Rattle.statement_plan.specs.Planned.{IsPlanned};
+ghost use Rattle.store_core.specs.Named.{NamesHeld};
 ghost use Rattle.store_core.specs.Running.{frame_of, IsState};
 ghost use Rattle.store_step.specs.Arms.{Answers};
 
@@ -36,6 +37,7 @@ pub fn create_projection<D: Disk>(
     requires { IsPlanned (frame_of store.old) (Statement.CreateProjection projection) (Plan.CreateProjection place shape) }
     ensures answers { (files : LoadFiles) (state : State) → IsState ⟦<D as Disk>⟧ store.old disk.old state
         → Answers ⟦<D as Disk>⟧ files (Statement.CreateProjection projection) store.new disk.old disk.new result state }
+    ensures named { IfErr result (NamesHeld ⟦<D as Disk>⟧ store.new disk.new) }
     ensures cause { HasCause StoreFault.Disk (D.faults disk.old) (D.faults disk.new) result }
 {
     every_image_reopens::<D>();
@@ -65,6 +67,7 @@ pub fn add_column<D: Disk>(
     requires { IsPlanned (frame_of store.old) (Statement.AddColumn add.now) (Plan.AddColumn place default.now) }
     ensures answers { (files : LoadFiles) (state : State) → IsState ⟦<D as Disk>⟧ store.old disk.old state
         → Answers ⟦<D as Disk>⟧ files (Statement.AddColumn add.now) store.new disk.old disk.new result state }
+    ensures named { IfErr result (NamesHeld ⟦<D as Disk>⟧ store.new disk.new) }
     ensures cause { HasCause StoreFault.Disk (D.faults disk.old) (D.faults disk.new) result }
 {
     every_image_reopens::<D>();
@@ -93,6 +96,7 @@ pub fn drop_projection<D: Disk>(
     requires { IsPlanned (frame_of store.old) (Statement.DropProjection name.now) (Plan.DropProjection table place) }
     ensures answers { (files : LoadFiles) (state : State) → IsState ⟦<D as Disk>⟧ store.old disk.old state
         → Answers ⟦<D as Disk>⟧ files (Statement.DropProjection name.now) store.new disk.old disk.new result state }
+    ensures named { IfErr result (NamesHeld ⟦<D as Disk>⟧ store.new disk.new) }
     ensures cause { HasCause StoreFault.Disk (D.faults disk.old) (D.faults disk.new) result }
 {
     every_image_reopens::<D>();

@@ -9,8 +9,10 @@ ghost use Rattle.sql_tree.specs.Spells.{Spells};
 ghost use Rattle.sql_words.specs.Symbols.{symbols_of};
 ghost use Rattle.sql_tree.specs.declared.statement.Statement.{Statement as AStatement};
 ghost use Rattle.statement_plan.specs.Planned.{early_call_refusal, early_refusal, IsCallOn, IsPlainCall, IsPlanned};
+ghost use Rattle.store_core.specs.Named.{NamesHeld};
 ghost use Rattle.store_core.specs.Running.{frame_of, IsState};
 ghost use Rattle.store_step.specs.Arms.{Answers};
+ghost use Rattle.store_step.specs.Faults.{NamesStepped};
 ghost use Rattle.store_step.specs.Forms.{is_copy};
 ghost use Rattle.store_step.specs.Steps.{Steps};
 ghost use Rattle.store_step.specs.Texts.{HasRange};
@@ -48,6 +50,7 @@ fn call<D: Disk>(
     requires plain { IsPlainCall function.now }
     ensures answers { (files : LoadFiles) (state : State) → IsState ⟦<D as Disk>⟧ store.old disk.old state → early_call_refusal state function.now ≡ None
         → Answers ⟦<D as Disk>⟧ files (AStatement.Call function.now) store.new disk.old disk.new result state }
+    ensures named { IfErr result (NamesHeld ⟦<D as Disk>⟧ store.new disk.new) }
     ensures cause { HasCause StoreFault.Disk (D.faults disk.old) (D.faults disk.new) result }
 {
     every_image_reopens::<D>();
@@ -79,6 +82,7 @@ fn call_on<D: Disk>(
     requires { IsCallOn (frame_of store.old) function.now place }
     ensures answers { (files : LoadFiles) (state : State) → IsState ⟦<D as Disk>⟧ store.old disk.old state → early_call_refusal state function.now ≡ None
         → Answers ⟦<D as Disk>⟧ files (AStatement.Call function.now) store.new disk.old disk.new result state }
+    ensures named { IfErr result (NamesHeld ⟦<D as Disk>⟧ store.new disk.new) }
     ensures cause { HasCause StoreFault.Disk (D.faults disk.old) (D.faults disk.new) result }
 {
     match function {
@@ -101,6 +105,7 @@ fn perform<D: Disk>(
     requires planned { IsPlanned (frame_of store.old) statement plan }
     ensures answers { (files : LoadFiles) (state : State) → IsState ⟦<D as Disk>⟧ store.old disk.old state
         → Answers ⟦<D as Disk>⟧ files statement store.new disk.old disk.new result state }
+    ensures named { IfErr result (NamesHeld ⟦<D as Disk>⟧ store.new disk.new) }
     ensures cause { HasCause StoreFault.Disk (D.faults disk.old) (D.faults disk.new) result }
 {
     every_image_reopens::<D>();
@@ -167,6 +172,7 @@ fn answer<D: Disk>(
     requires range { HasRange statement }
     ensures answers { (files : LoadFiles) (state : State) → IsState ⟦<D as Disk>⟧ store.old disk.old state
         → Answers ⟦<D as Disk>⟧ files statement store.new disk.old disk.new result state }
+    ensures named { IfErr result (NamesHeld ⟦<D as Disk>⟧ store.new disk.new) }
     ensures cause { HasCause StoreFault.Disk (D.faults disk.old) (D.faults disk.new) result }
 {
     every_image_reopens::<D>();
@@ -191,6 +197,7 @@ fn run<F: Files, D: Disk>(
         → Steps ⟦<D as Disk>⟧ there text store.new disk.old disk.new result state }
     ensures content { F.content files.new ≡ F.content files.old }
     ensures read { HasCause StepFault.Read (F.faults files.old) (F.faults files.new) result }
+    ensures named { IfErr result (NamesStepped ⟦<D as Disk>⟧ store.new disk.new) }
     ensures cause { HasCause StepFault.Disk (D.faults disk.old) (D.faults disk.new) result }
 {
     match statement {
@@ -212,6 +219,7 @@ pub fn step<F: Files, D: Disk>(
     ensures content { F.content files.new ≡ F.content files.old }
     ensures files_later { F.faults files.old ≤ F.faults files.new }
     ensures read { IsErrOf result StepFault.Read → Rose (F.faults files.old) (F.faults files.new) }
+    ensures named { IfErr result (NamesStepped ⟦<D as Disk>⟧ store.new disk.new) }
     ensures cause { HasCause StepFault.Disk (D.faults disk.old) (D.faults disk.new) result }
 {
     every_image_reopens::<D>();

@@ -14,6 +14,7 @@ use Rattle.store_step.specs.Arms.{Answers}
 use Rattle.store_step.specs.Matches.{DeleteMatches}
 use Rattle.store_step.proofs.Rows.{delete_matches, read_answers, unread_answers}
 use Rattle.store_step.proofs.Doing.{stays_state}
+use Rattle.store_step.proofs.Named.{memory_named}
 use Rattle.store_step.proofs.changing.delete_rows.Goals as goal
 
 pub matches-requires : goal.matches-requires
@@ -49,3 +50,6 @@ returns-clause-answers g c = λ files state here.
     subst (λ (k : List Expr). DeleteMatches state d k committed pending) (sym c.as_slice-keep.ensures) (delete_matches state d c.args.place b committed pending planned.of found) in
     subst (λ (o : Result Answer StoreFault). Answers g.D.Disk files (Statement.Delete d) c.delete_matched.new.store c.args.disk.now c.matches.new.disk o state) (sym c.in_memory.ensures)
     (read_answers g.D.Disk files (Statement.Delete d) c.delete_matched.new.store c.delete_matched.result state here.sound.database leaves (c.delete_matched.ensures files c.matches.new.disk state there planned.accepted matches))
+
+pub returns-clause-named : goal.returns-clause-named
+returns-clause-named g c = memory_named g.D.Disk c.delete_matched.new.store c.matches.new.disk c.delete_matched.result c.in_memory.result c.in_memory.ensures

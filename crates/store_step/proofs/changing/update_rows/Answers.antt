@@ -13,6 +13,7 @@ use Rattle.store_step.specs.declared.answer.Answer.{Answer}
 use Rattle.store_step.specs.Arms.{Answers}
 use Rattle.store_step.proofs.Rows.{read_answers, unread_answers, update_matches}
 use Rattle.store_step.proofs.Doing.{stays_state}
+use Rattle.store_step.proofs.Named.{memory_named}
 use Rattle.store_step.proofs.changing.update_rows.Goals as goal
 
 pub matches-requires : goal.matches-requires
@@ -43,3 +44,6 @@ returns-clause-answers g c = λ files state here.
     let matches = update_matches state u c.args.place b committed pending planned.of found in
     subst (λ (o : Result Answer StoreFault). Answers g.D.Disk files (Statement.Update u) c.update_matched.new.store c.args.disk.now c.matches.new.disk o state) (sym c.in_memory.ensures)
     (read_answers g.D.Disk files (Statement.Update u) c.update_matched.new.store c.update_matched.result state here.sound.database leaves (c.update_matched.ensures files c.matches.new.disk state there planned.accepted matches))
+
+pub returns-clause-named : goal.returns-clause-named
+returns-clause-named g c = memory_named g.D.Disk c.update_matched.new.store c.matches.new.disk c.update_matched.result c.in_memory.result c.in_memory.ensures

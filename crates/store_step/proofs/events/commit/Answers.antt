@@ -15,6 +15,7 @@ use Rattle.store_step.specs.Arms.{Answers}
 use Rattle.store_step.specs.Texts.{Says}
 use Rattle.store_step.proofs.Answered.{event_answers, unmade}
 use Rattle.store_step.proofs.Doing.{commit_says, committed_event, store_short, store_unblamed}
+use Rattle.store_step.proofs.Named.{store_named}
 use Rattle.store_step.proofs.events.commit.Goals as goal
 
 pub returns-in-Err-clause-answers : goal.returns-in-Err-clause-answers
@@ -29,3 +30,6 @@ returns-clause-answers g c = λ files state here accepted.
     (event_answers g.D.Disk Memory (λ fault. fault) r c.commit.new.self c.commit.result c.printed.result state files Statement.Commit (commit_text state) (λ new. new ≡ changes_committed state) here
     (commit_says g.D.Disk r c.args.disk.now state c.printed.result here told) (committed_event state files accepted here.sound (c.commits_of_a_session_are_sound.ensures state here.sound))
     store_short (store_unblamed c.commit.result unblamed) c.commit.ensures.same (c.commit.ensures.does state here))
+
+pub returns-clause-named : goal.returns-clause-named
+returns-clause-named g c = store_named g.D.Disk c.commit.new.self c.commit.new.disk c.printed.result c.commit.result c.in_store.result c.in_store.ensures c.commit.ensures.named

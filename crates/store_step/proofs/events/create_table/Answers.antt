@@ -11,6 +11,7 @@ use Rattle.store_step.specs.Arms.{Answers}
 use Rattle.store_step.specs.Texts.{Says}
 use Rattle.store_step.proofs.Answered.{event_answers, unmade}
 use Rattle.store_step.proofs.Doing.{created_event, disk_short, disk_unblamed}
+use Rattle.store_step.proofs.Named.{disk_named}
 use Rattle.store_step.proofs.events.create_table.Goals as goal
 
 pub returns-in-Err-clause-answers : goal.returns-in-Err-clause-answers
@@ -25,3 +26,6 @@ returns-clause-answers g c = λ files state here accepted.
     (event_answers g.D.Disk Memory store_fault c.args.store.now c.create_table.new.self c.create_table.result c.printed.result state files s (codes "CREATE TABLE\n") (IsDrawn state made) here says
     (created_event state files c.args.name c.args.columns accepted here.sound (c.a_new_table_is_sound.ensures state c.args.name c.args.columns accepted here.sound) c.an_event_may_draw.ensures)
     disk_short (disk_unblamed c.create_table.result) c.create_table.ensures.same (c.create_table.ensures.does state here accepted))
+
+pub returns-clause-named : goal.returns-clause-named
+returns-clause-named g c = disk_named g.D.Disk c.create_table.new.self c.create_table.new.disk c.printed.result c.create_table.result c.on_disk.result c.on_disk.ensures

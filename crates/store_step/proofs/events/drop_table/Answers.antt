@@ -11,6 +11,7 @@ use Rattle.store_step.specs.Arms.{Answers}
 use Rattle.store_step.specs.Texts.{Says}
 use Rattle.store_step.proofs.Answered.{event_answers, unmade}
 use Rattle.store_step.proofs.Doing.{disk_short, disk_unblamed, dropped_event, stands_at}
+use Rattle.store_step.proofs.Named.{disk_named}
 use Rattle.store_step.proofs.events.drop_table.Goals as goal
 
 pub drop_table-requires : goal.drop_table-requires
@@ -28,3 +29,6 @@ returns-clause-answers g c = λ files state here accepted.
     (event_answers g.D.Disk Memory store_fault c.args.store.now c.drop_table.new.self c.drop_table.result c.printed.result state files s (codes "DROP TABLE\n") (IsDrawn state made) here says
     (dropped_event state files c.args.name.now accepted here.sound (c.tables_may_be_dropped.ensures state c.args.name.now accepted here.sound) c.an_event_may_draw.ensures)
     disk_short (disk_unblamed c.drop_table.result) c.drop_table.ensures.same (c.drop_table.ensures.does state here accepted))
+
+pub returns-clause-named : goal.returns-clause-named
+returns-clause-named g c = disk_named g.D.Disk c.drop_table.new.self c.drop_table.new.disk c.printed.result c.drop_table.result c.on_disk.result c.on_disk.ensures

@@ -18,6 +18,7 @@ use Rattle.store_step.specs.Texts.{Says}
 use Rattle.store_step.proofs.Answered.{event_answers, unmade}
 use Rattle.store_step.proofs.Copied.{copy_says, loaded_event, made_text, named}
 use Rattle.store_step.proofs.Doing.{store_short, store_unblamed}
+use Rattle.store_step.proofs.Named.{store_named}
 use Rattle.store_step.proofs.loading.commit_rows.Goals as goal
 
 pub returns-in-Err-clause-answers : goal.returns-in-Err-clause-answers
@@ -44,3 +45,6 @@ returns-clause-answers g c = λ files file bytes e state here loadable loads acc
     (event_answers g.D.Disk Memory (λ fault. fault) r c.load.new.self c.load.result c.printed.result state files s (copy_text (rows_pending table rows state) (length rows)) (λ new. new ≡ rows_loaded table rows state) here
     (copy_says g.D.Disk r c.args.disk.now state c.printed.result table rows c.closes-commits.result here commits told) (loaded_event state files table file bytes e rows loadable loads accepted here.sound loaded)
     store_short (store_unblamed c.load.result unblamed) c.load.ensures.same (c.load.ensures.does state e.1 here there fit loadable.free))
+
+pub returns-clause-named : goal.returns-clause-named
+returns-clause-named g c = store_named g.D.Disk c.load.new.self c.load.new.disk c.printed.result c.load.result c.in_store.result c.in_store.ensures c.load.ensures.named

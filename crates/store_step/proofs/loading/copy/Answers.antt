@@ -13,6 +13,7 @@ use Rattle.store_step.specs.Steps.{Steps}
 use Rattle.store_step.proofs.Answered.{memory_answers}
 use Rattle.store_step.proofs.Served.{unplanned_holds}
 use Rattle.store_step.proofs.Stepped.{steps_of}
+use Rattle.store_step.proofs.Named.{memory_text_named}
 use Rattle.store_step.proofs.loading.copy.Goals as goal
 
 pub returns-in-Ok-clause-steps : goal.returns-in-Ok-clause-steps
@@ -30,3 +31,6 @@ returns-in-Err-clause-steps g c = λ text there state spelled told here.
     (steps_of g.D.Disk there text s r c.in_memory.result state spelled
     (memory_answers g.D.Disk there s s r c.args.disk.now c.unplanned.result c.in_memory.result state refl c.in_memory.ensures here.sound.database (c.every_image_reopens.ensures r.seen.catalogue r.seen.stores c.args.disk.now state.database here.database)
     (unplanned_holds g.D.Disk there s r c.args.disk.now c.in-Err.fault c.unplanned.result state early c.unplanned.ensures (λ why is. c.early_refusals_stand.ensures.refused state there s why is) here)))
+
+pub returns-in-Err-clause-named : goal.returns-in-Err-clause-named
+returns-in-Err-clause-named g c = memory_text_named g.D.Disk c.args.store.now c.args.disk.now c.unplanned.result c.in_memory.result c.of_text.result c.of_text.ensures c.in_memory.ensures

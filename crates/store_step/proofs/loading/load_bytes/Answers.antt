@@ -9,6 +9,7 @@ use Rattle.db_model.specs.Loading.{Load}
 use Rattle.store_core.specs.Running.{frame_of}
 use Rattle.store_step.proofs.Answered.{memory_answers, refused_holds, unmade}
 use Rattle.store_step.proofs.Copied.{columns_in, decided_load, is_within, rows_in}
+use Rattle.store_step.proofs.Named.{memory_named}
 use Rattle.store_step.proofs.loading.load_bytes.Goals as goal
 
 pub columns_of-requires : goal.columns_of-requires
@@ -55,3 +56,6 @@ returns-in-Err-Bad-clause-answers g c = λ files file state here free held small
 pub returns-clause-answers : goal.returns-clause-answers
 returns-clause-answers g c = λ files file state here free held small.
     unmade g.D.Disk files _ c.args.store.now c.args.disk.now state here (c.every_image_reopens.ensures c.args.store.now.seen.catalogue c.args.store.now.seen.stores c.args.disk.now state.database here.database)
+
+pub returns-in-Err-Bad-clause-named : goal.returns-in-Err-Bad-clause-named
+returns-in-Err-Bad-clause-named g c = memory_named g.D.Disk c.args.store.now c.args.disk.now c.refused.result c.in_memory.result c.in_memory.ensures

@@ -11,6 +11,7 @@ use Rattle.store_step.specs.declared.answer.StepFault.{StepFault}
 use Rattle.store_step.specs.Steps.{Steps}
 use Rattle.store_step.proofs.Copied.{all_there, decided_absent, decided_large, failed_steps, found_by, is_found, is_large, is_small, more_there, nothing_there, refused_steps}
 use Rattle.store_step.proofs.Stepped.{steps_of, unread_steps}
+use Rattle.store_step.proofs.Named.{memory_text_named, text_named}
 use Rattle.store_step.proofs.loading.load_file.Goals as goal
 
 pub returns-in-Ok-Whole-clause-steps : goal.returns-in-Ok-Whole-clause-steps
@@ -59,3 +60,12 @@ returns-in-Err-Failed-clause-steps g c = λ text there state spelled told here.
 pub returns-in-Err-Memory-clause-steps : goal.returns-in-Err-Memory-clause-steps
 returns-in-Err-Memory-clause-steps g c = λ text there state spelled told here.
     unread_steps g.D.Disk there text c.args.store.now c.args.disk.now state here (c.every_image_reopens.ensures c.args.store.now.seen.catalogue c.args.store.now.seen.stores c.args.disk.now state.database here.database)
+
+pub returns-in-Ok-Whole-clause-named : goal.returns-in-Ok-Whole-clause-named
+returns-in-Ok-Whole-clause-named g c = text_named g.D.Disk c.load_bytes.new.store c.load_bytes.new.disk c.load_bytes.result c.of_text.result c.of_text.ensures c.load_bytes.ensures.named
+
+pub returns-in-Ok-Absent-clause-named : goal.returns-in-Ok-Absent-clause-named
+returns-in-Ok-Absent-clause-named g c = memory_text_named g.D.Disk c.args.store.now c.args.disk.now c.refused.result c.in_memory.result c.of_text-in-Ok-Absent.result c.of_text-in-Ok-Absent.ensures c.in_memory.ensures
+
+pub returns-in-Ok-TooLong-clause-named : goal.returns-in-Ok-TooLong-clause-named
+returns-in-Ok-TooLong-clause-named g c = memory_text_named g.D.Disk c.args.store.now c.args.disk.now c.refused-in-Ok-TooLong.result c.in_memory-in-Ok-TooLong.result c.of_text-in-Ok-TooLong.result c.of_text-in-Ok-TooLong.ensures c.in_memory-in-Ok-TooLong.ensures

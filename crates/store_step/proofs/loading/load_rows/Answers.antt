@@ -4,6 +4,7 @@ use Rattle.sql_tree.specs.declared.statement.Statement.{Statement}
 use Rattle.db_model.specs.Loading.{Load}
 use Rattle.store_step.proofs.Answered.{memory_answers, refused_holds}
 use Rattle.store_step.proofs.Copied.{decided_load, load_told}
+use Rattle.store_step.proofs.Named.{memory_named}
 use Rattle.store_step.proofs.loading.load_rows.Goals as goal
 
 pub returns-in-Some-clause-answers : goal.returns-in-Some-clause-answers
@@ -23,3 +24,6 @@ returns-in-None-clause-answers g c = λ files file bytes e state here loadable l
     let rows = c.args.rows.items in
     let told = load_told g.D.Disk r c.args.disk.now state table rows c.as_slice.result.now c.frame.result c.load_refusal.result c.frame.ensures c.as_slice.ensures.value here c.load_refusal.ensures (c.frames_are_of_the_state.ensures.load c.args.disk.now r state table (Load.Rows rows) here) in
     c.commit_rows.ensures.answers files file bytes e state here loadable loads (sym told ∙ c.in-None.is)
+
+pub returns-in-Some-clause-named : goal.returns-in-Some-clause-named
+returns-in-Some-clause-named g c = memory_named g.D.Disk c.args.store.now c.args.disk.now c.refused.result c.in_memory.result c.in_memory.ensures

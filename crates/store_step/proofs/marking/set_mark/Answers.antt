@@ -14,6 +14,7 @@ use Rattle.store_step.specs.Texts.{Says}
 use Rattle.store_step.proofs.Answered.{event_answers, unmade}
 use Rattle.store_step.proofs.Doing.{disk_short, disk_unblamed}
 use Rattle.store_step.proofs.Marked.{mark_within, marked_event}
+use Rattle.store_step.proofs.Named.{disk_named}
 use Rattle.store_step.proofs.marking.set_mark.Goals as goal
 
 pub returns-in-Err-clause-answers : goal.returns-in-Err-clause-answers
@@ -34,3 +35,6 @@ returns-clause-answers g c = λ files state f here is free.
     (event_answers g.D.Disk Memory store_fault c.args.store.now c.set_mark.new.self c.set_mark.result c.printed.result state files s (counted_line (codes "AHM ") epoch) (MarkLeaves (rises epoch state.database) epoch state) here says
     (marked_event state files f epoch is_epoch free here.sound (c.marks_up_to_the_last_good_epoch_are_sound.ensures state epoch epoch_within here.sound) c.an_event_may_draw.ensures)
     disk_short (disk_unblamed c.set_mark.result) c.set_mark.ensures.same (c.set_mark.ensures.does state here epoch_within))
+
+pub returns-clause-named : goal.returns-clause-named
+returns-clause-named g c = disk_named g.D.Disk c.set_mark.new.self c.set_mark.new.disk c.printed.result c.set_mark.result c.on_disk.result c.on_disk.ensures

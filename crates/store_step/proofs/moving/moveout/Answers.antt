@@ -6,6 +6,7 @@ use Rattle.store_step.specs.Arms.{Answers}
 use Rattle.store_step.specs.Texts.{Says}
 use Rattle.store_step.proofs.Answered.{unmade}
 use Rattle.store_step.proofs.Moved.{moveout, moveout_answers}
+use Rattle.store_step.proofs.Named.{jobs_named}
 use Rattle.store_step.proofs.moving.moveout.Goals as goal
 
 pub returns-in-Err-clause-answers : goal.returns-in-Err-clause-answers
@@ -19,3 +20,6 @@ returns-clause-answers g c = λ files state here.
     let says : Says (codes "MOVEOUT\n") c.printed.result = search rules in
     subst (λ (r : Result Answer StoreFault). Answers g.D.Disk files moveout c.move_all.new.self c.args.disk.now c.move_all.new.disk r state) (sym c.in_moveout.ensures)
     (moveout_answers g.D.Disk files c.move_all.new.self c.printed.result c.in-Ok-refused.stopped c.move_all.result state says c.in-Ok-refused.ensures (c.move_all.ensures.moves state here))
+
+pub returns-clause-named : goal.returns-clause-named
+returns-clause-named g c = jobs_named g.D.Disk c.move_all.new.self c.move_all.new.disk c.printed.result c.in-Ok-refused.stopped c.move_all.result c.in_moveout.result c.in_moveout.ensures c.move_all.ensures.named

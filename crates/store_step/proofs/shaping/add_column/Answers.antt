@@ -13,6 +13,7 @@ use Rattle.store_step.specs.Arms.{Answers}
 use Rattle.store_step.specs.Texts.{Says}
 use Rattle.store_step.proofs.Answered.{event_answers, unmade}
 use Rattle.store_step.proofs.Doing.{added_event, disk_short, disk_unblamed, stands_at}
+use Rattle.store_step.proofs.Named.{disk_named}
 use Rattle.store_step.proofs.shaping.add_column.Goals as goal
 
 pub add_column-requires : goal.add_column-requires
@@ -34,3 +35,6 @@ returns-clause-answers g c = λ files state here.
     (event_answers g.D.Disk Memory store_fault c.args.store.now c.add_column.new.self c.add_column.result c.printed.result state files s (codes "ALTER TABLE\n") (IsDrawn state made) here says
     (added_event state files a planned.accepted here.sound (c.a_new_column_is_sound.ensures state a planned.accepted here.sound) c.an_event_may_draw.ensures)
     disk_short (disk_unblamed c.add_column.result) c.add_column.ensures.same (c.add_column.ensures.does state a here planned.accepted planned.of.0 refl (sym planned.of.1)))
+
+pub returns-clause-named : goal.returns-clause-named
+returns-clause-named g c = disk_named g.D.Disk c.add_column.new.self c.add_column.new.disk c.printed.result c.add_column.result c.on_disk.result c.on_disk.ensures

@@ -12,6 +12,7 @@ use Rattle.store_step.specs.Arms.{Answers}
 use Rattle.store_step.specs.Texts.{Says}
 use Rattle.store_step.proofs.Answered.{event_answers, unmade}
 use Rattle.store_step.proofs.Doing.{disk_short, disk_unblamed, projected_event}
+use Rattle.store_step.proofs.Named.{disk_named}
 use Rattle.store_step.proofs.shaping.create_projection.Goals as goal
 
 pub create_projection-requires-clause-table : goal.create_projection-requires-clause-table
@@ -34,3 +35,6 @@ returns-clause-answers g c = λ files state here.
     (event_answers g.D.Disk Memory store_fault c.args.store.now c.create_projection.new.self c.create_projection.result c.printed.result state files s (codes "CREATE PROJECTION\n") (IsDrawn state made) here says
     (projected_event state files p planned.accepted here.sound (c.a_new_projection_is_sound.ensures state p planned.accepted here.sound) c.an_event_may_draw.ensures)
     disk_short (disk_unblamed c.create_projection.result) c.create_projection.ensures.same (c.create_projection.ensures.does state p here planned.accepted refl planned.of))
+
+pub returns-clause-named : goal.returns-clause-named
+returns-clause-named g c = disk_named g.D.Disk c.create_projection.new.self c.create_projection.new.disk c.printed.result c.create_projection.result c.on_disk.result c.on_disk.ensures

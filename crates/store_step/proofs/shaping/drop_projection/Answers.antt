@@ -12,6 +12,7 @@ use Rattle.store_step.specs.Arms.{Answers}
 use Rattle.store_step.specs.Texts.{Says}
 use Rattle.store_step.proofs.Answered.{event_answers, unmade}
 use Rattle.store_step.proofs.Doing.{disk_short, disk_unblamed, bared_event}
+use Rattle.store_step.proofs.Named.{disk_named}
 use Rattle.store_step.proofs.shaping.drop_projection.Goals as goal
 
 pub drop_projection-requires : goal.drop_projection-requires
@@ -31,3 +32,6 @@ returns-clause-answers g c = λ files state here.
     (event_answers g.D.Disk Memory store_fault c.args.store.now c.drop_projection.new.self c.drop_projection.result c.printed.result state files s (codes "DROP PROJECTION\n") (IsDrawn state made) here says
     (bared_event state files name planned.accepted here.sound (c.projections_may_be_dropped.ensures state name planned.accepted here.sound) c.an_event_may_draw.ensures)
     disk_short (disk_unblamed c.drop_projection.result) c.drop_projection.ensures.same (c.drop_projection.ensures.does state here planned.accepted planned.of))
+
+pub returns-clause-named : goal.returns-clause-named
+returns-clause-named g c = disk_named g.D.Disk c.drop_projection.new.self c.drop_projection.new.disk c.printed.result c.drop_projection.result c.on_disk.result c.on_disk.ensures

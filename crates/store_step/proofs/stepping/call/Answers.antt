@@ -4,6 +4,7 @@ use Rattle.sql_tree.specs.declared.statement.Function.{Function}
 use Rattle.sql_tree.specs.declared.statement.Statement.{Statement}
 use Rattle.statement_plan.specs.Planned.{early_call_refusal}
 use Rattle.store_step.proofs.Answered.{memory_answers, same_answers}
+use Rattle.store_step.proofs.Named.{memory_named}
 use Rattle.store_step.proofs.stepping.call.Goals as goal
 
 pub returns-in-Lge-clause-answers : goal.returns-in-Lge-clause-answers
@@ -52,3 +53,15 @@ pub returns-in-StartRefresh-clause-answers : goal.returns-in-StartRefresh-clause
 returns-in-StartRefresh-clause-answers g c = λ files state here free.
     let is : Statement.Call c.args.function.now ≡ Statement.Call Function.StartRefresh = search rules in
     memory_answers g.D.Disk files _ (Statement.Call Function.StartRefresh) c.start_refresh.new.store c.args.disk.now c.start_refresh.result c.in_memory-in-StartRefresh.result state is c.in_memory-in-StartRefresh.ensures here.sound.database (c.every_image_reopens.ensures c.args.store.now.seen.catalogue c.args.store.now.seen.stores c.args.disk.now state.database here.database) (c.start_refresh.ensures files c.args.disk.now state here)
+
+pub returns-in-Lge-clause-named : goal.returns-in-Lge-clause-named
+returns-in-Lge-clause-named g c = memory_named g.D.Disk c.args.store.now c.args.disk.now c.last_good_epoch.result c.in_memory.result c.in_memory.ensures
+
+pub returns-in-Ahm-clause-named : goal.returns-in-Ahm-clause-named
+returns-in-Ahm-clause-named g c = memory_named g.D.Disk c.args.store.now c.args.disk.now c.ahm_epoch.result c.in_memory-in-Ahm.result c.in_memory-in-Ahm.ensures
+
+pub returns-in-Current-clause-named : goal.returns-in-Current-clause-named
+returns-in-Current-clause-named g c = memory_named g.D.Disk c.args.store.now c.args.disk.now c.current_epoch.result c.in_memory-in-Current.result c.in_memory-in-Current.ensures
+
+pub returns-in-StartRefresh-clause-named : goal.returns-in-StartRefresh-clause-named
+returns-in-StartRefresh-clause-named g c = memory_named g.D.Disk c.start_refresh.new.store c.args.disk.now c.start_refresh.result c.in_memory-in-StartRefresh.result c.in_memory-in-StartRefresh.ensures

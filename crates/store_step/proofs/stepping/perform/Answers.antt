@@ -5,6 +5,7 @@ use Rattle.db_model.specs.Refusals.{table_dropped_refusal}
 use Rattle.statement_plan.specs.Planned.{IsPlanned}
 use Rattle.statement_plan.specs.declared.plans.Plan.{Plan}
 use Rattle.store_step.proofs.Answered.{memory_answers, same_answers}
+use Rattle.store_step.proofs.Named.{memory_named}
 use Rattle.store_step.proofs.stepping.perform.Goals as goal
 
 pub returns-in-CreateTable-default-clause-answers : goal.returns-in-CreateTable-default-clause-answers
@@ -124,3 +125,15 @@ returns-in-Step-default-clause-answers g c = λ files state here.
     let all = c.frames_are_of_the_state.ensures.plan c.args.disk.now c.args.store.now state c.args.statement c.args.plan here c.requires.planned in
     let planned : IsPlanned state s c.args.plan = rw c.in-Step-default.is-0 at all in
     same_answers g.D.Disk files c.args.statement s c.step_mover.new.store c.step_mover.result state is (c.step_mover.ensures.answers files state here)
+
+pub returns-in-Insert-Insert-clause-named : goal.returns-in-Insert-Insert-clause-named
+returns-in-Insert-Insert-clause-named g c = memory_named g.D.Disk c.insert_rows.new.store c.args.disk.now c.insert_rows.result c.in_memory.result c.in_memory.ensures
+
+pub returns-in-Rollback-default-clause-named : goal.returns-in-Rollback-default-clause-named
+returns-in-Rollback-default-clause-named g c = memory_named g.D.Disk c.roll_back.new.store c.args.disk.now c.roll_back.result c.in_memory-in-Rollback-default.result c.in_memory-in-Rollback-default.ensures
+
+pub returns-in-Explain-Explain-clause-named : goal.returns-in-Explain-Explain-clause-named
+returns-in-Explain-Explain-clause-named g c = memory_named g.D.Disk c.args.store.now c.args.disk.now c.explain_query.result c.in_memory-in-Explain-Explain.result c.in_memory-in-Explain-Explain.ensures
+
+pub returns-in-Session-default-clause-named : goal.returns-in-Session-default-clause-named
+returns-in-Session-default-clause-named g c = memory_named g.D.Disk c.use_session.new.store c.args.disk.now c.use_session.result c.in_memory-in-Session-default.result c.in_memory-in-Session-default.ensures

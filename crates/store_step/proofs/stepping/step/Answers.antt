@@ -11,6 +11,7 @@ use Rattle.store_step.specs.Arms.{of_text}
 use Rattle.store_step.specs.Steps.{Steps}
 use Rattle.store_step.specs.Texts.{IsReading}
 use Rattle.store_step.proofs.Stepped.{unread_steps, wrong_steps}
+use Rattle.store_step.proofs.Named.{memory_text_named}
 use Rattle.store_step.proofs.stepping.step.Goals as goal
 
 pub returns-in-Ok-Says-clause-steps : goal.returns-in-Ok-Says-clause-steps
@@ -26,3 +27,6 @@ returns-in-Ok-Wrong-clause-steps g c = λ there state told here.
 
 pub returns-in-Err-clause-steps : goal.returns-in-Err-clause-steps
 returns-in-Err-clause-steps g c = λ there state told here. unread_steps g.D.Disk there c.args.text.now c.args.store.now c.args.disk.now state here (c.every_image_reopens.ensures c.args.store.now.seen.catalogue c.args.store.now.seen.stores c.args.disk.now state.database here.database)
+
+pub returns-in-Ok-Wrong-clause-named : goal.returns-in-Ok-Wrong-clause-named
+returns-in-Ok-Wrong-clause-named g c = memory_text_named g.D.Disk c.args.store.now c.args.disk.now c.refused.result c.in_memory.result c.of_text.result c.of_text.ensures c.in_memory.ensures
