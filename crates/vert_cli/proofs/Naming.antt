@@ -1,15 +1,19 @@
--- Which file a run names that ends with status 6.
-use Rattle.std.proofs.Common.{ℕ, ◌≡◌, inl, Bool, true, false, List, refl, ap, subst}
+-- Which file a run names that ends with status 6, and a call of a session.
+use Rattle.std.proofs.Common.{ℕ, ◌≡◌, inl, Bool, true, false, List, refl, sym, ap, subst}
 use Rattle.std.specs.Prelude.{Option, Result, Ok, Err}
 use Rattle.col_disk.specs.declared.disk.Disk.{Ghosts}
 use Rattle.col_disk.specs.declared.disk.StoreFault.{StoreFault}
+use Rattle.store_step.specs.Faults.{NamesStepped}
+use Rattle.store_step.specs.Named.{NamesHeld}
 use Rattle.store_step.specs.Opening.{BlamesOpening, IsLeftAlone, WhereBlamed}
+use Rattle.store_step.specs.Running.{Running}
+use Rattle.store_step.specs.declared.answer.StepFault.{StepFault}
 use Rattle.vert_cli.specs.declared.faults.RunFault.{RunFault}
 use Rattle.vert_cli.specs.declared.faults.Status.{Status}
 use Rattle.vert_cli.specs.Audits.{IsAuditStatus}
-use Rattle.vert_cli.specs.Blamed.{NamesFile}
+use Rattle.vert_cli.specs.Blamed.{NamesFile, NamesInRun}
 use Rattle.vert_cli.specs.Statuses.{status_of_end}
-use Rattle.vert_cli.specs.Statements.{fault_of}
+use Rattle.vert_cli.specs.Statements.{fault_of, fault_of_step}
 
 abbrev stopped_by : RunFault → Result Bool RunFault
 stopped_by fault = Err fault
@@ -46,3 +50,25 @@ audit_unnamed Status.NoScript is q same = absurd is
 audit_unnamed (Status.Damaged name) is q same = absurd is
 audit_unnamed Status.ReadFault is q same = absurd is
 audit_unnamed Status.TooLarge is q same = absurd is
+
+-- ---- behind a call of a session
+
+stepped_in_run : {D : Type 0} (disk : Ghosts D) (is : Running) (now : D) (fault : StepFault) → NamesStepped disk is now fault → NamesInRun disk is now (fault_of_step fault)
+stepped_in_run disk is now StepFault.Read named = tt
+stepped_in_run disk is now StepFault.Disk named = tt
+stepped_in_run disk is now (StepFault.Damaged q) named = named
+stepped_in_run disk is now StepFault.Memory named = tt
+
+held_in_run : {D : Type 0} (disk : Ghosts D) (is : Running) (now : D) (fault : StoreFault) → NamesHeld disk is now fault → NamesInRun disk is now (fault_of fault)
+held_in_run disk is now StoreFault.Disk named = tt
+held_in_run disk is now (StoreFault.Damaged q) named = named
+held_in_run disk is now StoreFault.Memory named = tt
+
+-- what the session keeps in mind of a fault changes neither it nor the store
+pub step_named : {D : Type 0} (disk : Ghosts D) (was is : Running) (now : D) (fault : StepFault) (told : RunFault) → told ≡ fault_of_step fault → is ≡ was → NamesStepped disk was now fault → NamesInRun disk is now told
+step_named disk was is now fault told same kept named =
+    subst (λ (f : RunFault). NamesInRun disk is now f) (sym same) (subst (λ (r : Running). NamesInRun disk r now (fault_of_step fault)) (sym kept) (stepped_in_run disk was now fault named))
+
+pub move_named : {D : Type 0} (disk : Ghosts D) (was is : Running) (now : D) (fault : StoreFault) (told : RunFault) → told ≡ fault_of fault → is ≡ was → NamesHeld disk was now fault → NamesInRun disk is now told
+move_named disk was is now fault told same kept named =
+    subst (λ (f : RunFault). NamesInRun disk is now f) (sym same) (subst (λ (r : Running). NamesInRun disk r now (fault_of fault)) (sym kept) (held_in_run disk was now fault named))

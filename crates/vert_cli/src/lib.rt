@@ -10,7 +10,7 @@
 //! `specs/Statements.antt`), of the mover's steps (`MovedOn`) and of the end, and says which answer halts it (`halts_by` of
 //! `specs/Sessions.antt`). What the words ask for is `wanted` of `run_words`. Where they ask for an audit, `run` judges the folder in place of
 //! running a script, and prints the verdict (`AuditEnds` of `specs/Audits.antt`). Which file status 6 names is said over any contents (`NamesFile` of
-//! `specs/Blamed.antt`).
+//! `specs/Blamed.antt`), and which one a call of a `Session` (`NamesInRun`).
 #![tactic(auto)]
 
 mod auditing;

@@ -10,10 +10,12 @@ ghost use Rattle.db_model.specs.Database.{Database as Logical};
 ghost use Rattle.db_model.specs.Loading.{Files as LoadFiles};
 ghost use Rattle.db_model.specs.State.{State, opened_with};
 ghost use Rattle.folder_model.specs.Reopening.{Reopens};
+ghost use Rattle.store_step.specs.Named.{NamesHeld};
 ghost use Rattle.store_step.specs.Opening.{BlamesOpening, IsLeftAlone, IsOpening, IsStartOf, IsStill, WhereBlamed};
 ghost use Rattle.store_step.specs.Running.{Running, IsState};
 ghost use Rattle.store_step.specs.Steps.{Ends};
 ghost use Rattle.vert_cli.specs.declared.faults.RunFault.TheVariants.{Sink as sink_failed, Disk as stopped, Read as read_failed, Halted as halted};
+ghost use Rattle.vert_cli.specs.Blamed.{NamesInRun};
 ghost use Rattle.vert_cli.specs.Sessions.{halts_by, is_of_disk};
 ghost use Rattle.vert_cli.specs.Statements.{Executed, MovedOn, in_run};
 
@@ -77,7 +79,8 @@ impl Session {
     /// The whole printed text is made first and written afterwards. After `Ok` the sink took exactly the text, and the refusal in the
     /// outcome is the statement's. After `Sink` the statement has taken effect, and a front of its text was taken; the sink's count of
     /// faults rose. After `Memory` nothing was taken and nothing changed, but that the mover's job may be dropped and for jobs of the statement that were done; or the sink was short of memory,
-    /// and the statement has taken effect. After `Read` the statement is a COPY, nothing was taken and nothing changed. Whatever a crash leaves
+    /// and the statement has taken effect. After `Read` the statement is a COPY, nothing was taken and nothing changed. `Damaged` names a file of
+    /// a projection of the session, which is bad in what the disk holds then; over a state none is named. Whatever a crash leaves
     /// at any moment reopens to the tables before or after the statement. `Disk`, and no other answer, halts the session: from then on
     /// `Halted` is answered and nothing is called.
     pub fn execute<F: Files, S: Sink, D: Disk>(
@@ -90,6 +93,7 @@ impl Session {
     ) -> Result<Outcome, RunFault>
         ensures executed { (there : LoadFiles) (state : State) → F.content files.old ≡ Some there → self.old.halted ≡ false → IsState ⟦<D as Disk>⟧ self.old.running disk.old state
             → Executed ⟦<D as Disk>⟧ there text.now self.new.running disk.old disk.new result state (S.taken out.old) (S.taken out.new) }
+        ensures named { IfErr result (NamesInRun ⟦<D as Disk>⟧ self.new.running disk.new) }
         ensures flag { self.new.halted ≡ (self.old.halted || halts_by result) }
         ensures live { IfOk result (λ outcome. self.new.halted ≡ false) }
         ensures content { F.content files.new ≡ F.content files.old }
@@ -124,6 +128,7 @@ impl Session {
         disk: &mut D,
     ) -> Result<(), RunFault>
         ensures moved { (state : State) → self.old.halted ≡ false → IsState ⟦<D as Disk>⟧ self.old.running disk.old state → MovedOn ⟦<D as Disk>⟧ steps self.new.running disk.old disk.new result state }
+        ensures named { IfErr result (NamesInRun ⟦<D as Disk>⟧ self.new.running disk.new) }
         ensures flag { self.new.halted ≡ (self.old.halted || halts_by result) }
         ensures live { OnOk result (self.new.halted ≡ false) }
         ensures no_sink { IsErrOf result sink_failed → ⊥ }
@@ -146,6 +151,7 @@ impl Session {
     /// moment reopens to the same tables.
     pub fn close<D: Disk>(self, alloc: Global, disk: &mut D) -> Result<(), StoreFault>
         ensures ends { (state : State) → IsState ⟦<D as Disk>⟧ self.running disk.old state → (is : Running) × Ends ⟦<D as Disk>⟧ is disk.old disk.new result state }
+        ensures named { IfErr result (NamesHeld ⟦<D as Disk>⟧ self.running disk.new) }
         ensures cause { HasCause disk_failed (D.faults disk.old) (D.faults disk.new) result }
     {
         let Session { mut store, .. } = self;
@@ -161,6 +167,7 @@ fn move_steps<D: Disk>(
     disk: &mut D,
 ) -> Result<(), StoreFault>
     ensures moved { (state : State) → IsState ⟦<D as Disk>⟧ store.old disk.old state → MovedOn ⟦<D as Disk>⟧ steps store.new disk.old disk.new (in_run result) state }
+    ensures named { IfErr result (NamesHeld ⟦<D as Disk>⟧ store.new disk.new) }
     ensures cause { HasCause disk_failed (D.faults disk.old) (D.faults disk.new) result }
 {
     for _ in 0..steps {

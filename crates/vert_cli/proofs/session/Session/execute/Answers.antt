@@ -1,5 +1,6 @@
 use Rattle.std.proofs.Common.{◌∙◌}
 use Rattle.vert_cli.proofs.Executing.{seen_state, not_answered_at, written_at, sink_failed_at, sink_short_at}
+use Rattle.vert_cli.proofs.Naming.{step_named}
 use Rattle.vert_cli.proofs.session.Session.execute.Goals as goal
 
 pub returns-in-Err-clause-executed : goal.returns-in-Err-clause-executed
@@ -25,3 +26,7 @@ returns-clause-executed g c = λ there state content live here.
     sink_short_at g.D.Disk there c.args.text.now c.as_slice.result.now c.step.new.store c.args.disk.now c.step.new.disk c.in-Ok.answer state (g.S.Sink.taken c.args.out.now) (g.S.Sink.taken c.write_all.new.out)
     c.as_slice.ensures.value
     (c.in-Ok.ensures.steps there state content (seen_state g.D.Disk c.self.inside.store c.self.inside.halted c.args.self.now c.args.disk.now state c.self.view_is here)) c.in-Err-Memory.ensures.front
+
+pub returns-in-Err-clause-named : goal.returns-in-Err-clause-named
+returns-in-Err-clause-named g c =
+    step_named g.D.Disk c.step.new.store c.note.new.self.running c.step.new.disk c.in-Err.fault c.note.result (c.note.ensures.same ∙ c.fault_of_step.ensures) c.note.ensures.running c.in-Err.ensures.named
