@@ -28,3 +28,4 @@ pub mod Found
 pub mod Stepping
 pub mod LeastNames
 pub mod Named
+pub mod Purged

@@ -16,6 +16,8 @@ use Rattle.db_model.specs.Numbers.{IsDrawn}
 use Rattle.db_model.specs.State.{State}
 use Rattle.sound_laws.specs.Moves.{reached_at}
 use Rattle.table_jobs.specs.Jobs.{IsRiseAt}
+use Rattle.table_jobs.specs.Purged.{IsKeptWholeAt}
+use Rattle.table_store.specs.Moving.{IsFreshAt}
 use Rattle.store_core.specs.Cuts.{ReopensFrom}
 use Rattle.store_core.specs.Running.{Running, IsState}
 
@@ -62,3 +64,7 @@ RaisesAllOf disk meant is old new result state = JobsOf disk (RaisesOne meant) (
 abbrev pub RefreshesAllOf : {D : Type 0} → Ghosts D → List ℕ → Running → D → D → Result Bool StoreFault → State → Type 0
 RefreshesAllOf disk table is old new result state =
     JobsOf disk (RefreshesOne table) (RefreshesAll table state) (λ x. (after : State) × AreDone (RefreshesOne table) state after × ReopensFrom (last_good state.database) after x) is old new result state
+
+-- no up-to-date projection of the table at a place has a row that was deleted at or before the ancient history mark
+abbrev pub ArePurged : ℕ → Running → Type 0
+ArePurged i r = (j : ℕ) → IsFreshAt r.seen.stores i j → IsKeptWholeAt r.seen.catalogue.ahm i j r.seen.stores

@@ -57,6 +57,7 @@ pub fn purge<D: Disk>(
     ensures drawn { OnOk result (OfProjection table place store.old.catalogue (DrawsAnew table place 1 store.old.catalogue store.new.catalogue)) }
     ensures whole { OnOk result ((d : Database) → Stands ⟦<D as Disk>⟧ store.old disk.old d → IsKeptWholeAt store.new.catalogue.ahm table place store.new.stores) }
     ensures others { OnOk result (OthersStay table place store.old.stores store.new.stores) }
+    ensures mark { OnOk result (store.new.catalogue.ahm ≡ store.old.catalogue.ahm) }
     ensures unblamed { IfErr result (λ fault. (d : Database) → Stands ⟦<D as Disk>⟧ store.old disk.old d → IsUnblamed fault) }
     ensures blamed { IfErr result (λ fault. OfProjection table place store.old.catalogue (BlamesPurge (D.holds disk.old) fault)) }
     ensures named { IfErr result (λ fault. (m : Contents) → D.holds disk.new ≡ Some m → BlamesHeld store.old.stores (Some m) fault) }

@@ -1,7 +1,6 @@
 //! The jobs of MERGEOUT, PURGE_TABLE and REFRESH.
 
-ghost use Rattle.std.specs.Prelude.{◌≡◌, ◌≤◌, ℕ, true, false, filter, length, List, MatchOption, IfErr, IfOk, IfSome, OnOk, OnErr, IsSomeAnd};
-ghost use Rattle.std.specs.Bool.{OnTrue};
+ghost use Rattle.std.specs.Prelude.{◌≡◌, ◌≤◌, ◌↔◌, ℕ, IsTrue, IsFalse, true, false, filter, length, List, MatchOption, IfErr, IfOk, IfSome, OnOk, OnErr, IsSomeAnd};
 ghost use Rattle.std.specs.List.{slice_get, All};
 ghost use Rattle.common_laws.specs.Causes.{HasCause};
 ghost use Rattle.col_disk.specs.Faults.{IsUnblamed as IsUnblamedStore};
@@ -13,8 +12,10 @@ ghost use Rattle.mover_policy.specs.Merging.{IsNext};
 ghost use Rattle.table_jobs.specs.Blamed.{BlamesMerge, BlamesPurge};
 ghost use Rattle.table_jobs.specs.Jobs.{DrawsAnew, DrawsMerged, OfProjection};
 ghost use Rattle.table_jobs.specs.Oldest.{HasFour};
+ghost use Rattle.table_jobs.specs.Purged.{IsKeptWholeAt, OthersStay};
+ghost use Rattle.table_store.specs.Held.{projections_of};
 ghost use Rattle.table_store.specs.Moving.{IsFreshAt};
-ghost use Rattle.store_core.specs.Jobs.{is_of, stale_place, RaisesAllOf, RefreshesAllOf, RefreshesAt, RisesAt};
+ghost use Rattle.store_core.specs.Jobs.{ArePurged, is_of, stale_place, RaisesAllOf, RefreshesAllOf, RefreshesAt, RisesAt};
 ghost use Rattle.store_core.specs.Events.{Does};
 ghost use Rattle.store_core.specs.Named.{NamesHeld};
 ghost use Rattle.store_core.specs.Running.{IsState};
@@ -25,6 +26,7 @@ use catalog_types::Table;
 use col_disk::{Disk, StoreFault};
 use col_value::Name;
 use mover_policy::{Merge, Place, next_merge, next_stale, projection_at};
+use proj_store::ProjStore;
 use state_laws::{refreshed_states_are_sound, risen_states_are_sound};
 use std::alloc::{AllocError, Global};
 use table_jobs::{has_gone, merge, purge, refresh};
@@ -39,6 +41,16 @@ fn stale_in(tables: &[Table], table: usize) -> Option<usize>
     match tables.get(table) {
         Some(t) => next_stale(t.projections.as_slice()),
         None => None,
+    }
+}
+
+/// Whether the projection at a place is up to date.
+fn is_fresh_in(projections: &[ProjStore], place: usize) -> bool
+    ensures { IsTrue result ↔ IsSomeAnd (slice_get (projections_of projections.now) place) (λ p. p.entry.fresh ≡ true) }
+{
+    match projections.get(place) {
+        Some(p) => p.entry().fresh,
+        None => false,
     }
 }
 
@@ -59,14 +71,29 @@ impl Store {
         next_merge(self.tables.root().tables.as_slice())
     }
 
-    /// Whether the projection at a place is up to date and has rows that a purge takes away.
-    fn is_purged(&self, table: usize, place: usize) -> bool
-        ensures { OnTrue result (IsFreshAt self.now.seen.stores table place) }
+    /// Whether the projection at a place is up to date.
+    fn is_fresh(&self, table: usize, place: usize) -> bool
+        ensures { IsTrue result ↔ IsFreshAt self.now.seen.stores table place }
     {
-        match projection_at(self.tables.root().tables.as_slice(), Place { table, place }) {
-            Some(p) => p.fresh && has_gone(&self.tables, table, place),
+        match self.tables.tables().get(table) {
+            Some(projections) => is_fresh_in(projections.as_slice(), place),
             None => false,
         }
+    }
+
+    /// Whether the projection at a place is up to date and has rows that a purge takes away.
+    fn is_purged(&self, table: usize, place: usize) -> bool
+        ensures fresh { IsTrue result → IsFreshAt self.now.seen.stores table place }
+        ensures whole { IsFalse result → IsFreshAt self.now.seen.stores table place → IsKeptWholeAt self.now.seen.catalogue.ahm table place self.now.seen.stores }
+    {
+        self.is_fresh(table, place) && has_gone(&self.tables, table, place)
+    }
+
+    /// No table has a projection at place 16 or behind it.
+    fn none_beyond(&self)
+        ensures { (i j : ℕ) → 16 ≤ j → IsFreshAt self.now.seen.stores i j → ⊥ }
+    {
+        let _root = self.tables.root();
     }
 
     /// The place of the first projection of a table that isn't up to date; it has no containers.
@@ -120,6 +147,9 @@ impl Store {
         ensures unblamed { IfErr result (λ fault. (state : State) → IsState ⟦<D as Disk>⟧ self.old disk.old state → IsUnblamedStore fault) }
         ensures blamed { IfErr result (λ fault. OfProjection table place self.old.seen.catalogue (BlamesPurge (D.holds disk.old) fault)) }
         ensures named { IfErr result (NamesHeld ⟦<D as Disk>⟧ self.new disk.new) }
+        ensures whole { OnOk result ((state : State) → IsState ⟦<D as Disk>⟧ self.old disk.old state → IsKeptWholeAt self.new.seen.catalogue.ahm table place self.new.seen.stores) }
+        ensures others { OnOk result (OthersStay table place self.old.seen.stores self.new.seen.stores) }
+        ensures mark { OnOk result (self.new.seen.catalogue.ahm ≡ self.old.seen.catalogue.ahm) }
         ensures same { OnErr result (self.new ≡ self.old) }
         ensures cause { HasCause StoreFault.Disk (D.faults disk.old) (D.faults disk.new) result }
     {
@@ -194,7 +224,8 @@ impl Store {
     }
 
     /// PURGE_TABLE of the table at a place, which has this name: each of its up-to-date projections that has rows deleted up to the ancient
-    /// history mark is written without these.
+    /// history mark is written without these, up to one that would draw where the numbers of files are spent. Answers whether it stopped there; where
+    /// it didn't, none has such a row.
     pub fn purge<D: Disk>(
         &mut self,
         alloc: Global,
@@ -203,6 +234,7 @@ impl Store {
     ) -> Result<bool, StoreFault>
         ensures jobs { (state : State) (name : List ℕ) → IsState ⟦<D as Disk>⟧ self.old disk.old state → IsSomeAnd (slice_get self.old.seen.catalogue.tables table) (λ t. t.name ≡ name)
             → RaisesAllOf ⟦<D as Disk>⟧ (is_of name state) self.new disk.old disk.new result state }
+        ensures left { IfOk result (λ stopped. stopped ≡ false → (state : State) (name : List ℕ) → IsState ⟦<D as Disk>⟧ self.old disk.old state → IsSomeAnd (slice_get self.old.seen.catalogue.tables table) (λ t. t.name ≡ name) → ArePurged table self.new) }
         ensures named { IfErr result (NamesHeld ⟦<D as Disk>⟧ self.new disk.new) }
         ensures cause { HasCause StoreFault.Disk (D.faults disk.old) (D.faults disk.new) result }
     {
@@ -219,6 +251,7 @@ impl Store {
                 Err(fault) => return Err(fault),
             }
         }
+        self.none_beyond();
         Ok(false)
     }
 

@@ -184,3 +184,6 @@ returns-clause-whole g c =
 
 pub returns-clause-others : goal.returns-clause-others
 returns-clause-others g c = on_ok c.install.result _ _ (λ puts. (puts.store, puts.stores)) c.install.ensures.puts
+
+pub returns-clause-mark : goal.returns-clause-mark
+returns-clause-mark g c = on_ok c.install.result _ _ (λ same. ap (λ (k : Catalogue). k.ahm) same) c.install.ensures.catalogue

@@ -1,10 +1,11 @@
-use Rattle.std.proofs.Common.{sym, subst, arith}
+use Rattle.std.proofs.Common.{◌≡◌, sym, subst, arith}
 use Rattle.std.specs.Prelude.{IfErr, OnOk}
-use Rattle.std.proofs.lemmas.Result.{IfErr-weaker}
+use Rattle.std.proofs.lemmas.Result.{IfErr-weaker, on_ok_weaker}
 use Rattle.col_disk.specs.declared.disk.StoreFault.TheVariants.{Memory}
 use Rattle.store_commit.specs.Seen.{Stands}
 use Rattle.table_jobs.specs.Blamed.{BlamesPurge}
 use Rattle.table_jobs.specs.Jobs.{DrawsAnew, OfProjection}
+use Rattle.table_jobs.specs.Purged.{OthersStay}
 use Rattle.store_core.specs.Running.{Running, running}
 use Rattle.store_core.proofs.Raising.{rise_does}
 use Rattle.store_core.proofs.Named.{still_named}
@@ -36,3 +37,14 @@ returns-clause-blamed g c =
 pub returns-clause-named : goal.returns-clause-named
 returns-clause-named g c =
     still_named g.D.Disk c.self.inside.tables (running c.purge.new.store c.self.inside.txns c.self.inside.current c.self.inside.mover) c.purge.new.disk c.purge.result c.purge.ensures.named c.purge.ensures.same
+
+pub returns-clause-whole : goal.returns-clause-whole
+returns-clause-whole g c =
+    on_ok_weaker c.purge.result (λ whole state here. whole state.database (subst (λ (r : Running). Stands g.D.Disk r.seen c.args.disk.now state.database) (sym c.self.view_is) here.database)) c.purge.ensures.whole
+
+pub returns-clause-others : goal.returns-clause-others
+returns-clause-others g c =
+    subst (λ (r : Running). OnOk c.purge.result (OthersStay c.args.table c.args.place r.seen.stores c.purge.new.store.stores)) c.self.view_is c.purge.ensures.others
+
+pub returns-clause-mark : goal.returns-clause-mark
+returns-clause-mark g c = subst (λ (r : Running). OnOk c.purge.result (c.purge.new.store.catalogue.ahm ≡ r.seen.catalogue.ahm)) c.self.view_is c.purge.ensures.mark
