@@ -1,6 +1,6 @@
 -- The steps of the mover over a running store.
 use Rattle.std.proofs.Common.{◌≡◌, ◌≤◌, ◌<◌, ◌+◌, ◌-◌, ◌++◌, ℕ, inl, inr, Bool, true, false, cond, List, [], ◌∷◌, length, map, filter, refl, sym, ◌∙◌, ap, ap₂, subst, arith}
-use Rattle.std.specs.Prelude.{◌==◌, ◌||◌, nat_lt, not, bytes_eq, Contains, Option, Some, None, Result, Ok, Err, IfErr, OnErr, IsErrOf, IsSomeAnd, option_and_then}
+use Rattle.std.specs.Prelude.{◌==◌, ◌||◌, nat_lt, not, bytes_eq, Contains, Option, Some, None, Result, Ok, Err, IfErr, OnErr, OnOk, IsErrOf, IsSomeAnd, option_and_then}
 use Rattle.std.specs.List.{list_any, slice_get}
 use Rattle.std.proofs.lemmas.Bool.Decides.{Decides-eqb, nat_tests}
 use Rattle.std.proofs.lemmas.List.{map-append}
@@ -20,7 +20,7 @@ use Rattle.catalog_types.specs.Parts.{IsProjection, IsTable}
 use Rattle.catalog_types.specs.Valid.{IsValid}
 use Rattle.db_model.specs.Database.{Shape, Table}
 use Rattle.db_model.specs.Epochs.{all_shapes}
-use Rattle.db_model.specs.Events.{is_of_table, refresh_started, stale_names}
+use Rattle.db_model.specs.Events.{is_not_named, is_of_table, refresh_started, stale_names}
 use Rattle.db_model.specs.Views.{table_found}
 use Rattle.db_model.specs.Mover.{first_behind, given_up, refreshed, GoesOn, Installs, MovesFirst, MovesOrBegins, MoverSteps, StepsOn, StepsUnless}
 use Rattle.db_model.specs.Numbers.{are_spent, IsDrawn}
@@ -35,15 +35,15 @@ use Rattle.state_laws.proofs.Reached.{busy_state}
 use Rattle.store_commit.specs.Making.{ReopensToEither, Makes}
 use Rattle.store_commit.specs.Seen.{Seen}
 use Rattle.stored_rows.specs.Stored.{Projected}
-use Rattle.table_jobs.specs.Jobs.{OfProjection}
+use Rattle.table_jobs.specs.Jobs.{DrawsAnew, HasReached, OfProjection}
 use Rattle.table_store.proofs.Drawn.{columns_most}
 use Rattle.table_store.proofs.Standing.{reads_only}
 use Rattle.store_core.specs.Events.{BeforeOrAfter, Does, MovesFirstOf}
 use Rattle.store_core.specs.Jobs.{RefreshesAt, RisesAt}
 use Rattle.store_core.specs.Running.{job_dropped, mover_of, running, IsState, Mover, Running}
 use Rattle.store_core.specs.Waiting.{has_name}
-use Rattle.store_core.specs.Stepping.{all_stale, stale_in, with_asked, with_mover, Begins, BeginsAt, FinishesJob, InstallsJob, IsStaleNamed, MoverStepsOf}
-use Rattle.store_core.proofs.Anew.{all_at, some_and}
+use Rattle.store_core.specs.Stepping.{all_stale, stale_in, with_asked, with_mover, Begins, BeginsAt, FinishesJob, InstallsJob, IsStaleNamed, MoverStepsOf, RefreshesNamed}
+use Rattle.store_core.proofs.Anew.{all_at, of_projection, same_projection, some_and}
 use Rattle.store_core.proofs.Raising.{does_wider, risen_rises}
 use Rattle.store_core.proofs.Purging.{found_also, named_there, shapes_of}
 use Rattle.store_core.proofs.Refreshing.{drawn_at, stale_shape, table_at}
@@ -164,6 +164,27 @@ pub refresh_is_due : {D : Type 0} (disk : Ghosts D) {old new : D} (was is : Runn
     → Does disk fault.Memory was is old new result state (RefreshesAt i j state) → Does disk fault.Memory was is old new result state (InstallsJob state)
 refresh_is_due disk {old} was is i j name result state here waits stale does =
     does_wider disk fault.Memory was is result state (RefreshesAt i j state) (InstallsJob state) (λ after refreshes. refresh_installs disk was old i j name state after here waits stale refreshes) does
+
+-- the projection of a name, and what waits then
+asked_named : (i j : ℕ) (c : Catalogue) (name : List ℕ) (old new : List (List ℕ)) → OfProjection i j c (IsStaleNamed name) → OfProjection i j c (λ p. new ≡ filter (is_not_named p.name) old) → new ≡ filter (is_not_named name) old
+asked_named i j c name old new stale asked =
+    let (t, p, at, (off, named)) = of_projection i j c (IsStaleNamed name) stale in
+    let (u, q, there, is) = of_projection i j c (λ x. new ≡ filter (is_not_named x.name) old) asked in
+    let same : q ≡ p = same_projection i j c u t q p there at in
+    is ∙ ap (λ (n : List ℕ). filter (is_not_named n) old) (ap (λ (x : Projection). x.name) same ∙ named)
+
+pub refreshes_named : (was is : Running) (name : List ℕ) (at : Place) (result : Result (Unit {0}) StoreFault) → Contains was.mover.asked name → OfProjection at.table at.place was.seen.catalogue (IsStaleNamed name)
+    → OnOk result (OfProjection at.table at.place was.seen.catalogue (DrawsAnew at.table at.place 2 was.seen.catalogue is.seen.catalogue)) → OnOk result (OfProjection at.table at.place is.seen.catalogue (HasReached is.seen.catalogue.last))
+    → OnOk result (OfProjection at.table at.place was.seen.catalogue (λ p. is.mover.asked ≡ filter (is_not_named p.name) was.mover.asked)) → OnOk result (RefreshesNamed name was is)
+refreshes_named was is name at (Ok u) waits stale draws reached asked = inl (record {
+  at = at;
+  waits = waits;
+  stale = stale;
+  draws = draws;
+  reached = reached;
+  asked = asked_named at.table at.place was.seen.catalogue name was.mover.asked is.mover.asked stale asked;
+})
+refreshes_named was is name at (Err f) waits stale draws reached asked = tt
 
 -- and then the job is over
 over : (state after : State) → InstallsJob state after → FinishesJob state (given_up after)

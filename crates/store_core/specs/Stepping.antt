@@ -11,6 +11,7 @@ use Rattle.col_disk.specs.declared.disk.StoreFault.TheVariants.{Memory}
 use Rattle.catalog_types.specs.declared.catalogue.Catalogue.{Catalogue}
 use Rattle.catalog_types.specs.declared.catalogue.Projection.{Projection}
 use Rattle.catalog_types.specs.declared.catalogue.Table as kept
+use Rattle.db_model.specs.Events.{is_not_named}
 use Rattle.db_model.specs.Mover.{given_up, Installs, MoverSteps}
 use Rattle.db_model.specs.Numbers.{IsDrawn}
 use Rattle.db_model.specs.State.{State}
@@ -18,9 +19,9 @@ use Rattle.mover_policy.specs.First.{all_projections, behind_in, first_in, proje
 use Rattle.mover_policy.specs.Merging.{IsDue, IsNext}
 use Rattle.mover_policy.specs.declared.first.Place.{Place}
 use Rattle.mover_policy.specs.declared.merging.Merge.{Merge}
-use Rattle.table_jobs.specs.Jobs.{DrawsMerged, OfProjection}
+use Rattle.table_jobs.specs.Jobs.{DrawsAnew, DrawsMerged, HasReached, OfProjection}
 use Rattle.store_core.specs.Events.{BeforeOrAfter}
-use Rattle.store_core.specs.Running.{mover_of, IsState, Mover, Running}
+use Rattle.store_core.specs.Running.{job_dropped, mover_of, IsState, Mover, Running}
 
 -- the names of those projections that aren't up to date
 abbrev pub stale_in : List Projection → List (List ℕ)
@@ -89,6 +90,32 @@ BeginsNext old new =
 abbrev pub MergesNext : Catalogue → Catalogue → Type 0
 MergesNext old new =
     ((m : Merge) × IsNext old.tables m × OfProjection m.at.table m.at.place old (DrawsMerged m.at.table m.at.place old new)) ⊎ (NoneIsDue old.tables × (new ≡ old))
+
+-- A projection of a name that waits is refreshed: of all entries its alone is another one, which is up to date and on disk up to the newest epoch.
+-- It waits no more.
+pub record IsRefreshed (name : List ℕ) (old new : Running) : Type 0 where
+  pub at : Place
+  pub waits : Contains old.mover.asked name
+  pub stale : OfProjection at.table at.place old.seen.catalogue (IsStaleNamed name)
+  pub draws : OfProjection at.table at.place old.seen.catalogue (DrawsAnew at.table at.place 2 old.seen.catalogue new.seen.catalogue)
+  pub reached : OfProjection at.table at.place new.seen.catalogue (HasReached new.seen.catalogue.last)
+  pub asked : new.mover.asked ≡ filter (is_not_named name) old.mover.asked
+
+-- every projection of a name is up to date
+abbrev pub NoneIsStale : List ℕ → List kept.Table → Type 0
+NoneIsStale name tables = All (λ t. All (λ p. IsStaleNamed name p → ⊥) t.projections) tables
+
+-- no projection of a name waits, or each of that name is up to date
+abbrev pub WaitsNot : List ℕ → Running → Type 0
+WaitsNot name r = All (λ n. n ≡ name → ⊥) r.mover.asked ⊎ NoneIsStale name r.seen.catalogue.tables
+
+-- the projection of a name is refreshed, if it waits, and else nothing is done
+abbrev pub RefreshesNamed : List ℕ → Running → Running → Type 0
+RefreshesNamed name old new = IsRefreshed name old new ⊎ (WaitsNot name old × (new ≡ old))
+
+-- and then the job is over
+abbrev pub FinishesRefresh : List ℕ → Running → Running → Type 0
+FinishesRefresh name old new = (made : Running) × RefreshesNamed name old made × (new ≡ with_mover (job_dropped made.mover) made)
 
 -- some projection is behind
 abbrev pub is_behind : Running → Bool

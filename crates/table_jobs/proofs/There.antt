@@ -11,10 +11,13 @@ use Rattle.catalog_types.specs.declared.catalogue.Table as kept
 use Rattle.stored_rows.specs.Stored.{Projected}
 use Rattle.proj_store.specs.Loaded.{Loaded}
 use Rattle.moveout_job.specs.OnDisk.{IsListedBelow}
+use Rattle.sound_laws.specs.Moves.{change_at}
 use Rattle.store_commit.specs.Seen.{Seen}
 use Rattle.table_store.specs.Held.{projections_of}
+use Rattle.table_store.specs.Installing.{IsRenewal}
+use Rattle.table_store.specs.Moving.{with_entry, with_entry_at}
 use Rattle.table_store.proofs.Moved.{is_at, stored_at}
-use Rattle.table_jobs.specs.Jobs.{OfProjection}
+use Rattle.table_jobs.specs.Jobs.{HasReached, OfProjection}
 use Rattle.table_jobs.proofs.Holding.{IsOwnAt}
 use Rattle.table_jobs.proofs.Raising.{IsRooted}
 use Rattle.table_jobs.proofs.Rooted.{IsEntryOf, of_own, own_below, own_valid}
@@ -127,3 +130,22 @@ source was root i j k ts ps qs p rooted are stale ps_is same p_is fresh =
     let below : k < length qs = some_below qs k (λ q. q.stored.entry.fresh ≡ true) fresh in
     let own : IsOwnAt was.stores i k p.stored = here_at ts was.stores i k qs p are lt (taken_there ts i ps qs ps_is same) below p_is in
     record { there = own; fresh = at_place qs k p (λ q. q.stored.entry.fresh ≡ true) p_is fresh; below = own_below root p.stored.entry (own_valid was root i k p.stored rooted own) }
+
+-- ---- the entry that it gets
+
+put_in : (ps : List Projection) (j : ℕ) (entry : Projection) (Q P : Projection → Type 0) → IsSomeAnd (slice_get ps j) Q → P entry → IsSomeAnd (slice_get (change_at j (λ p. entry) ps) j) P
+put_in [] j entry Q P there is = absurd there
+put_in (p ∷ ps) zero entry Q P there is = is
+put_in (p ∷ ps) (suc j) entry Q P there is = put_in ps j entry Q P there is
+
+put_at : (ts : List kept.Table) (i j : ℕ) (entry : Projection) (Q P : Projection → Type 0) → IsSomeAnd (slice_get ts i) (λ t. IsSomeAnd (slice_get t.projections j) Q) → P entry
+    → IsSomeAnd (slice_get (change_at i (with_entry j entry) ts) i) (λ t. IsSomeAnd (slice_get t.projections j) P)
+put_at [] i j entry Q P there is = absurd there
+put_at (t ∷ ts) zero j entry Q P there is = put_in t.projections j entry Q P there is
+put_at (t ∷ ts) (suc i) j entry Q P there is = put_at ts i j entry Q P there is
+
+pub has_reached : (was is : Seen) (i j next : ℕ) (old entry : Projection) → OfProjection i j was.catalogue (λ p. p.fresh ≡ false) → IsRenewal old entry → entry.lge ≡ was.catalogue.last → is.catalogue ≡ with_entry_at was.catalogue.last next i j entry was.catalogue
+    → OfProjection i j is.catalogue (HasReached is.catalogue.last)
+has_reached was is i j next old entry stale renewal last same =
+    subst (λ (c : Catalogue). OfProjection i j c (HasReached c.last)) (sym same)
+    (put_at was.catalogue.tables i j entry (λ p. p.fresh ≡ false) (HasReached was.catalogue.last) stale (ap (λ (p : Projection). p.fresh) renewal, last))

@@ -36,6 +36,10 @@ pub record DrawsMerged (i j : ℕ) (old new : Catalogue) (p : Projection) : Type
   pub draws : DrawsAnew i j 0 old new p
   pub less : length draws.entry.containers + 2 ≤ length p.containers
 
+-- a projection is up to date, and on disk up to an epoch
+abbrev pub HasReached : ℕ → Projection → Type 0
+HasReached epoch p = (p.fresh ≡ true) × (p.lge ≡ epoch)
+
 -- what is so of the projection at a place of the table at a place
 abbrev pub OfProjection : ℕ → ℕ → Catalogue → (Projection → Type 0) → Type 0
 OfProjection i j c P = IsSomeAnd (slice_get c.tables i) (λ t. IsSomeAnd (slice_get t.projections j) P)

@@ -19,7 +19,7 @@ ghost use Rattle.store_commit.specs.Making.{Makes};
 ghost use Rattle.store_commit.specs.Seen.{Stands};
 ghost use Rattle.table_store.specs.Faults.{BlamesEntry, BlamesHeld, IsReadable};
 ghost use Rattle.table_store.specs.Installing.{IsRenewal};
-ghost use Rattle.table_jobs.specs.Jobs.{DrawsAnew, OfProjection};
+ghost use Rattle.table_jobs.specs.Jobs.{DrawsAnew, HasReached, OfProjection};
 ghost use Rattle.table_jobs.specs.Sources.{ordinals_of, ArePlaces, IsMadeOf, IsPlaceOf};
 
 use catalog_types::{ProjColumn, Projection};
@@ -190,6 +190,7 @@ pub fn refresh<D: Disk>(
     requires stale { OfProjection table place store.old.catalogue (λ p. p.fresh ≡ false) }
     ensures made { (d : Database) → Stands ⟦<D as Disk>⟧ store.old disk.old d → Makes ⟦<D as Disk>⟧ no_memory store.old store.new disk.old disk.new result d (reached_at d.last table place d) }
     ensures drawn { OnOk result (OfProjection table place store.old.catalogue (DrawsAnew table place 2 store.old.catalogue store.new.catalogue)) }
+    ensures reached { OnOk result (OfProjection table place store.new.catalogue (HasReached store.new.catalogue.last)) }
     ensures unblamed { IfErr result (λ fault. (d : Database) → Stands ⟦<D as Disk>⟧ store.old disk.old d → IsUnblamed fault) }
     ensures named { IfErr result (λ fault. (m : Contents) → D.holds disk.new ≡ Some m → BlamesHeld store.old.stores (Some m) fault) }
     ensures same { OnErr result (store.new ≡ store.old) }

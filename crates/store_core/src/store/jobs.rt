@@ -10,7 +10,7 @@ ghost use Rattle.db_model.specs.State.{State};
 ghost use Rattle.mover_policy.specs.First.{all_projections};
 ghost use Rattle.mover_policy.specs.Merging.{IsNext};
 ghost use Rattle.table_jobs.specs.Blamed.{BlamesMerge, BlamesPurge};
-ghost use Rattle.table_jobs.specs.Jobs.{DrawsAnew, DrawsMerged, OfProjection};
+ghost use Rattle.table_jobs.specs.Jobs.{DrawsAnew, DrawsMerged, HasReached, OfProjection};
 ghost use Rattle.table_jobs.specs.Oldest.{HasFour};
 ghost use Rattle.table_jobs.specs.Purged.{IsKeptWholeAt, OthersStay};
 ghost use Rattle.table_store.specs.Held.{projections_of};
@@ -168,6 +168,8 @@ impl Store {
         requires { OfProjection table place self.old.seen.catalogue (λ p. p.fresh ≡ false) }
         ensures does { (state : State) → IsState ⟦<D as Disk>⟧ self.old disk.old state → Does ⟦<D as Disk>⟧ no_memory self.old self.new disk.old disk.new result state (RefreshesAt table place state) }
         ensures drawn { OnOk result (OfProjection table place self.old.seen.catalogue (DrawsAnew table place 2 self.old.seen.catalogue self.new.seen.catalogue)) }
+        ensures reached { OnOk result (OfProjection table place self.new.seen.catalogue (HasReached self.new.seen.catalogue.last)) }
+        ensures asked { OnOk result (OfProjection table place self.old.seen.catalogue (λ p. self.new.mover.asked ≡ filter (is_not_named p.name) self.old.mover.asked)) }
         ensures unblamed { IfErr result (λ fault. (state : State) → IsState ⟦<D as Disk>⟧ self.old disk.old state → IsUnblamedStore fault) }
         ensures named { IfErr result (NamesHeld ⟦<D as Disk>⟧ self.new disk.new) }
         ensures same { OnErr result (self.new ≡ self.old) }

@@ -1,7 +1,7 @@
 //! The steps of the mover.
 
-ghost use Rattle.std.specs.Prelude.{◌≡◌, ◌≤◌, ◌<◌, ◌+◌, ◌++◌, ◌∷◌, ◌⊎◌, ℕ, List, [], false, get_or, length, nat_le, None, Contains, MatchOption, IfErr, IfOk, IfSome, OnErr, OnOk, IsSomeAnd};
-ghost use Rattle.std.specs.Bool.{OnTrue};
+ghost use Rattle.std.specs.Prelude.{◌≡◌, ◌≤◌, ◌<◌, ◌+◌, ◌++◌, ◌∷◌, ◌⊎◌, ℕ, List, [], false, get_or, length, nat_le, None, Some, Contains, MatchOption, IfErr, IfNone, IfOk, IfSome, OnErr, OnOk, IsSomeAnd};
+ghost use Rattle.std.specs.Bool.{OnFalse, OnTrue};
 ghost use Rattle.std.specs.List.{All, slice_get};
 ghost use Rattle.common_laws.specs.Causes.{HasCause};
 ghost use Rattle.col_disk.specs.Faults.{IsUnblamed as IsUnblamedStore};
@@ -12,7 +12,7 @@ ghost use Rattle.store_core.specs.Events.{Does};
 ghost use Rattle.store_core.specs.Named.{NamesHeld};
 ghost use Rattle.store_core.specs.Running.{IsState};
 ghost use Rattle.mover_policy.specs.First.{projection_at};
-ghost use Rattle.store_core.specs.Stepping.{all_stale, is_behind, is_less, stale_in, with_asked, Begins, BeginsAt, BeginsNext, BeginsRefresh, FinishesJob, InstallsJob, IsLeastOf, IsStaleNamed, MergesNext, MoverStepsOf};
+ghost use Rattle.store_core.specs.Stepping.{all_stale, is_behind, is_less, stale_in, with_asked, Begins, BeginsAt, BeginsNext, BeginsRefresh, FinishesJob, FinishesRefresh, InstallsJob, IsLeastOf, IsStaleNamed, MergesNext, MoverStepsOf, NoneIsStale, RefreshesNamed, WaitsNot};
 ghost use Rattle.table_jobs.specs.Jobs.{OfProjection};
 
 use super::Store;
@@ -86,7 +86,8 @@ fn least(names: &[Name]) -> Option<usize>
 
 /// Whether a name is among some.
 fn is_among(names: &[Name], name: &Name) -> bool
-    ensures { OnTrue result (Contains names.now name.now) }
+    ensures yes { OnTrue result (Contains names.now name.now) }
+    ensures no { OnFalse result (All (λ n. n ≡ name.now → ⊥) names.now) }
 {
     for place in 0..names.len() {
         if names[place] == *name {
@@ -98,14 +99,16 @@ fn is_among(names: &[Name], name: &Name) -> bool
 
 /// Whether a projection isn't up to date and has this name.
 fn is_stale_named(projection: &Projection, name: &Name) -> bool
-    ensures { OnTrue result (IsStaleNamed name.now projection.now) }
+    ensures yes { OnTrue result (IsStaleNamed name.now projection.now) }
+    ensures no { OnFalse result (IsStaleNamed name.now projection.now → ⊥) }
 {
     !projection.fresh && projection.name == *name
 }
 
 /// The place of a projection of this name among some, which isn't up to date.
 fn stale_named(projections: &[Projection], name: &Name) -> Option<usize>
-    ensures { IfSome result (λ j. IsSomeAnd (slice_get projections.now j) (IsStaleNamed name.now)) }
+    ensures some { IfSome result (λ j. IsSomeAnd (slice_get projections.now j) (IsStaleNamed name.now)) }
+    ensures none { IfNone result (All (λ p. IsStaleNamed name.now p → ⊥) projections.now) }
 {
     for place in 0..projections.len() {
         if is_stale_named(&projections[place], name) {
@@ -117,7 +120,8 @@ fn stale_named(projections: &[Projection], name: &Name) -> Option<usize>
 
 /// The same among those of some tables.
 fn stale_place(tables: &[Table], name: &Name) -> Option<Place>
-    ensures { IfSome result (λ at. IsSomeAnd (slice_get tables.now at.table) (λ t. IsSomeAnd (slice_get t.projections at.place) (IsStaleNamed name.now))) }
+    ensures some { IfSome result (λ at. IsSomeAnd (slice_get tables.now at.table) (λ t. IsSomeAnd (slice_get t.projections at.place) (IsStaleNamed name.now))) }
+    ensures none { IfNone result (NoneIsStale name.now tables.now) }
 {
     for table in 0..tables.len() {
         match stale_named(tables[table].projections.as_slice(), name) {
@@ -213,6 +217,7 @@ impl Store {
     fn refreshed_place(&self, name: &Name) -> Option<Place>
         ensures waits { IfSome result (λ at. Contains self.now.mover.asked name.now) }
         ensures stale { IfSome result (λ at. OfProjection at.table at.place self.now.seen.catalogue (IsStaleNamed name.now)) }
+        ensures none { IfNone result (WaitsNot name.now self.now) }
     {
         if !is_among(self.mover.asked(), name) {
             return None;
@@ -227,6 +232,7 @@ impl Store {
         name: &Name,
         disk: &mut D,
     ) -> Result<(), StoreFault>
+        ensures refreshes { OnOk result (RefreshesNamed name.now self.old self.new) }
         ensures does { (state : State) → IsState ⟦<D as Disk>⟧ self.old disk.old state → Does ⟦<D as Disk>⟧ no_memory self.old self.new disk.old disk.new result state (InstallsJob state) }
         ensures unblamed { IfErr result (λ fault. (state : State) → IsState ⟦<D as Disk>⟧ self.old disk.old state → IsUnblamedStore fault) }
         ensures named { IfErr result (NamesHeld ⟦<D as Disk>⟧ self.new disk.new) }
@@ -252,6 +258,7 @@ impl Store {
     /// What the job in flight is for: what it makes is there after a stop once this has answered Ok.
     fn install<D: Disk>(&mut self, alloc: Global, disk: &mut D) -> Result<(), StoreFault>
         ensures merges { OnOk result (self.old.mover.refreshing ≡ None → MergesNext self.old.seen.catalogue self.new.seen.catalogue) }
+        ensures refreshes { OnOk result ((name : List ℕ) → self.old.mover.refreshing ≡ Some name → RefreshesNamed name self.old self.new) }
         ensures does { (state : State) → IsState ⟦<D as Disk>⟧ self.old disk.old state → Does ⟦<D as Disk>⟧ no_memory self.old self.new disk.old disk.new result state (InstallsJob state) }
         ensures unblamed { IfErr result (λ fault. (state : State) → IsState ⟦<D as Disk>⟧ self.old disk.old state → IsUnblamedStore fault) }
         ensures named { IfErr result (NamesHeld ⟦<D as Disk>⟧ self.new disk.new) }
@@ -268,6 +275,7 @@ impl Store {
     /// The last step of the job in flight.
     fn finish<D: Disk>(&mut self, alloc: Global, disk: &mut D) -> Result<(), StoreFault>
         ensures merges { OnOk result (self.old.mover.refreshing ≡ None → MergesNext self.old.seen.catalogue self.new.seen.catalogue) }
+        ensures refreshes { OnOk result ((name : List ℕ) → self.old.mover.refreshing ≡ Some name → FinishesRefresh name self.old self.new) }
         ensures does { (state : State) → IsState ⟦<D as Disk>⟧ self.old disk.old state → Does ⟦<D as Disk>⟧ no_memory self.old self.new disk.old disk.new result state (FinishesJob state) }
         ensures unblamed { IfErr result (λ fault. (state : State) → IsState ⟦<D as Disk>⟧ self.old disk.old state → IsUnblamedStore fault) }
         ensures named { IfErr result (NamesHeld ⟦<D as Disk>⟧ self.new disk.new) }
@@ -287,6 +295,7 @@ impl Store {
     pub fn step_mover<D: Disk>(&mut self, alloc: Global, disk: &mut D) -> Result<(), StoreFault>
         ensures begins { OnOk result (nat_le 1152921504606846976 self.old.seen.catalogue.next ≡ false → self.old.mover.busy ≡ 0 → is_behind self.old ≡ false → BeginsNext self.old self.new) }
         ensures merges { OnOk result (nat_le 1152921504606846976 self.old.seen.catalogue.next ≡ false → self.old.mover.busy ≡ 1 → self.old.mover.refreshing ≡ None → MergesNext self.old.seen.catalogue self.new.seen.catalogue) }
+        ensures refreshes { OnOk result (nat_le 1152921504606846976 self.old.seen.catalogue.next ≡ false → self.old.mover.busy ≡ 1 → (name : List ℕ) → self.old.mover.refreshing ≡ Some name → FinishesRefresh name self.old self.new) }
         ensures steps { (state : State) → IsState ⟦<D as Disk>⟧ self.old disk.old state → MoverStepsOf ⟦<D as Disk>⟧ self.new disk.old disk.new result state }
         ensures named { IfErr result (NamesHeld ⟦<D as Disk>⟧ self.new disk.new) }
         ensures cause { HasCause StoreFault.Disk (D.faults disk.old) (D.faults disk.new) result }

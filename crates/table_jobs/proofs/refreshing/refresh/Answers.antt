@@ -3,6 +3,7 @@ use Rattle.col_disk.specs.declared.disk.StoreFault.TheVariants as fault
 use Rattle.col_disk.specs.Faults.{IsUnblamed}
 use Rattle.col_value.specs.declared.row.Stamped.{Stamped}
 use Rattle.std.specs.Prelude.{List, Some}
+use Rattle.std.proofs.lemmas.Result.{on_ok_weaker}
 use Rattle.common_laws.specs.Maps.{Contents}
 use Rattle.catalog_types.specs.declared.catalogue.Projection.{Projection}
 use Rattle.db_model.specs.Database.{Database}
@@ -18,7 +19,7 @@ use Rattle.table_jobs.proofs.Named.{made_named}
 use Rattle.table_jobs.proofs.Raising.{IsRooted}
 use Rattle.table_jobs.proofs.Remade.{nothing_made, of_fault, remade_holds, remake_fails, remake_unblamed, remakes}
 use Rattle.table_jobs.proofs.Rooted.{own_narrow, own_renewal}
-use Rattle.table_jobs.proofs.There.{IsSource, IsTarget, parts_there, source, stale_bare, target}
+use Rattle.table_jobs.proofs.There.{IsSource, IsTarget, has_reached, parts_there, source, stale_bare, target}
 use Rattle.table_jobs.proofs.refreshing.refresh.Goals as goal
 
 pub bounds-parts-place : goal.bounds-parts-place
@@ -88,6 +89,12 @@ returns-clause-made g c = λ d stands.
     let entry = c.in-Ok.refreshed.entry in
     remakes g.D.Disk c.args.store.now c.install.new.self c.root-root.result.now c.args.table c.args.place c.in-Some.from p entry c.install.result d rooted from.there from.fresh from.below (c.in-Ok.ensures.reached ∙ c.last-last.ensures)
     c.refresh_from.ensures.moved c.in-Ok.ensures.made c.install.ensures.made stands
+
+pub returns-clause-reached : goal.returns-clause-reached
+returns-clause-reached g c =
+    on_ok_weaker c.install.result (λ same.
+    has_reached c.args.store.now c.install.new.self c.args.table c.args.place c.in-Ok.refreshed.next c.entry-shape.result.now c.in-Ok.refreshed.entry c.requires.stale c.in-Ok.ensures.entry (c.in-Ok.ensures.reached ∙ c.last-last.ensures) same)
+    c.install.ensures.catalogue
 
 pub returns-clause-unblamed : goal.returns-clause-unblamed
 returns-clause-unblamed g c =

@@ -48,6 +48,11 @@ returns-clause-drawn g c =
     let j = c.args.place in
     subst (λ (r : Running). OfProjection i j r.seen.catalogue (DrawsAnew i j 2 r.seen.catalogue c.refresh.new.store.catalogue)) c.self.view_is c.in-Ok-refresh.ensures.drawn
 
+pub returns-clause-asked : goal.returns-clause-asked
+returns-clause-asked g c =
+    of_weaker c.args.table c.args.place c.args.self.now.seen.catalogue (λ p. c.in-Ok.asked.items ≡ filter (is_not_named p.name) c.args.self.now.mover.asked) (λ p. c.ask.new.self.asked ≡ filter (is_not_named p.name) c.args.self.now.mover.asked)
+    (λ p is. ap (λ (m : Mover). m.asked) c.ask.ensures ∙ is) c.in-Ok.ensures
+
 pub returns-in-Err-refresh-clause-unblamed : goal.returns-in-Err-refresh-clause-unblamed
 returns-in-Err-refresh-clause-unblamed g c = λ state here.
     c.in-Err-refresh.ensures.unblamed state.database (subst (λ (r : Running). Stands g.D.Disk r.seen c.args.disk.now state.database) (sym c.self.view_is) here.database)
