@@ -22,30 +22,25 @@ use proj_store::ProjStore;
 use row_bounds::Bound;
 use std::alloc::{AllocError, Global};
 
-/// The row of a batch at a place; room is made for so many values.
-fn row_at(alloc: Global, batch: &Batch, place: usize, width: usize) -> Result<Row, AllocError>
+/// The row of a batch at a place.
+fn row_at(alloc: Global, batch: &Batch, place: usize) -> Result<Row, AllocError>
     requires { place < length batch.now.rows }
     ensures row { IfOk result (λ r. IsSomeAnd (slice_get batch.now.rows place) (λ x. r ≡ x)) }
     ensures valid { IfOk result IsRow }
 {
-    let mut row = Vec::with_capacity(alloc, width)?;
+    let mut row = Vec::new(alloc);
     batch.copy_row(alloc, place, &mut row)?;
     Ok(Row::new(row))
 }
 
-/// Appends the rows of a batch, each with room for so many values.
-fn add_batch(
-    alloc: Global,
-    out: &mut Vec<Row>,
-    batch: &Batch,
-    width: usize,
-) -> Result<(), AllocError>
+/// Appends the rows of a batch.
+fn add_batch(alloc: Global, out: &mut Vec<Row>, batch: &Batch) -> Result<(), AllocError>
     requires { All IsRow out.old.items }
     ensures rows { OnOk result (out.new.items ≡ out.old.items ++ batch.now.rows) }
     ensures valid { OnOk result (All IsRow out.new.items) }
 {
     for i in 0..batch.len() {
-        out.push(row_at(alloc, batch, i, width)?)?;
+        out.push(row_at(alloc, batch, i)?)?;
     }
     Ok(())
 }
@@ -69,7 +64,6 @@ pub fn scan_within<D: Disk>(
     ensures moved { Moved ⟦<D as Disk>⟧ NoName NoName disk.old disk.new }
     ensures cause { HasCause StoreFault.Disk (D.faults disk.old) (D.faults disk.new) result }
 {
-    let width = places.len();
     let mut scan = Scan::new(epoch, places, bounds, false);
     let mut out = Vec::new(alloc);
     loop {
@@ -78,7 +72,7 @@ pub fn scan_within<D: Disk>(
             Ok(None) => return Ok(out),
             Err(fault) => return Err(fault),
         };
-        match add_batch(alloc, &mut out, &batch, width) {
+        match add_batch(alloc, &mut out, &batch) {
             Ok(()) => {}
             Err(AllocError) => return Err(StoreFault::Memory),
         }
