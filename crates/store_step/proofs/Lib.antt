@@ -5,6 +5,7 @@ mod Doing
 mod Held
 mod Moved
 mod Worked
+mod Works
 mod Marked
 mod Served
 mod Rows

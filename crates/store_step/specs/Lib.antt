@@ -6,6 +6,7 @@ pub mod Texts
 pub mod Arms
 pub mod Matches
 pub mod Marks
+pub mod Works
 pub use Rattle.store_core.specs.Running
 pub use Rattle.store_core.specs.Events
 pub use Rattle.store_core.specs.Cuts

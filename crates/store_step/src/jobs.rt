@@ -11,6 +11,7 @@ ghost use Rattle.statement_plan.specs.Places.{table_place};
 ghost use Rattle.store_core.specs.Named.{NamesHeld};
 ghost use Rattle.store_core.specs.Running.{frame_of, IsState};
 ghost use Rattle.store_step.specs.Arms.{Answers};
+ghost use Rattle.store_step.specs.Works.{WhereDone, Works};
 
 use crate::answer::Answer;
 use crate::answering::{in_moveout, printed, refused};
@@ -29,6 +30,7 @@ pub fn mergeout<D: Disk>(
 ) -> Result<Answer, StoreFault>
     ensures answers { (files : LoadFiles) (state : State) → IsState ⟦<D as Disk>⟧ store.old disk.old state
         → Answers ⟦<D as Disk>⟧ files (Statement.Call Function.Mergeout) store.new disk.old disk.new result state }
+    ensures works { WhereDone ⟦<D as Disk>⟧ store.old disk.old result (Works (Statement.Call Function.Mergeout) store.old store.new) }
     ensures named { IfErr result (NamesHeld ⟦<D as Disk>⟧ store.new disk.new) }
     ensures cause { HasCause StoreFault.Disk (D.faults disk.old) (D.faults disk.new) result }
 {
@@ -55,6 +57,7 @@ pub fn purge_table<D: Disk>(
     requires { table_place name.now (frame_of store.old).database.tables ≡ Some place }
     ensures answers { (files : LoadFiles) (state : State) → IsState ⟦<D as Disk>⟧ store.old disk.old state → unknown_table_refusal state name.now ≡ None
         → Answers ⟦<D as Disk>⟧ files (Statement.Call (Function.Purge name.now)) store.new disk.old disk.new result state }
+    ensures works { WhereDone ⟦<D as Disk>⟧ store.old disk.old result (Works (Statement.Call (Function.Purge name.now)) store.old store.new) }
     ensures named { IfErr result (NamesHeld ⟦<D as Disk>⟧ store.new disk.new) }
     ensures cause { HasCause StoreFault.Disk (D.faults disk.old) (D.faults disk.new) result }
 {

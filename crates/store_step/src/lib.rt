@@ -4,7 +4,8 @@
 //! `specs/Steps.antt`), `mover_step` makes a step of the mover, and `end` makes the end of a script. Each says what holds where memory was
 //! short, and `step` what holds where a load file couldn't be read; and whatever a crash leaves at any moment of it reopens to the tables
 //! before or after it, cut at one closed epoch that is no earlier than the last good one before it. No file is blamed over a state; over
-//! other contents one is named that is bad then (`NamesStepped`). The forms that are served are those of `is_served`.
+//! other contents one is named that is bad then (`NamesStepped`). What a MERGEOUT and a PURGE_TABLE leave that weren't refused is
+//! `Works` of `specs/Works.antt`. The forms that are served are those of `is_served`.
 #![tactic(auto)]
 
 mod answer;

@@ -16,6 +16,7 @@ ghost use Rattle.store_step.specs.Faults.{NamesStepped};
 ghost use Rattle.store_step.specs.Forms.{is_copy};
 ghost use Rattle.store_step.specs.Steps.{Steps};
 ghost use Rattle.store_step.specs.Texts.{HasRange};
+ghost use Rattle.store_step.specs.Works.{WhereDone, Works, WorksOf};
 
 use crate::answer::{Answer, StepFault};
 use crate::answering::{in_memory, of_text, refused, unplanned};
@@ -35,6 +36,7 @@ use col_disk::{Disk, StoreFault};
 use col_io::Files;
 use folder_model::{every_image_reopens, last_good_is_reached};
 use name_binder::BindFault;
+use sql_reader::one_reading;
 use sql_tree::{Function, Refusal, Statement};
 use statement_plan::{Plan, early_refusals_stand, make_plan};
 use std::alloc::{AllocError, Global};
@@ -50,6 +52,7 @@ fn call<D: Disk>(
     requires plain { IsPlainCall function.now }
     ensures answers { (files : LoadFiles) (state : State) → IsState ⟦<D as Disk>⟧ store.old disk.old state → early_call_refusal state function.now ≡ None
         → Answers ⟦<D as Disk>⟧ files (AStatement.Call function.now) store.new disk.old disk.new result state }
+    ensures works { WhereDone ⟦<D as Disk>⟧ store.old disk.old result (Works (AStatement.Call function.now) store.old store.new) }
     ensures named { IfErr result (NamesHeld ⟦<D as Disk>⟧ store.new disk.new) }
     ensures cause { HasCause StoreFault.Disk (D.faults disk.old) (D.faults disk.new) result }
 {
@@ -82,6 +85,7 @@ fn call_on<D: Disk>(
     requires { IsCallOn (frame_of store.old) function.now place }
     ensures answers { (files : LoadFiles) (state : State) → IsState ⟦<D as Disk>⟧ store.old disk.old state → early_call_refusal state function.now ≡ None
         → Answers ⟦<D as Disk>⟧ files (AStatement.Call function.now) store.new disk.old disk.new result state }
+    ensures works { WhereDone ⟦<D as Disk>⟧ store.old disk.old result (Works (AStatement.Call function.now) store.old store.new) }
     ensures named { IfErr result (NamesHeld ⟦<D as Disk>⟧ store.new disk.new) }
     ensures cause { HasCause StoreFault.Disk (D.faults disk.old) (D.faults disk.new) result }
 {
@@ -105,6 +109,7 @@ fn perform<D: Disk>(
     requires planned { IsPlanned (frame_of store.old) statement plan }
     ensures answers { (files : LoadFiles) (state : State) → IsState ⟦<D as Disk>⟧ store.old disk.old state
         → Answers ⟦<D as Disk>⟧ files statement store.new disk.old disk.new result state }
+    ensures works { WhereDone ⟦<D as Disk>⟧ store.old disk.old result (Works statement store.old store.new) }
     ensures named { IfErr result (NamesHeld ⟦<D as Disk>⟧ store.new disk.new) }
     ensures cause { HasCause StoreFault.Disk (D.faults disk.old) (D.faults disk.new) result }
 {
@@ -172,6 +177,7 @@ fn answer<D: Disk>(
     requires range { HasRange statement }
     ensures answers { (files : LoadFiles) (state : State) → IsState ⟦<D as Disk>⟧ store.old disk.old state
         → Answers ⟦<D as Disk>⟧ files statement store.new disk.old disk.new result state }
+    ensures works { WhereDone ⟦<D as Disk>⟧ store.old disk.old result (Works statement store.old store.new) }
     ensures named { IfErr result (NamesHeld ⟦<D as Disk>⟧ store.new disk.new) }
     ensures cause { HasCause StoreFault.Disk (D.faults disk.old) (D.faults disk.new) result }
 {
@@ -195,6 +201,7 @@ fn run<F: Files, D: Disk>(
     requires { HasRange statement }
     ensures steps { (text : Items ℕ) (there : LoadFiles) (state : State) → Spells (symbols_of text) statement → F.content files.old ≡ Some there → IsState ⟦<D as Disk>⟧ store.old disk.old state
         → Steps ⟦<D as Disk>⟧ there text store.new disk.old disk.new result state }
+    ensures works { WhereDone ⟦<D as Disk>⟧ store.old disk.old result (Works statement store.old store.new) }
     ensures content { F.content files.new ≡ F.content files.old }
     ensures read { HasCause StepFault.Read (F.faults files.old) (F.faults files.new) result }
     ensures named { IfErr result (NamesStepped ⟦<D as Disk>⟧ store.new disk.new) }
@@ -216,6 +223,7 @@ pub fn step<F: Files, D: Disk>(
 ) -> Result<Answer, StepFault>
     ensures steps { (there : LoadFiles) (state : State) → F.content files.old ≡ Some there → IsState ⟦<D as Disk>⟧ store.old disk.old state
         → Steps ⟦<D as Disk>⟧ there text.now store.new disk.old disk.new result state }
+    ensures works { WhereDone ⟦<D as Disk>⟧ store.old disk.old result (WorksOf text.now store.old store.new) }
     ensures content { F.content files.new ≡ F.content files.old }
     ensures files_later { F.faults files.old ≤ F.faults files.new }
     ensures read { IsErrOf result StepFault.Read → Rose (F.faults files.old) (F.faults files.new) }
@@ -223,6 +231,7 @@ pub fn step<F: Files, D: Disk>(
     ensures cause { HasCause StepFault.Disk (D.faults disk.old) (D.faults disk.new) result }
 {
     every_image_reopens::<D>();
+    one_reading();
     match read_statement(alloc, text) {
         Ok(Reading::Says(statement)) => run(alloc, store, statement, files, disk),
         Ok(Reading::Wrong(place)) => of_text(in_memory(refused(alloc, Refusal::Syntax(place)))),

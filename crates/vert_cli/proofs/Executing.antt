@@ -1,5 +1,5 @@
 -- One statement text that is run, and the mover's steps behind it.
-use Rattle.std.proofs.Common.{ℕ, ◌+◌, ◌≡◌, ◌<◌, inl, inr, Bool, List, refl, sym, ap, subst}
+use Rattle.std.proofs.Common.{ℕ, ◌+◌, ◌≡◌, ◌<◌, ◌∙◌, inl, inr, Bool, List, refl, sym, ap, subst}
 use Rattle.std.specs.Prelude.{Option, Some, None, Result, Ok, Err, is_some}
 use Rattle.common_laws.specs.Told.{Appends, AppendsFront}
 use Rattle.col_disk.specs.Moved.{Leaves}
@@ -15,6 +15,7 @@ use Rattle.store_step.specs.Cuts.{CutBeforeOrAfter}
 use Rattle.store_step.specs.declared.answer.Answer.{Answer}
 use Rattle.store_step.specs.declared.answer.StepFault.{StepFault}
 use Rattle.store_step.specs.Steps.{Steps, SteppedTo, TextMayLeave, MoverStepped}
+use Rattle.store_step.specs.Works.{WorksOf}
 use Rattle.vert_cli.specs.declared.faults.Outcome.{Outcome}
 use Rattle.vert_cli.specs.declared.faults.RunFault.{RunFault}
 use Rattle.vert_cli.specs.Sessions.{Sitting, sitting}
@@ -99,6 +100,16 @@ pub sink_short_at : {D : Type 0} (disk : Ghosts D) (files : Files) (text piece :
     → piece ≡ a.text.items → Steps disk files text is old new (Ok a) state → AppendsFront before after piece → Executed disk files text is old new (Err RunFault.Memory) state before after
 sink_short_at disk files text piece is old new a state before after piece_is steps taken =
     sink_short disk files text is old new a state before after steps (subst (λ (p : List ℕ). AppendsFront before after p) piece_is taken)
+
+none_where_done : (why : Option Refusal) → outcome_of why ≡ Outcome.Done → why ≡ None
+none_where_done None is = refl
+none_where_done (Some why) is = absurd (cc)
+
+pub worked_at : {D : Type 0} (disk : Ghosts D) (text : List ℕ) (s is : Running) (b : Bool) (seen : Sitting) (now : D) (a : Answer) (outcome : Outcome) → sitting s b ≡ seen → outcome ≡ outcome_of a.refusal
+    → (a.refusal ≡ None → (state : State) → IsState disk s now state → WorksOf text s is) → outcome ≡ Outcome.Done → (state : State) → IsState disk seen.running now state → WorksOf text seen.running is
+worked_at disk text s is b seen now a outcome view outcome_is works =
+    subst (λ (x : Sitting). outcome ≡ Outcome.Done → (state : State) → IsState disk x.running now state → WorksOf text x.running is) view
+    (λ done state here. works (none_where_done a.refusal (sym outcome_is ∙ done)) state here)
 
 -- ---- the mover
 

@@ -15,6 +15,7 @@ use Rattle.store_step.specs.Running.{Running, IsState}
 use Rattle.store_step.specs.Cuts.{ReopensFrom, CutBeforeOrAfter}
 use Rattle.store_step.specs.Forms.{is_served}
 use Rattle.store_step.specs.Steps.{IsKeptIn, SaysCopy, TextMayLeave}
+use Rattle.store_step.specs.Works.{WorksOf}
 use Rattle.store_step.specs.declared.answer.StepFault.{StepFault}
 use Rattle.vert_cli.specs.declared.faults.Outcome.{Outcome}
 use Rattle.vert_cli.specs.declared.faults.RunFault.{RunFault}
@@ -82,6 +83,10 @@ pub record Executed {D : Type 0} (disk : Ghosts D) (files : Files) (text : List 
   pub done : IfOk result (λ outcome. (next : State) × Answered files state text (refusal_in outcome) next before after × IsState disk is new next)
   pub stopped : IfErr result (StoppedIn disk files text is new state before after)
   pub any_moment : Leaves disk (CutBeforeOrAfter state (TextMayLeave files text state)) old new
+
+-- a statement text that wasn't refused, over a state of a session: what a MERGEOUT and a PURGE_TABLE leave of its store
+abbrev pub HasWorked : {D : Type 0} → Ghosts D → List ℕ → Running → Running → D → Result Outcome RunFault → Type 0
+HasWorked disk text was is now result = IfOk result (λ outcome. outcome ≡ Outcome.Done → (state : State) → IsState disk was now state → WorksOf text was is)
 
 -- whatever a crash leaves reopens as the state does, or as one of the first steps of the mover behind it may leave it
 abbrev pub CutInMover : ℕ → State → Contents → Type 0

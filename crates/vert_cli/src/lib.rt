@@ -6,8 +6,8 @@
 //! (`RunEnds` and `RunLeaves` of `specs/Ends.antt`), over a folder that reopens to a database (`IsOpenable`): what was printed and what a crash
 //! leaves when the run has ended or stopped, by its status, and that whatever a crash leaves at any moment of the run is what it would have
 //! left before the opening had synced (`IsStill`), or reopens to the tables before or after an event of the run, cut at a closed epoch that is
-//! no earlier than the last good one before it (`IsOnTheWay` of `specs/Runs.antt`). `Session` promises the same of the opening, of one statement (`Executed` of
-//! `specs/Statements.antt`), of the mover's steps (`MovedOn`) and of the end, and says which answer halts it (`halts_by` of
+//! no earlier than the last good one before it (`IsOnTheWay` of `specs/Runs.antt`). `Session` promises the same of the opening, of one statement (`Executed` and
+//! `HasWorked` of `specs/Statements.antt`), of the mover's steps (`MovedOn`) and of the end, and says which answer halts it (`halts_by` of
 //! `specs/Sessions.antt`). What the words ask for is `wanted` of `run_words`. Where they ask for an audit, `run` judges the folder in place of
 //! running a script, and prints the verdict (`AuditEnds` of `specs/Audits.antt`). Which file status 6 names is said over any contents (`NamesFile` of
 //! `specs/Blamed.antt`), and which one a call of a `Session` (`NamesInRun`).

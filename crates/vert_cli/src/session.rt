@@ -17,7 +17,7 @@ ghost use Rattle.store_step.specs.Steps.{Ends};
 ghost use Rattle.vert_cli.specs.declared.faults.RunFault.TheVariants.{Sink as sink_failed, Disk as stopped, Read as read_failed, Halted as halted};
 ghost use Rattle.vert_cli.specs.Blamed.{NamesInRun};
 ghost use Rattle.vert_cli.specs.Sessions.{halts_by, is_of_disk};
-ghost use Rattle.vert_cli.specs.Statements.{Executed, MovedOn, in_run};
+ghost use Rattle.vert_cli.specs.Statements.{Executed, HasWorked, MovedOn, in_run};
 
 use crate::faults::{Outcome, RunFault, either, fault_of, fault_of_step};
 use col_disk::{Disk, StoreFault};
@@ -77,7 +77,8 @@ impl Session {
     /// Runs one statement text, without its `;`, and writes what it prints.
     ///
     /// The whole printed text is made first and written afterwards. After `Ok` the sink took exactly the text, and the refusal in the
-    /// outcome is the statement's. After `Sink` the statement has taken effect, and a front of its text was taken; the sink's count of
+    /// outcome is the statement's; over a state a MERGEOUT that wasn't refused leaves no up-to-date projection with four containers of a level,
+    /// and a PURGE_TABLE none of its table with a row that was deleted at or before the ancient history mark. After `Sink` the statement has taken effect, and a front of its text was taken; the sink's count of
     /// faults rose. After `Memory` nothing was taken and nothing changed, but that the mover's job may be dropped and for jobs of the statement that were done; or the sink was short of memory,
     /// and the statement has taken effect. After `Read` the statement is a COPY, nothing was taken and nothing changed. `Damaged` names a file of
     /// a projection of the session, which is bad in what the disk holds then; over a state none is named. Whatever a crash leaves
@@ -93,6 +94,7 @@ impl Session {
     ) -> Result<Outcome, RunFault>
         ensures executed { (there : LoadFiles) (state : State) → F.content files.old ≡ Some there → self.old.halted ≡ false → IsState ⟦<D as Disk>⟧ self.old.running disk.old state
             → Executed ⟦<D as Disk>⟧ there text.now self.new.running disk.old disk.new result state (S.taken out.old) (S.taken out.new) }
+        ensures works { HasWorked ⟦<D as Disk>⟧ text.now self.old.running self.new.running disk.old result }
         ensures named { IfErr result (NamesInRun ⟦<D as Disk>⟧ self.new.running disk.new) }
         ensures flag { self.new.halted ≡ (self.old.halted || halts_by result) }
         ensures live { IfOk result (λ outcome. self.new.halted ≡ false) }

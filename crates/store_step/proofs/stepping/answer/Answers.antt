@@ -5,6 +5,8 @@ use Rattle.sql_tree.specs.declared.refusal.Refusal.{Refusal}
 use Rattle.store_step.proofs.Answered.{memory_answers}
 use Rattle.store_step.proofs.Served.{unplanned_holds}
 use Rattle.store_step.proofs.Named.{memory_named}
+use Rattle.store_step.specs.Works.{Works}
+use Rattle.store_step.proofs.Works.{unplanned_idle}
 use Rattle.store_step.proofs.stepping.answer.Goals as goal
 
 pub returns-in-Err-clause-answers : goal.returns-in-Err-clause-answers
@@ -17,3 +19,7 @@ returns-in-Err-clause-answers g c = λ files state here.
 
 pub returns-in-Err-clause-named : goal.returns-in-Err-clause-named
 returns-in-Err-clause-named g c = memory_named g.D.Disk c.args.store.now c.args.disk.now c.unplanned.result c.in_memory.result c.in_memory.ensures
+
+pub returns-in-Err-clause-works : goal.returns-in-Err-clause-works
+returns-in-Err-clause-works g c =
+    unplanned_idle g.D.Disk c.args.store.now c.args.disk.now c.in-Err.fault c.unplanned.result c.in_memory.result (Works c.args.statement c.args.store.now c.args.store.now) c.in_memory.ensures c.unplanned.ensures

@@ -5,6 +5,7 @@ use Rattle.sql_tree.specs.declared.statement.Statement.{Statement}
 use Rattle.statement_plan.specs.Planned.{early_call_refusal}
 use Rattle.store_step.proofs.Answered.{memory_answers, same_answers}
 use Rattle.store_step.proofs.Named.{memory_named}
+use Rattle.store_step.proofs.Works.{no_work, same_works}
 use Rattle.store_step.proofs.stepping.call.Goals as goal
 
 pub returns-in-Lge-clause-answers : goal.returns-in-Lge-clause-answers
@@ -65,3 +66,43 @@ returns-in-Current-clause-named g c = memory_named g.D.Disk c.args.store.now c.a
 
 pub returns-in-StartRefresh-clause-named : goal.returns-in-StartRefresh-clause-named
 returns-in-StartRefresh-clause-named g c = memory_named g.D.Disk c.start_refresh.new.store c.args.disk.now c.start_refresh.result c.in_memory-in-StartRefresh.result c.in_memory-in-StartRefresh.ensures
+
+pub returns-in-Lge-clause-works : goal.returns-in-Lge-clause-works
+returns-in-Lge-clause-works g c =
+    let is : Statement.Call c.args.function.now ≡ Statement.Call Function.Lge = search rules in
+    no_work g.D.Disk c.args.store.now c.args.store.now c.args.disk.now _ (Statement.Call Function.Lge) c.in_memory.result is tt
+
+pub returns-in-Ahm-clause-works : goal.returns-in-Ahm-clause-works
+returns-in-Ahm-clause-works g c =
+    let is : Statement.Call c.args.function.now ≡ Statement.Call Function.Ahm = search rules in
+    no_work g.D.Disk c.args.store.now c.args.store.now c.args.disk.now _ (Statement.Call Function.Ahm) c.in_memory-in-Ahm.result is tt
+
+pub returns-in-Current-clause-works : goal.returns-in-Current-clause-works
+returns-in-Current-clause-works g c =
+    let is : Statement.Call c.args.function.now ≡ Statement.Call Function.Current = search rules in
+    no_work g.D.Disk c.args.store.now c.args.store.now c.args.disk.now _ (Statement.Call Function.Current) c.in_memory-in-Current.result is tt
+
+pub returns-in-MakeAhmNow-clause-works : goal.returns-in-MakeAhmNow-clause-works
+returns-in-MakeAhmNow-clause-works g c =
+    let is : Statement.Call c.args.function.now ≡ Statement.Call Function.MakeAhmNow = search rules in
+    no_work g.D.Disk c.args.store.now c.set_mark.new.store c.args.disk.now _ (Statement.Call Function.MakeAhmNow) c.set_mark.result is tt
+
+pub returns-in-SetAhm-clause-works : goal.returns-in-SetAhm-clause-works
+returns-in-SetAhm-clause-works g c =
+    let is : Statement.Call c.args.function.now ≡ Statement.Call (Function.SetAhm c.in-SetAhm.mark) = search rules in
+    no_work g.D.Disk c.args.store.now c.set_mark-in-SetAhm.new.store c.args.disk.now _ (Statement.Call (Function.SetAhm c.in-SetAhm.mark)) c.set_mark-in-SetAhm.result is tt
+
+pub returns-in-Moveout-clause-works : goal.returns-in-Moveout-clause-works
+returns-in-Moveout-clause-works g c =
+    let is : Statement.Call c.args.function.now ≡ Statement.Call Function.Moveout = search rules in
+    no_work g.D.Disk c.args.store.now c.moveout.new.store c.args.disk.now _ (Statement.Call Function.Moveout) c.moveout.result is tt
+
+pub returns-in-StartRefresh-clause-works : goal.returns-in-StartRefresh-clause-works
+returns-in-StartRefresh-clause-works g c =
+    let is : Statement.Call c.args.function.now ≡ Statement.Call Function.StartRefresh = search rules in
+    no_work g.D.Disk c.args.store.now c.start_refresh.new.store c.args.disk.now _ (Statement.Call Function.StartRefresh) c.in_memory-in-StartRefresh.result is tt
+
+pub returns-in-Mergeout-clause-works : goal.returns-in-Mergeout-clause-works
+returns-in-Mergeout-clause-works g c =
+    let is : Statement.Call c.args.function.now ≡ Statement.Call Function.Mergeout = search rules in
+    same_works g.D.Disk c.args.store.now c.mergeout.new.store c.args.disk.now _ (Statement.Call Function.Mergeout) c.mergeout.result is c.mergeout.ensures.works

@@ -6,6 +6,7 @@ use Rattle.statement_plan.specs.Planned.{IsPlanned}
 use Rattle.statement_plan.specs.declared.plans.Plan.{Plan}
 use Rattle.store_step.proofs.Answered.{memory_answers, same_answers}
 use Rattle.store_step.proofs.Named.{memory_named}
+use Rattle.store_step.proofs.Works.{no_work, same_works}
 use Rattle.store_step.proofs.stepping.perform.Goals as goal
 
 pub returns-in-CreateTable-default-clause-answers : goal.returns-in-CreateTable-default-clause-answers
@@ -137,3 +138,57 @@ returns-in-Explain-Explain-clause-named g c = memory_named g.D.Disk c.args.store
 
 pub returns-in-Session-default-clause-named : goal.returns-in-Session-default-clause-named
 returns-in-Session-default-clause-named g c = memory_named g.D.Disk c.use_session.new.store c.args.disk.now c.use_session.result c.in_memory-in-Session-default.result c.in_memory-in-Session-default.ensures
+
+pub returns-in-CreateTable-default-clause-works : goal.returns-in-CreateTable-default-clause-works
+returns-in-CreateTable-default-clause-works g c = no_work g.D.Disk c.args.store.now c.create_table.new.store c.args.disk.now c.args.statement (Statement.CreateTable c.in-CreateTable-default.name c.in-CreateTable-default.columns) c.create_table.result c.in-CreateTable-default.is-0 tt
+
+pub returns-in-DropTable-DropTable-clause-works : goal.returns-in-DropTable-DropTable-clause-works
+returns-in-DropTable-DropTable-clause-works g c = no_work g.D.Disk c.args.store.now c.drop_table.new.store c.args.disk.now c.args.statement (Statement.DropTable c.in-DropTable-DropTable.name) c.drop_table.result c.in-DropTable-DropTable.is-0 tt
+
+pub returns-in-CreateProjection-CreateProjection-clause-works : goal.returns-in-CreateProjection-CreateProjection-clause-works
+returns-in-CreateProjection-CreateProjection-clause-works g c = no_work g.D.Disk c.args.store.now c.create_projection.new.store c.args.disk.now c.args.statement (Statement.CreateProjection c.in-CreateProjection-CreateProjection.projection) c.create_projection.result c.in-CreateProjection-CreateProjection.is-0 tt
+
+pub returns-in-DropProjection-DropProjection-clause-works : goal.returns-in-DropProjection-DropProjection-clause-works
+returns-in-DropProjection-DropProjection-clause-works g c = no_work g.D.Disk c.args.store.now c.drop_projection.new.store c.args.disk.now c.args.statement (Statement.DropProjection c.in-DropProjection-DropProjection.name) c.drop_projection.result c.in-DropProjection-DropProjection.is-0 tt
+
+pub returns-in-AddColumn-AddColumn-clause-works : goal.returns-in-AddColumn-AddColumn-clause-works
+returns-in-AddColumn-AddColumn-clause-works g c = no_work g.D.Disk c.args.store.now c.add_column.new.store c.args.disk.now c.args.statement (Statement.AddColumn c.in-AddColumn-AddColumn.add) c.add_column.result c.in-AddColumn-AddColumn.is-0 tt
+
+pub returns-in-Insert-Insert-clause-works : goal.returns-in-Insert-Insert-clause-works
+returns-in-Insert-Insert-clause-works g c = no_work g.D.Disk c.args.store.now c.insert_rows.new.store c.args.disk.now c.args.statement (Statement.Insert c.in-Insert-Insert.insert) c.in_memory.result c.in-Insert-Insert.is-0 tt
+
+pub returns-in-Delete-Delete-clause-works : goal.returns-in-Delete-Delete-clause-works
+returns-in-Delete-Delete-clause-works g c = no_work g.D.Disk c.args.store.now c.delete_rows.new.store c.args.disk.now c.args.statement (Statement.Delete c.in-Delete-Delete.delete) c.delete_rows.result c.in-Delete-Delete.is-0 tt
+
+pub returns-in-Update-Update-clause-works : goal.returns-in-Update-Update-clause-works
+returns-in-Update-Update-clause-works g c = no_work g.D.Disk c.args.store.now c.update_rows.new.store c.args.disk.now c.args.statement (Statement.Update c.in-Update-Update.update) c.update_rows.result c.in-Update-Update.is-0 tt
+
+pub returns-in-Commit-default-clause-works : goal.returns-in-Commit-default-clause-works
+returns-in-Commit-default-clause-works g c = no_work g.D.Disk c.args.store.now c.commit.new.store c.args.disk.now c.args.statement (Statement.Commit) c.commit.result c.in-Commit-default.is-0 tt
+
+pub returns-in-Rollback-default-clause-works : goal.returns-in-Rollback-default-clause-works
+returns-in-Rollback-default-clause-works g c = no_work g.D.Disk c.args.store.now c.roll_back.new.store c.args.disk.now c.args.statement (Statement.Rollback) c.in_memory-in-Rollback-default.result c.in-Rollback-default.is-0 tt
+
+pub returns-in-Select-Select-clause-works : goal.returns-in-Select-Select-clause-works
+returns-in-Select-Select-clause-works g c = no_work g.D.Disk c.args.store.now c.args.store.now c.args.disk.now c.args.statement (Statement.Select c.in-Select-Select.at c.in-Select-Select.query) c.select.result c.in-Select-Select.is-0 tt
+
+pub returns-in-Explain-Explain-clause-works : goal.returns-in-Explain-Explain-clause-works
+returns-in-Explain-Explain-clause-works g c = no_work g.D.Disk c.args.store.now c.args.store.now c.args.disk.now c.args.statement (Statement.Explain c.in-Explain-Explain.query) c.in_memory-in-Explain-Explain.result c.in-Explain-Explain.is-0 tt
+
+pub returns-in-Session-default-clause-works : goal.returns-in-Session-default-clause-works
+returns-in-Session-default-clause-works g c = no_work g.D.Disk c.args.store.now c.use_session.new.store c.args.disk.now c.args.statement (Statement.Session c.in-Session-default.number) c.in_memory-in-Session-default.result c.in-Session-default.is-0 tt
+
+pub returns-in-Step-default-clause-works : goal.returns-in-Step-default-clause-works
+returns-in-Step-default-clause-works g c = no_work g.D.Disk c.args.store.now c.step_mover.new.store c.args.disk.now c.args.statement (Statement.Step) c.step_mover.result c.in-Step-default.is-0 tt
+
+pub returns-in-Call-Call-clause-works : goal.returns-in-Call-Call-clause-works
+returns-in-Call-Call-clause-works g c =
+    let s = Statement.Call c.in-Call-Call.function in
+    let is : c.args.statement ≡ s = search rules in
+    same_works g.D.Disk c.args.store.now c.call.new.store c.args.disk.now c.args.statement s c.call.result is c.call.ensures.works
+
+pub returns-in-Call-CallOn-clause-works : goal.returns-in-Call-CallOn-clause-works
+returns-in-Call-CallOn-clause-works g c =
+    let s = Statement.Call c.in-Call-CallOn.function in
+    let is : c.args.statement ≡ s = search rules in
+    same_works g.D.Disk c.args.store.now c.call_on.new.store c.args.disk.now c.args.statement s c.call_on.result is c.call_on.ensures.works

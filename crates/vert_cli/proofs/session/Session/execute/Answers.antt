@@ -1,5 +1,5 @@
 use Rattle.std.proofs.Common.{◌∙◌}
-use Rattle.vert_cli.proofs.Executing.{seen_state, not_answered_at, written_at, sink_failed_at, sink_short_at}
+use Rattle.vert_cli.proofs.Executing.{seen_state, not_answered_at, written_at, worked_at, sink_failed_at, sink_short_at}
 use Rattle.vert_cli.proofs.Naming.{step_named}
 use Rattle.vert_cli.proofs.session.Session.execute.Goals as goal
 
@@ -30,3 +30,7 @@ returns-clause-executed g c = λ there state content live here.
 pub returns-in-Err-clause-named : goal.returns-in-Err-clause-named
 returns-in-Err-clause-named g c =
     step_named g.D.Disk c.step.new.store c.note.new.self.running c.step.new.disk c.in-Err.fault c.note.result (c.note.ensures.same ∙ c.fault_of_step.ensures) c.note.ensures.running c.in-Err.ensures.named
+
+pub returns-in-Ok-write_all-clause-works : goal.returns-in-Ok-write_all-clause-works
+returns-in-Ok-write_all-clause-works g c =
+    worked_at g.D.Disk c.args.text.now c.self.inside.store c.step.new.store c.self.inside.halted c.args.self.now c.args.disk.now c.in-Ok.answer c.of.result c.self.view_is c.of.ensures c.in-Ok.ensures.works
