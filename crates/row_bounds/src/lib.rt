@@ -14,6 +14,8 @@ mod hull;
 mod lanes;
 mod laws;
 mod shifting;
+#[cfg(test)]
+mod tests;
 
 pub use bound::Bound;
 pub use finding::bounds_of;
