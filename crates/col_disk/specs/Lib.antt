@@ -8,3 +8,4 @@ pub mod Dids
 pub mod Done
 pub mod Written
 pub mod Crashing
+pub mod Picks

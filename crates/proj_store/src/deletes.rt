@@ -18,11 +18,7 @@ use std::alloc::{AllocError, Global};
 fn undeleted(alloc: Global, count: usize) -> Result<Vec<Option<u64>>, AllocError>
     ensures { IfOk result (λ v. v.items ≡ replicate count None) }
 {
-    let mut deletes = Vec::with_capacity(alloc, count)?;
-    for _ in 0..count {
-        deletes.push(None)?;
-    }
-    Ok(deletes)
+    Vec::from_elem(alloc, None, count)
 }
 
 /// A row that isn't deleted yet is deleted by its mark.

@@ -1,17 +1,21 @@
 //! What a crash may leave of a disk in memory.
 
-ghost use Rattle.std.specs.Prelude.{◌≡◌, ◌≤◌, false, IfOk, IfSome, OnOk, length, drop};
+ghost use Rattle.std.specs.Prelude.{◌≡◌, ◌≤◌, false, is_some, IfOk, IfSome, OnOk, length, drop, map};
+ghost use Rattle.std.specs.BTreeMap.{insert_entry, is_at};
 ghost use Rattle.std.specs.List.{All};
+ghost use Rattle.std.specs.Map.{remove_entry};
+ghost use Rattle.std.specs.Ordering.{nat_cmp};
 ghost use Rattle.common_laws.specs.Maps.{Contents};
 ghost use Rattle.col_disk.specs.Calls.{Elsewhere, GoneOrKept};
 ghost use Rattle.col_disk.specs.Dids.{ImagesOf, replayed, after};
 ghost use Rattle.col_disk.specs.Crashing.{is_sync, StepTo, StepsTo};
 ghost use Rattle.col_disk.specs.Memory.{held_by};
+ghost use Rattle.col_disk.specs.Picks.{are_picks, may_be, noted, noted_all, unsynced, was_written};
 
 use super::MemDisk;
 use crate::Blob;
 use crate::did::Did;
-use std::alloc::AllocError;
+use std::alloc::{AllocError, Global};
 use std::collections::BTreeMap;
 
 /// What a crash makes of a name that was written or removed since the last good sync.
@@ -38,6 +42,7 @@ impl MemDisk {
     pub fn crash(&self, picks: &[Keep]) -> Result<Option<MemDisk>, AllocError>
         ensures image { IfOk result (λ r. IfSome r (λ d. ImagesOf self.now.done (held_by d))) }
         ensures only { IfOk result (λ r. IfSome r (λ d. (c : Contents) → ImagesOf d.done c → c ≡ held_by d)) }
+        ensures picked { IfOk result (λ r. is_some r ≡ are_picks (unsynced self.now.done) picks.now) }
     {
         let names = self.unsynced()?;
         if !are_picks(names.as_slice(), picks) {
@@ -54,19 +59,12 @@ impl MemDisk {
     }
 
     // the names that were written or removed since the last good sync, in ascending order
-    fn unsynced(&self) -> Result<Vec<Unsynced>, AllocError> {
+    fn unsynced(&self) -> Result<Vec<Unsynced>, AllocError>
+        ensures { IfOk result (λ v. map (λ u. (u.name, u.is_written)) v.items ≡ unsynced self.now.done) }
+    {
         let mut written = BTreeMap::new(self.alloc);
-        for did in self.done.as_slice() {
-            note(&mut written, did)?;
-        }
-        let mut names = Vec::new(self.alloc);
-        for (name, is_written) in &written {
-            names.push(Unsynced {
-                name: *name,
-                is_written: *is_written,
-            })?;
-        }
-        Ok(names)
+        note_all(&mut written, self.done.as_slice())?;
+        names_of(self.alloc, &written)
     }
 
     fn redo(&mut self, did: &Did) -> Result<(), AllocError>
@@ -167,8 +165,33 @@ fn is_synced(did: &Did) -> bool
     }
 }
 
+fn names_of(alloc: Global, written: &BTreeMap<u64, bool>) -> Result<Vec<Unsynced>, AllocError>
+    ensures { IfOk result (λ v. map (λ u. (u.name, u.is_written)) v.items ≡ written.now.entries) }
+{
+    let mut names = Vec::new(alloc);
+    for (name, is_written) in written {
+        names.push(Unsynced {
+            name: *name,
+            is_written: *is_written,
+        })?;
+    }
+    Ok(names)
+}
+
+// notes the names, and whether they were written
+fn note_all(written: &mut BTreeMap<u64, bool>, dids: &[Did]) -> Result<(), AllocError>
+    ensures { OnOk result (written.new.entries ≡ noted_all written.old.entries dids.now) }
+{
+    for did in dids {
+        note(written, did)?;
+    }
+    Ok(())
+}
+
 // notes the name, and whether it was written
-fn note(written: &mut BTreeMap<u64, bool>, did: &Did) -> Result<(), AllocError> {
+fn note(written: &mut BTreeMap<u64, bool>, did: &Did) -> Result<(), AllocError>
+    ensures { OnOk result (written.new.entries ≡ noted written.old.entries did.now) }
+{
     match did {
         Did::Placed(name, _) => {
             forget(written, *name);
@@ -184,34 +207,47 @@ fn note(written: &mut BTreeMap<u64, bool>, did: &Did) -> Result<(), AllocError> 
     }
 }
 
-fn forget(written: &mut BTreeMap<u64, bool>, name: u64) {
+fn forget(written: &mut BTreeMap<u64, bool>, name: u64)
+    ensures { written.new.entries ≡ remove_entry (is_at (nat_cmp name)) written.old.entries }
+{
     written.remove(&name);
 }
 
-fn note_as(
-    written: &mut BTreeMap<u64, bool>,
-    name: u64,
-    is_written: bool,
-) -> Result<(), AllocError> {
+fn note_as(written: &mut BTreeMap<u64, bool>, name: u64, is_written: bool) -> Result<(), AllocError>
+    ensures { OnOk result (written.new.entries ≡ insert_entry nat_cmp written.old.entries name is_written) }
+{
     written.insert(name, is_written)?;
     Ok(())
 }
 
 // what was written and is gone counts as written
-fn note_gone(written: &mut BTreeMap<u64, bool>, name: u64) -> Result<(), AllocError> {
+fn note_gone(written: &mut BTreeMap<u64, bool>, name: u64) -> Result<(), AllocError>
+    ensures { OnOk result (written.new.entries ≡ insert_entry nat_cmp written.old.entries name (was_written written.old.entries name)) }
+{
     let before = written.get(&name).copied().unwrap_or(false);
     note_as(written, name, before)
 }
 
-fn are_picks(names: &[Unsynced], picks: &[Keep]) -> bool {
-    names.len() == picks.len()
-        && names
-            .iter()
-            .zip(picks)
-            .all(|(name, pick)| may_be(pick, name.is_written))
+fn are_picks(names: &[Unsynced], picks: &[Keep]) -> bool
+    ensures { result ≡ are_picks (map (λ u. (u.name, u.is_written)) names.now) picks.now }
+{
+    let (mut rest, mut left) = (names, picks);
+    while let [name, later @ ..] = rest {
+        let [pick, more @ ..] = left else {
+            return false;
+        };
+        if !may_be(pick, name.is_written) {
+            return false;
+        }
+        rest = later;
+        left = more;
+    }
+    left.is_empty()
 }
 
-fn may_be(pick: &Keep, is_written: bool) -> bool {
+fn may_be(pick: &Keep, is_written: bool) -> bool
+    ensures { result ≡ may_be pick.now is_written }
+{
     match pick {
         Keep::Absent => true,
         Keep::Held => !is_written,
