@@ -11,4 +11,6 @@ pub mod Full
 pub mod ByLanes
 pub mod Loaded
 pub mod Widths
-pub mod Nearly
+pub mod Heads
+pub mod Ranking
+pub mod ByLeads

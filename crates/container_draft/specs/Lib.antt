@@ -2,7 +2,9 @@ pub mod Draft
 pub mod Finished
 pub mod Keeping
 pub mod Lanes
+pub mod Leads
 pub mod Led
 pub mod Placed
+pub mod Ranks
 pub mod Reading
 pub mod Spots

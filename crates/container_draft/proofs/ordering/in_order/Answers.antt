@@ -1,19 +1,21 @@
-use Rattle.std.proofs.Common.{ℕ, ◌<◌, length, arith, refl, subst}
-use Rattle.std.specs.List.{All}
-use Rattle.std.proofs.lemmas.List.Elements.{All-weaker}
-use Rattle.std.proofs.lemmas.List.Sorted.{All-permutation}
+use Rattle.std.proofs.Common.{length, refl}
 use Rattle.std.proofs.lemmas.Result.{IfOk-weaker}
-use Rattle.common_laws.proofs.BagLaws.{bag_trans, bag_of_permutation}
+use Rattle.container_draft.proofs.ByLeads.{led_same, led_sorted, led_within}
 use Rattle.container_draft.proofs.ordering.in_order.Goals as goal
 
 pub returns-clause-same : goal.returns-clause-same
 returns-clause-same c =
-    IfOk-weaker c.sorted.result _ _ (λ v same. bag_trans c.args.places.items c.in_ok-near.near.items v.items c.in_ok-near.ensures (bag_of_permutation c.in_ok-near.near.items v.items same)) c.sorted.ensures.same
+    IfOk-weaker c.places_of.result _ _
+    (λ v is. led_same c.args.places.items c.in_ok-leds.leds.items c.in_ok-sorted.sorted.items c.as_slice-2.result.now v.items c.in_ok-leds.ensures.places c.in_ok-sorted.ensures.same c.as_slice-2.ensures.value is) c.places_of.ensures
 
 pub returns-clause-within : goal.returns-clause-within
 returns-clause-within c =
-    let count = c.count.ensures in
-    let near = c.in_ok-near.near.items in
-    let below : All (λ (i : ℕ). i < c.count.result) near = subst (All (λ (i : ℕ). i < c.count.result)) c.as_slice.ensures.value (c.if-not-are_below.ensures refl) in
-    let within : All (λ (i : ℕ). i < length c.args.rows.now) near = All-weaker (λ (i : ℕ). i < c.count.result) (λ (i : ℕ). i < length c.args.rows.now) (λ i lt. omega (arith, lt, count)) near below in
-    IfOk-weaker c.sorted.result _ _ (λ v same. All-permutation (λ (i : ℕ). i < length c.args.rows.now) near v.items same within) c.sorted.ensures.same
+    IfOk-weaker c.places_of.result _ _
+    (λ v is. led_within (length c.args.rows.now) c.count.result c.args.places.items c.as_slice.result.now c.in_ok-leds.leds.items c.in_ok-sorted.sorted.items c.as_slice-2.result.now v.items c.count.ensures c.as_slice.ensures.value
+    (c.if-not-are_below.ensures refl) c.in_ok-leds.ensures.places c.in_ok-sorted.ensures.same c.as_slice-2.ensures.value is) c.places_of.ensures
+
+pub returns-clause-ascending : goal.returns-clause-ascending
+returns-clause-ascending c =
+    IfOk-weaker c.places_of.result _ _
+    (λ v is. led_sorted c.args.shape.now c.args.rows.now c.in_ok-leds.leds.items c.in_ok-sorted.sorted.items c.as_slice-2.result.now v.items c.in_ok-leds.ensures.led c.in_ok-sorted.ensures.same c.in_ok-sorted.ensures.ascending
+    c.as_slice-2.ensures.value is) c.places_of.ensures
