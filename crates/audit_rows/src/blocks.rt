@@ -17,7 +17,8 @@ ghost use Rattle.audit_rows.specs.Blocks.{HasIndexes, IsOpen, IsOf, AreColumns, 
 use block_codec::Block;
 use catalog_types::{Container, Projection};
 use col_disk::{Disk, StoreFault};
-use container_blocks::{block, epochs, index};
+use container_blocks::index;
+use container_blocks::uncounted::{block, epochs};
 use del_vector::DelVector;
 use pos_index::PosIndex;
 use std::alloc::Global;

@@ -1,6 +1,6 @@
 -- The index and the blocks of a column that isn't stored.
-use Rattle.std.proofs.Common.{◌≡◌, ◌+◌, ◌*◌, ◌<◌, ◌≤◌, ℕ, zero, suc, true, List, [], ◌∷◌, ◌++◌, length, map, refl, sym, ◌∙◌, ap, subst, arith}
-use Rattle.std.specs.Prelude.{◌==◌, ◌^◌, nat_lt, not, replicate, slice_index_or, drop, Option, Some, unwrap_or}
+use Rattle.std.proofs.Common.{◌≡◌, ◌+◌, ◌*◌, ◌<◌, ◌≤◌, ℕ, zero, suc, true, List, [], ◌∷◌, ◌++◌, length, refl, sym, ◌∙◌, ap, subst, arith}
+use Rattle.std.specs.Prelude.{◌==◌, ◌^◌, nat_lt, not, replicate}
 use Rattle.std.specs.List.{All, AllByRecursion}
 use Rattle.std.specs.Ordering.{is_le}
 use Rattle.std.proofs.lemmas.Bool.{and_from}
@@ -8,14 +8,12 @@ use Rattle.std.proofs.lemmas.Bool.Decides.{nat_tests}
 use Rattle.std.proofs.lemmas.Cmp.{tied_itself}
 use Rattle.std.proofs.lemmas.List.Elements.{All-nil, All-cons, All-head}
 use Rattle.col_value.specs.Laws.{value_total}
-use Rattle.col_value.specs.Order.{IsValue, value_cmp}
 use Rattle.col_value.specs.declared.value.Value.{Value}
-use Rattle.col_value.specs.declared.value.Value.TheVariants.{Null}
 use Rattle.value_bytes.specs.Spelling.{IsSpelled}
 use Rattle.block_codec.specs.Held.{picked}
 use Rattle.pos_index.specs.declared.index.Entry.{Entry}
 use Rattle.pos_index.specs.declared.index.PosIndex.{PosIndex}
-use Rattle.pos_index.specs.Index.{blocks, follows, are_entries, starts_at_zero, is_index, FitsEntry, Fits}
+use Rattle.pos_index.specs.Index.{blocks, are_entries, starts_at_zero, FitsEntry}
 use Rattle.container_blocks.specs.Blocks.{IsIndexOf}
 use Rattle.container_blocks.specs.Parts.{entry_of_one, entries_of_one}
 

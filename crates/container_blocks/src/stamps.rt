@@ -1,6 +1,6 @@
 //! The epochs of the rows of a block.
 
-ghost use Rattle.std.specs.Prelude.{◌≡◌, ◌<◌, ◌*◌, ◌-◌, ℕ, List, pos, min, length, map, false, true, IfOk, IfErr, IfSome, IfNone};
+ghost use Rattle.std.specs.Prelude.{◌≡◌, ◌+◌, ◌<◌, ◌*◌, ◌-◌, ℕ, List, pos, min, length, map, false, true, IfOk, IfErr, IfSome, IfNone};
 ghost use Rattle.std.specs.List.{All};
 ghost use Rattle.block_codec.specs.Held.{number_value};
 ghost use Rattle.common_laws.specs.Causes.{HasCause};
@@ -18,9 +18,11 @@ use block_codec::{Block, number_value};
 use catalog_types::{Container, Projection};
 use col_disk::{Disk, StoreFault};
 use col_value::{Encoding, Value};
+use common_laws::Steps;
 use pos_index::PosIndex;
 use ros_container::{body_of, epoch_of};
 use std::alloc::{AllocError, Global};
+use std::sync::ledger::Ledger;
 
 /// The epochs that some values are. None where some value is no epoch of the entry.
 fn epochs_of(
@@ -107,14 +109,15 @@ fn are_epochs(entry: &Container, values: &Block) -> bool
 
 /// The epochs that inserted the rows of block k, by the index that `index` read of the column behind the projection's
 /// columns. `Damaged` names the body of the epochs, which is absent, has no block of such values there, or has a value there
-/// that isn't from the entry's least to its greatest epoch.
-pub fn epochs<D: Disk>(
+/// that isn't from the entry's least to its greatest epoch. It counts as a step.
+pub fn epochs<D: Disk, L: Ledger>(
     alloc: Global,
     disk: &mut D,
     entry: &Container,
     at: &PosIndex,
     shape: &Projection,
     k: usize,
+    steps: &mut Steps<L>,
 ) -> Result<Vec<u64>, StoreFault>
     requires entry { IsReadable shape.now.columns entry.now }
     requires index { IsIndexOf entry.now.rows at.now }
@@ -123,12 +126,13 @@ pub fn epochs<D: Disk>(
     ensures long { IfOk result (λ v. length v.items ≡ min 1024 (entry.now.rows - 1024 * k)) }
     ensures within { IfOk result (λ v. All (IsWithin entry.now) v.items) }
     ensures blamed { IfErr result (λ fault. HasIndex (written_of shape.now) entry.now (length shape.now.columns) at.now (D.holds disk.old) → BlamesContainer (written_of shape.now) entry.now (D.holds disk.old) fault) }
+    ensures step { steps.new ≡ steps.old + 1 }
     ensures kept { D.holds disk.new ≡ D.holds disk.old }
     ensures moved { Moved ⟦<D as Disk>⟧ NoName NoName disk.old disk.new }
     ensures cause { HasCause StoreFault.Disk (D.faults disk.old) (D.faults disk.new) result }
 {
     let place = entry.stored as usize;
-    let values = match part(alloc, disk, entry, at, place, Encoding::Auto, k) {
+    let values = match part(alloc, disk, entry, at, place, Encoding::Auto, k, steps) {
         Ok(values) => values,
         Err(fault) => return Err(fault),
     };
@@ -141,26 +145,28 @@ pub fn epochs<D: Disk>(
 
 /// Reads the epochs that inserted the rows of block k as `epochs` does, where only their file is in question: Ok says that there are such
 /// epochs. `Damaged` names the body of the epochs, which is absent, has no block of such values there, or has a value there
-/// that isn't from the entry's least to its greatest epoch.
-pub fn look_at_epochs<D: Disk>(
+/// that isn't from the entry's least to its greatest epoch. It counts as a step.
+pub fn look_at_epochs<D: Disk, L: Ledger>(
     alloc: Global,
     disk: &mut D,
     entry: &Container,
     at: &PosIndex,
     shape: &Projection,
     k: usize,
+    steps: &mut Steps<L>,
 ) -> Result<(), StoreFault>
     requires entry { IsReadable shape.now.columns entry.now }
     requires index { IsIndexOf entry.now.rows at.now }
     requires block { k < blocks entry.now.rows }
     ensures found { IfOk result (λ x. HasIndex (written_of shape.now) entry.now (length shape.now.columns) at.now (D.holds disk.old) → (v : List ℕ) × AreEpochs (D.holds disk.old) (written_of shape.now) entry.now k v × All (IsWithin entry.now) v) }
     ensures blamed { IfErr result (λ fault. HasIndex (written_of shape.now) entry.now (length shape.now.columns) at.now (D.holds disk.old) → BlamesContainer (written_of shape.now) entry.now (D.holds disk.old) fault) }
+    ensures step { steps.new ≡ steps.old + 1 }
     ensures kept { D.holds disk.new ≡ D.holds disk.old }
     ensures moved { Moved ⟦<D as Disk>⟧ NoName NoName disk.old disk.new }
     ensures cause { HasCause StoreFault.Disk (D.faults disk.old) (D.faults disk.new) result }
 {
     let column = entry.stored as usize;
-    let values = match part(alloc, disk, entry, at, column, Encoding::Auto, k) {
+    let values = match part(alloc, disk, entry, at, column, Encoding::Auto, k, steps) {
         Ok(values) => values,
         Err(fault) => return Err(fault),
     };

@@ -2,6 +2,8 @@ pub mod Alive
 pub mod Batched
 pub mod Blames
 pub mod Blocks
+pub mod Costs
+pub mod Counted
 pub mod Filled
 pub mod Gathered
 pub mod Handed

@@ -2,7 +2,7 @@
 use Rattle.std.proofs.Common.{◌≡◌, ℕ, zero, suc, ◌+◌, ◌≤◌, ◌<◌, ◌⊎◌, inl, inr, ltb, ◌++◌, Bool, true, false, List, [], ◌∷◌, length, map, filter, get_or, refl, sym, ap, ◌∙◌, arith, subst}
 use Rattle.std.specs.Prelude.{Option, Some, None, ◌&&◌, IsSomeAnd, IfSome as WhereSome}
 use Rattle.std.specs.List.{All, AllZip, list_all, slice_get}
-use Rattle.std.specs.Option.{IfSome}
+use Rattle.std.specs.Option.{IfSome, option_map_or}
 use Rattle.std.specs.Ordering.{is_le}
 use Rattle.std.proofs.lemmas.Option.{slice_get-get_or}
 use borrow.Author.Tests.{ltb-true}
@@ -29,12 +29,12 @@ use Rattle.ros_container.specs.Held.{HoldsContainer}
 use Rattle.ros_container.specs.Rows.{stored_values}
 use Rattle.stored_rows.specs.Stored.{Beside}
 use Rattle.container_blocks.specs.Blocks.{HasIndex, IsIndexOf, rows_in}
-use Rattle.row_bounds.specs.Bounds.{lies_in, within}
+use Rattle.row_bounds.specs.Bounds.{lies_in, misses, within}
 use Rattle.row_bounds.specs.declared.bound.Bound.{Bound}
 use Rattle.query_cover.specs.Seen.{placed, value_at}
 use Rattle.exec_scan.specs.Batches.{Shown}
 use Rattle.exec_scan.specs.Opened.{HasOpened, HoldsNeeded, IsNeeded, IsOpening, Opening}
-use Rattle.exec_scan.specs.Passing.{AreOut, IsPassed, Misses, MissesEntry}
+use Rattle.exec_scan.specs.Passing.{AreOut, IsPassed, Misses, MissesEntry, is_missed}
 use Rattle.exec_scan.specs.Reading.{values_at}
 use Rattle.exec_scan.specs.Scanning.{AreOwn, Place, Shows, start}
 use Rattle.exec_scan.proofs.Blocks.{column_is}
@@ -155,6 +155,13 @@ misses_here b indexes block x at entries e lt here is are below entry out =
     subst (λ (q : Option PosIndex). IsSomeAnd q (λ y. IsSomeAnd (slice_get y.entries block) (MissesEntry b))) (sym index)
     (subst (λ (q : Option Entry). IsSomeAnd q (MissesEntry b)) (sym one)
     (λ v between. let two = and_true (is_le (value_cmp e.least v)) (is_le (value_cmp v e.greatest)) between in out v two.0 two.1))
+
+pub missed_here : (b : Bound) (indexes : List (Option PosIndex)) (block : ℕ) (x : Option PosIndex) (at : PosIndex) (entries : List Entry) (e : Entry) → true ≡ ltb b.column (length indexes) → x ≡ get_or indexes b.column x → x ≡ Some at
+    → entries ≡ at.entries → true ≡ ltb block (length entries) → e ≡ get_or entries block e → is_missed indexes block b ≡ misses b e.least e.greatest
+missed_here b indexes block x at entries e lt here is are below entry =
+    let index : get_or indexes b.column None ≡ Some at = same_default indexes b.column None x (ltb-true b.column (length indexes) (sym lt)) ∙ sym here ∙ is in
+    let one : slice_get at.entries block ≡ Some e = ap (λ (es : List Entry). slice_get es block) (sym are) ∙ found_at entries block e below entry in
+    ap (λ (q : Option PosIndex). option_map_or (λ y. option_map_or (λ f. misses b f.least f.greatest) (slice_get y.entries block) false) q false) index ∙ ap (λ (q : Option Entry). option_map_or (λ f. misses b f.least f.greatest) q false) one
 
 -- a block that one of the bounds passes over
 pub passed_here : (bounds : List Bound) (indexes : List (Option PosIndex)) (block i : ℕ) (b : Bound) → i < length bounds → b ≡ get_or bounds i b → Misses indexes block b → IsPassed bounds indexes block

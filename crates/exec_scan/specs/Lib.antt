@@ -1,4 +1,5 @@
 pub mod Batches
+pub mod Counting
 pub mod Opened
 pub mod Passing
 pub mod Reading

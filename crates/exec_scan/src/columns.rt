@@ -1,6 +1,6 @@
 //! The columns of a block, as far as they are read.
 
-ghost use Rattle.std.specs.Prelude.{◌≡◌, ◌<◌, ◌*◌, ◌-◌, ◌∷◌, [], min, replicate, length, None, IfOk, IfErr, OnOk};
+ghost use Rattle.std.specs.Prelude.{◌≡◌, ◌≤◌, ◌<◌, ◌+◌, ◌*◌, ◌-◌, ◌∷◌, [], min, replicate, length, sum_by, None, IfOk, IfErr, IfNone, OnOk};
 ghost use Rattle.std.specs.List.{AllZip};
 ghost use Rattle.std.specs.Option.{IfSome};
 ghost use Rattle.common_laws.specs.Causes.{HasCause};
@@ -11,6 +11,7 @@ ghost use Rattle.ros_container.specs.Held.{BlamesContainer};
 ghost use Rattle.ros_container.specs.Readable.{IsReadable};
 ghost use Rattle.exec_scan.specs.Opened.{HoldsAll, HoldsNeeded, IsNeeded};
 ghost use Rattle.exec_scan.specs.Batches.{AreLong, IsLong};
+ghost use Rattle.exec_scan.specs.Counting.{column_cost, cost_unread};
 ghost use Rattle.exec_scan.specs.Reading.{Fills, FillsRows, FillsUpto, IsColumn, NarrowsBy, OfBlock, ReadsAlive};
 ghost use Rattle.exec_scan.specs.Scanning.{AreOwn};
 
@@ -19,10 +20,11 @@ use crate::shown::has_any;
 use block_codec::Block;
 use catalog_types::{Container, Projection};
 use col_disk::{Disk, StoreFault};
-use container_blocks::block;
+use container_blocks::{Steps, block};
 use pos_index::PosIndex;
 use row_bounds::Bound;
 use std::alloc::{AllocError, Global};
+use std::sync::ledger::Ledger;
 
 /// So many columns that aren't read.
 fn unread(alloc: Global, count: usize) -> Result<Vec<Option<Block>>, AllocError>
@@ -36,7 +38,7 @@ fn unread(alloc: Global, count: usize) -> Result<Vec<Option<Block>>, AllocError>
 }
 
 /// The values of a column in block k, where it is needed.
-fn read_column<D: Disk>(
+fn read_column<D: Disk, L: Ledger>(
     alloc: Global,
     disk: &mut D,
     entry: &Container,
@@ -44,6 +46,7 @@ fn read_column<D: Disk>(
     place: Option<usize>,
     index: &Option<PosIndex>,
     k: usize,
+    steps: &mut Steps<L>,
 ) -> Result<Option<Block>, StoreFault>
     requires numbers { IsReadable shape.now.columns entry.now }
     requires own { IfSome place (λ i. i < length shape.now.columns) }
@@ -52,12 +55,14 @@ fn read_column<D: Disk>(
     ensures found { IfOk result (λ v. HoldsNeeded (written_of shape.now) entry.now (D.holds disk.old) place index.now → OfBlock (IsColumn place v) (D.holds disk.old) (written_of shape.now) entry.now k) }
     ensures long { IfOk result (IsLong (min 1024 (entry.now.rows - 1024 * k))) }
     ensures blamed { IfErr result (λ fault. HoldsNeeded (written_of shape.now) entry.now (D.holds disk.old) place index.now → BlamesContainer (written_of shape.now) entry.now (D.holds disk.old) fault) }
+    ensures steps { steps.new ≤ steps.old + column_cost (length shape.now.columns) entry.now place }
+    ensures unread { IfOk result (λ o. IfNone o (steps.new ≡ steps.old)) }
     ensures kept { D.holds disk.new ≡ D.holds disk.old }
     ensures moved { Moved ⟦<D as Disk>⟧ NoName NoName disk.old disk.new }
     ensures cause { HasCause StoreFault.Disk (D.faults disk.old) (D.faults disk.new) result }
 {
     match (place, index) {
-        (Some(place), Some(at)) => match block(alloc, disk, entry, at, shape, place, k) {
+        (Some(place), Some(at)) => match block(alloc, disk, entry, at, shape, place, k, steps) {
             Ok(values) => Ok(Some(values)),
             Err(fault) => Err(fault),
         },
@@ -66,7 +71,7 @@ fn read_column<D: Disk>(
 }
 
 /// Reads a column of block k, where it is needed and wasn't read.
-fn fill_column<D: Disk>(
+fn fill_column<D: Disk, L: Ledger>(
     alloc: Global,
     disk: &mut D,
     entry: &Container,
@@ -76,6 +81,7 @@ fn fill_column<D: Disk>(
     k: usize,
     column: usize,
     columns: &mut [Option<Block>],
+    steps: &mut Steps<L>,
 ) -> Result<(), StoreFault>
     requires numbers { IsReadable shape.now.columns entry.now }
     requires own { AreOwn shape.now places.now }
@@ -88,6 +94,8 @@ fn fill_column<D: Disk>(
     ensures long { OnOk result (AreLong (min 1024 (entry.now.rows - 1024 * k)) columns.new) }
     ensures fills { OnOk result (HoldsAll (written_of shape.now) entry.now (D.holds disk.old) places.now indexes.now → OfBlock (Fills column places.now columns.old columns.new) (D.holds disk.old) (written_of shape.now) entry.now k) }
     ensures blamed { IfErr result (λ fault. HoldsAll (written_of shape.now) entry.now (D.holds disk.old) places.now indexes.now → BlamesContainer (written_of shape.now) entry.now (D.holds disk.old) fault) }
+    ensures steps { OnOk result (steps.new + cost_unread (length shape.now.columns) entry.now places.now columns.new ≤ steps.old + cost_unread (length shape.now.columns) entry.now places.now columns.old) }
+    ensures at_most { steps.new ≤ steps.old + cost_unread (length shape.now.columns) entry.now places.now columns.old }
     ensures kept { D.holds disk.new ≡ D.holds disk.old }
     ensures moved { Moved ⟦<D as Disk>⟧ NoName NoName disk.old disk.new }
     ensures cause { HasCause StoreFault.Disk (D.faults disk.old) (D.faults disk.new) result }
@@ -103,6 +111,7 @@ fn fill_column<D: Disk>(
         places[column],
         &indexes[column],
         k,
+        steps,
     ) {
         Ok(values) => {
             columns[column] = values;
@@ -113,7 +122,7 @@ fn fill_column<D: Disk>(
 }
 
 /// Rows of block k that lie out of a bound are alive no more. Its column is read, unless its index says that all values lie in the bound.
-fn narrow_by<D: Disk>(
+fn narrow_by<D: Disk, L: Ledger>(
     alloc: Global,
     disk: &mut D,
     entry: &Container,
@@ -124,6 +133,7 @@ fn narrow_by<D: Disk>(
     bound: &Bound,
     columns: &mut [Option<Block>],
     alive: &mut [bool],
+    steps: &mut Steps<L>,
 ) -> Result<(), StoreFault>
     requires numbers { IsReadable shape.now.columns entry.now }
     requires own { AreOwn shape.now places.now }
@@ -137,6 +147,8 @@ fn narrow_by<D: Disk>(
     ensures alive { length alive.new ≡ length alive.old }
     ensures narrows { OnOk result (HoldsAll (written_of shape.now) entry.now (D.holds disk.old) places.now indexes.now → OfBlock (NarrowsBy (bound.now ∷ []) places.now columns.old columns.new alive.old alive.new) (D.holds disk.old) (written_of shape.now) entry.now k) }
     ensures blamed { IfErr result (λ fault. HoldsAll (written_of shape.now) entry.now (D.holds disk.old) places.now indexes.now → BlamesContainer (written_of shape.now) entry.now (D.holds disk.old) fault) }
+    ensures steps { OnOk result (steps.new + cost_unread (length shape.now.columns) entry.now places.now columns.new ≤ steps.old + cost_unread (length shape.now.columns) entry.now places.now columns.old) }
+    ensures at_most { steps.new ≤ steps.old + cost_unread (length shape.now.columns) entry.now places.now columns.old }
     ensures kept { D.holds disk.new ≡ D.holds disk.old }
     ensures moved { Moved ⟦<D as Disk>⟧ NoName NoName disk.old disk.new }
     ensures cause { HasCause StoreFault.Disk (D.faults disk.old) (D.faults disk.new) result }
@@ -146,7 +158,7 @@ fn narrow_by<D: Disk>(
         return Ok(());
     }
     match fill_column(
-        alloc, disk, entry, shape, places, indexes, k, column, columns,
+        alloc, disk, entry, shape, places, indexes, k, column, columns, steps,
     ) {
         Ok(()) => {
             rule_out(alive, bound, &columns[column]);
@@ -157,7 +169,7 @@ fn narrow_by<D: Disk>(
 }
 
 /// Rows of block k that lie out of one of the bounds are alive no more. For as long as some row is alive, the columns of the bounds are read.
-fn narrow<D: Disk>(
+fn narrow<D: Disk, L: Ledger>(
     alloc: Global,
     disk: &mut D,
     entry: &Container,
@@ -168,6 +180,7 @@ fn narrow<D: Disk>(
     bounds: &[Bound],
     columns: &mut [Option<Block>],
     alive: &mut [bool],
+    steps: &mut Steps<L>,
 ) -> Result<(), StoreFault>
     requires numbers { IsReadable shape.now.columns entry.now }
     requires own { AreOwn shape.now places.now }
@@ -181,6 +194,8 @@ fn narrow<D: Disk>(
     ensures alive { length alive.new ≡ length alive.old }
     ensures narrows { OnOk result (HoldsAll (written_of shape.now) entry.now (D.holds disk.old) places.now indexes.now → OfBlock (NarrowsBy bounds.now places.now columns.old columns.new alive.old alive.new) (D.holds disk.old) (written_of shape.now) entry.now k) }
     ensures blamed { IfErr result (λ fault. HoldsAll (written_of shape.now) entry.now (D.holds disk.old) places.now indexes.now → BlamesContainer (written_of shape.now) entry.now (D.holds disk.old) fault) }
+    ensures steps { OnOk result (steps.new + cost_unread (length shape.now.columns) entry.now places.now columns.new ≤ steps.old + cost_unread (length shape.now.columns) entry.now places.now columns.old) }
+    ensures at_most { steps.new ≤ steps.old + cost_unread (length shape.now.columns) entry.now places.now columns.old }
     ensures kept { D.holds disk.new ≡ D.holds disk.old }
     ensures moved { Moved ⟦<D as Disk>⟧ NoName NoName disk.old disk.new }
     ensures cause { HasCause StoreFault.Disk (D.faults disk.old) (D.faults disk.new) result }
@@ -190,7 +205,7 @@ fn narrow<D: Disk>(
             return Ok(());
         }
         match narrow_by(
-            alloc, disk, entry, shape, places, indexes, k, bound, columns, alive,
+            alloc, disk, entry, shape, places, indexes, k, bound, columns, alive, steps,
         ) {
             Ok(()) => {},
             Err(fault) => return Err(fault),
@@ -200,7 +215,7 @@ fn narrow<D: Disk>(
 }
 
 /// Reads the columns of block k that are needed and weren't read.
-fn fill_columns<D: Disk>(
+fn fill_columns<D: Disk, L: Ledger>(
     alloc: Global,
     disk: &mut D,
     entry: &Container,
@@ -209,6 +224,7 @@ fn fill_columns<D: Disk>(
     indexes: &[Option<PosIndex>],
     k: usize,
     columns: &mut [Option<Block>],
+    steps: &mut Steps<L>,
 ) -> Result<(), StoreFault>
     requires numbers { IsReadable shape.now.columns entry.now }
     requires own { AreOwn shape.now places.now }
@@ -220,13 +236,15 @@ fn fill_columns<D: Disk>(
     ensures long { OnOk result (AreLong (min 1024 (entry.now.rows - 1024 * k)) columns.new) }
     ensures fills { OnOk result (HoldsAll (written_of shape.now) entry.now (D.holds disk.old) places.now indexes.now → OfBlock (FillsUpto places.now (length places.now) columns.old columns.new) (D.holds disk.old) (written_of shape.now) entry.now k) }
     ensures blamed { IfErr result (λ fault. HoldsAll (written_of shape.now) entry.now (D.holds disk.old) places.now indexes.now → BlamesContainer (written_of shape.now) entry.now (D.holds disk.old) fault) }
+    ensures steps { OnOk result (steps.new + cost_unread (length shape.now.columns) entry.now places.now columns.new ≤ steps.old + cost_unread (length shape.now.columns) entry.now places.now columns.old) }
+    ensures at_most { steps.new ≤ steps.old + cost_unread (length shape.now.columns) entry.now places.now columns.old }
     ensures kept { D.holds disk.new ≡ D.holds disk.old }
     ensures moved { Moved ⟦<D as Disk>⟧ NoName NoName disk.old disk.new }
     ensures cause { HasCause StoreFault.Disk (D.faults disk.old) (D.faults disk.new) result }
 {
     for column in 0..places.len() {
         match fill_column(
-            alloc, disk, entry, shape, places, indexes, k, column, columns,
+            alloc, disk, entry, shape, places, indexes, k, column, columns, steps,
         ) {
             Ok(()) => {},
             Err(fault) => return Err(fault),
@@ -236,7 +254,7 @@ fn fill_columns<D: Disk>(
 }
 
 /// The same, where some row is alive.
-fn fill_alive<D: Disk>(
+fn fill_alive<D: Disk, L: Ledger>(
     alloc: Global,
     disk: &mut D,
     entry: &Container,
@@ -246,6 +264,7 @@ fn fill_alive<D: Disk>(
     k: usize,
     columns: &mut [Option<Block>],
     alive: &[bool],
+    steps: &mut Steps<L>,
 ) -> Result<(), StoreFault>
     requires numbers { IsReadable shape.now.columns entry.now }
     requires own { AreOwn shape.now places.now }
@@ -257,6 +276,8 @@ fn fill_alive<D: Disk>(
     ensures long { OnOk result (AreLong (min 1024 (entry.now.rows - 1024 * k)) columns.new) }
     ensures fills { OnOk result (HoldsAll (written_of shape.now) entry.now (D.holds disk.old) places.now indexes.now → OfBlock (FillsRows places.now alive.now columns.old columns.new) (D.holds disk.old) (written_of shape.now) entry.now k) }
     ensures blamed { IfErr result (λ fault. HoldsAll (written_of shape.now) entry.now (D.holds disk.old) places.now indexes.now → BlamesContainer (written_of shape.now) entry.now (D.holds disk.old) fault) }
+    ensures steps { OnOk result (steps.new + cost_unread (length shape.now.columns) entry.now places.now columns.new ≤ steps.old + cost_unread (length shape.now.columns) entry.now places.now columns.old) }
+    ensures at_most { steps.new ≤ steps.old + cost_unread (length shape.now.columns) entry.now places.now columns.old }
     ensures kept { D.holds disk.new ≡ D.holds disk.old }
     ensures moved { Moved ⟦<D as Disk>⟧ NoName NoName disk.old disk.new }
     ensures cause { HasCause StoreFault.Disk (D.faults disk.old) (D.faults disk.new) result }
@@ -264,7 +285,9 @@ fn fill_alive<D: Disk>(
     if !has_any(alive) {
         return Ok(());
     }
-    match fill_columns(alloc, disk, entry, shape, places, indexes, k, columns) {
+    match fill_columns(
+        alloc, disk, entry, shape, places, indexes, k, columns, steps,
+    ) {
         Ok(()) => Ok(()),
         Err(fault) => Err(fault),
     }
@@ -272,7 +295,7 @@ fn fill_alive<D: Disk>(
 
 /// The columns of block k, as far as they are needed and some row is alive. Rows that lie out of a bound are alive no more: the columns of the
 /// bounds are read first, and where they leave no row, no other one is.
-pub fn columns_alive<D: Disk>(
+pub fn columns_alive<D: Disk, L: Ledger>(
     alloc: Global,
     disk: &mut D,
     entry: &Container,
@@ -282,6 +305,7 @@ pub fn columns_alive<D: Disk>(
     k: usize,
     bounds: &[Bound],
     alive: &mut [bool],
+    steps: &mut Steps<L>,
 ) -> Result<Vec<Option<Block>>, StoreFault>
     requires numbers { IsReadable shape.now.columns entry.now }
     requires own { AreOwn shape.now places.now }
@@ -293,6 +317,7 @@ pub fn columns_alive<D: Disk>(
     ensures alive { length alive.new ≡ length alive.old }
     ensures found { IfOk result (λ v. HoldsAll (written_of shape.now) entry.now (D.holds disk.old) places.now indexes.now → OfBlock (ReadsAlive bounds.now places.now alive.old alive.new v.items) (D.holds disk.old) (written_of shape.now) entry.now k) }
     ensures blamed { IfErr result (λ fault. HoldsAll (written_of shape.now) entry.now (D.holds disk.old) places.now indexes.now → BlamesContainer (written_of shape.now) entry.now (D.holds disk.old) fault) }
+    ensures steps { steps.new ≤ steps.old + sum_by (column_cost (length shape.now.columns) entry.now) places.now }
     ensures kept { D.holds disk.new ≡ D.holds disk.old }
     ensures moved { Moved ⟦<D as Disk>⟧ NoName NoName disk.old disk.new }
     ensures cause { HasCause StoreFault.Disk (D.faults disk.old) (D.faults disk.new) result }
@@ -303,12 +328,14 @@ pub fn columns_alive<D: Disk>(
     };
     let read = columns.as_mut_slice();
     match narrow(
-        alloc, disk, entry, shape, places, indexes, k, bounds, read, alive,
+        alloc, disk, entry, shape, places, indexes, k, bounds, read, alive, steps,
     ) {
         Ok(()) => {},
         Err(fault) => return Err(fault),
     }
-    match fill_alive(alloc, disk, entry, shape, places, indexes, k, read, alive) {
+    match fill_alive(
+        alloc, disk, entry, shape, places, indexes, k, read, alive, steps,
+    ) {
         Ok(()) => Ok(columns),
         Err(fault) => Err(fault),
     }

@@ -1,7 +1,7 @@
 //! Blocks that are passed over.
 
-ghost use Rattle.std.specs.Prelude.{◌≡◌, ◌≤◌, ◌<◌, ℕ, IsTrue};
-ghost use Rattle.exec_scan.specs.Passing.{IsPassed, Misses};
+ghost use Rattle.std.specs.Prelude.{◌≡◌, ◌≤◌, ◌<◌, ℕ, IsTrue, false};
+ghost use Rattle.exec_scan.specs.Passing.{IsPassed, Misses, is_missed, is_passed};
 
 use crate::opened::Opened;
 use pos_index::PosIndex;
@@ -9,7 +9,8 @@ use row_bounds::Bound;
 
 /// Whether the index of its column says that no value of a block lies in a bound.
 fn misses(bound: &Bound, indexes: &[Option<PosIndex>], block: usize) -> bool
-    ensures { IsTrue result → Misses indexes.now block bound.now }
+    ensures missed { IsTrue result → Misses indexes.now block bound.now }
+    ensures told { result ≡ is_missed indexes.now block bound.now }
 {
     match indexes.get(bound.column) {
         Some(Some(at)) => match at.entries.as_slice().get(block) {
@@ -22,7 +23,8 @@ fn misses(bound: &Bound, indexes: &[Option<PosIndex>], block: usize) -> bool
 
 /// Whether a block can be passed over.
 fn is_passed(bounds: &[Bound], indexes: &[Option<PosIndex>], block: usize) -> bool
-    ensures { IsTrue result → IsPassed bounds.now indexes.now block }
+    ensures passed { IsTrue result → IsPassed bounds.now indexes.now block }
+    ensures told { result ≡ is_passed bounds.now indexes.now block }
 {
     for bound in bounds {
         if misses(bound, indexes, block) {
@@ -36,6 +38,7 @@ fn is_passed(bounds: &[Bound], indexes: &[Option<PosIndex>], block: usize) -> bo
 fn first_needed(bounds: &[Bound], indexes: &[Option<PosIndex>], first: usize, count: usize) -> usize
     ensures first { result < count → first ≤ result }
     ensures passed { (block : ℕ) → first ≤ block → block < result → IsPassed bounds.now indexes.now block }
+    ensures needed { result < count → is_passed bounds.now indexes.now result ≡ false }
 {
     for block in first..count {
         if !is_passed(bounds, indexes, block) {
@@ -49,6 +52,7 @@ fn first_needed(bounds: &[Bound], indexes: &[Option<PosIndex>], first: usize, co
 pub fn next_needed(bounds: &[Bound], opened: &Opened, first: usize, count: usize) -> usize
     ensures first { result < count → first ≤ result }
     ensures passed { (block : ℕ) → first ≤ block → block < result → IsPassed bounds.now opened.now.indexes block }
+    ensures needed { result < count → is_passed bounds.now opened.now.indexes result ≡ false }
 {
     first_needed(bounds, opened.indexes.as_slice(), first, count)
 }

@@ -12,6 +12,7 @@ ghost use Rattle.write_store.specs.Memory.{stamp, AreHeldRows};
 ghost use Rattle.col_value.specs.Order.{IsRow};
 ghost use Rattle.query_cover.specs.Seen.{placed};
 ghost use Rattle.exec_scan.specs.Batches.{IsBatch, rows_at};
+ghost use Rattle.exec_scan.specs.Counting.{Spends, SpendsUpto};
 ghost use Rattle.exec_scan.specs.Opened.{IsOpening};
 ghost use Rattle.col_disk.specs.Faults.{IsUnblamed};
 ghost use Rattle.proj_store.specs.Reading.{BlamesRows};
@@ -24,12 +25,13 @@ use crate::reading::read_block;
 use crate::shown::put_epoch;
 use col_disk::{Disk, StoreFault};
 use col_value::Value;
-use container_blocks::values_lie_between;
+use container_blocks::{Steps, values_lie_between};
 use pos_index::blocks_of;
 use proj_store::ProjStore;
 use row_bounds::Bound;
 use std::alloc::{AllocError, Global};
 use std::marker::Model;
+use std::sync::ledger::Ledger;
 use write_store::Held;
 
 // How many rows in memory a batch has at most.
@@ -174,12 +176,14 @@ impl Scan {
     }
 
     /// The next rows that are visible, perhaps none; None where no row is left. Blocks of rows that lie out of the bounds, as far as the
-    /// indexes tell that, are passed over unread. A file of the projection is blamed only where it stores no rows.
-    pub fn next<D: Disk>(
+    /// indexes tell that, are passed over unread. A file of the projection is blamed only where it stores no rows. Each block that is read of
+    /// a file is a step: those of the needed columns and of the epochs of a block that isn't passed over, and no others.
+    pub fn next<D: Disk, L: Ledger>(
         &mut self,
         alloc: Global,
         store: &ProjStore,
         disk: &mut D,
+        steps: &mut Steps<L>,
     ) -> Result<Option<Batch>, StoreFault>
         requires { IsScanOf store.now.stored.entry self.old }
         ensures scan { IfOk result (λ o. IsScanOf store.now.stored.entry self.new) }
@@ -189,12 +193,14 @@ impl Scan {
         ensures at_hand { IfOk result (λ o. IsAtHand (D.holds disk.old) store.now.stored self.old → IsAtHand (D.holds disk.new) store.now.stored self.new) }
         ensures unblamed { IfErr result (λ fault. (m : Contents) → D.holds disk.old ≡ Some m → (left : List Stamped) → AreLeft m store.now.stored self.old left → IsUnblamed fault) }
         ensures blamed { IfErr result (λ fault. IsAtHand (D.holds disk.old) store.now.stored self.old → BlamesRows store.now.stored.entry (D.holds disk.old) fault) }
+        ensures steps { IfOk result (λ o. Spends (D.holds disk.old) store.now.stored self.old self.new steps.old steps.new) }
+        ensures at_most { SpendsUpto (D.holds disk.old) store.now.stored self.old steps.old steps.new }
         ensures kept { D.holds disk.new ≡ D.holds disk.old }
         ensures moved { Moved ⟦<D as Disk>⟧ NoName NoName disk.old disk.new }
         ensures cause { HasCause StoreFault.Disk (D.faults disk.old) (D.faults disk.new) result }
     {
         if self.container < store.entry().containers.as_slice().len() {
-            return match self.next_block(alloc, store, disk) {
+            return match self.next_block(alloc, store, disk, steps) {
                 Ok(batch) => Ok(Some(batch)),
                 Err(fault) => Err(fault),
             };
@@ -220,11 +226,12 @@ impl Scan {
 
     /// The visible rows of the next block of the container at hand that can't be passed over; none behind its last one, where the scan goes on
     /// to the next container.
-    fn next_block<D: Disk>(
+    fn next_block<D: Disk, L: Ledger>(
         &mut self,
         alloc: Global,
         store: &ProjStore,
         disk: &mut D,
+        steps: &mut Steps<L>,
     ) -> Result<Batch, StoreFault>
         requires there { self.old.container < length store.now.stored.entry.containers }
         requires scan { IsScanOf store.now.stored.entry self.old }
@@ -235,6 +242,8 @@ impl Scan {
         ensures at_hand { IfOk result (λ b. IsAtHand (D.holds disk.old) store.now.stored self.old → IsAtHand (D.holds disk.new) store.now.stored self.new) }
         ensures unblamed { IfErr result (λ fault. (m : Contents) → D.holds disk.old ≡ Some m → (left : List Stamped) → AreLeft m store.now.stored self.old left → IsUnblamed fault) }
         ensures blamed { IfErr result (λ fault. IsAtHand (D.holds disk.old) store.now.stored self.old → BlamesRows store.now.stored.entry (D.holds disk.old) fault) }
+        ensures steps { IfOk result (λ b. Spends (D.holds disk.old) store.now.stored self.old self.new steps.old steps.new) }
+        ensures at_most { SpendsUpto (D.holds disk.old) store.now.stored self.old steps.old steps.new }
         ensures kept { D.holds disk.new ≡ D.holds disk.old }
         ensures moved { Moved ⟦<D as Disk>⟧ NoName NoName disk.old disk.new }
         ensures cause { HasCause StoreFault.Disk (D.faults disk.old) (D.faults disk.new) result }
@@ -272,6 +281,7 @@ impl Scan {
             block,
             self.epoch,
             self.stamps,
+            steps,
         ) {
             Ok(batch) => batch,
             Err(fault) => return Err(fault),

@@ -18,7 +18,7 @@ use crate::rows::Candidates;
 use block_codec::Block;
 use catalog_types::{Container, Projection};
 use col_disk::{Disk, StoreFault};
-use container_blocks::{block, epochs};
+use container_blocks::uncounted::{block, epochs};
 use pos_index::PosIndex;
 use std::alloc::{AllocError, Global};
 use wanted_rows::Wants;

@@ -1,13 +1,15 @@
-use Rattle.std.proofs.Common.{◌≡◌, ◌∙◌, ◌++◌, List, length, take, drop, subst, sym, ap}
-use Rattle.std.specs.Prelude.{Option}
+use Rattle.std.proofs.Common.{◌≡◌, ◌∙◌, ◌++◌, List, length, take, drop, subst, sym, ap, arith}
+use Rattle.std.specs.Prelude.{Option, sum_by}
 use Rattle.common_laws.specs.Maps.{Contents}
 use Rattle.col_disk.proofs.Moving.{moved_join, moved_none}
 use Rattle.col_value.specs.declared.value.Value.{Value}
 use Rattle.ros_container.specs.Encodings.{written_of}
 use Rattle.ros_container.specs.Held.{BlamesContainer}
 use Rattle.container_blocks.specs.Blocks.{rows_in}
+use Rattle.exec_scan.specs.Counting.{column_cost, cost_unread}
 use Rattle.exec_scan.specs.Opened.{HoldsAll}
 use Rattle.exec_scan.specs.Reading.{AreColumns, HaveRows}
+use Rattle.exec_scan.proofs.Counted.{cost_of_none}
 use Rattle.exec_scan.proofs.Filled.{unread_columns, written_back}
 use Rattle.exec_scan.proofs.columns.columns_alive.Goals as goal
 
@@ -40,3 +42,21 @@ returns-in-Err-fill_alive-clause-blamed g c = λ held.
 
 pub returns-in-Err-fill_alive-clause-moved : goal.returns-in-Err-fill_alive-clause-moved
 returns-in-Err-fill_alive-clause-moved g c = moved_join g.D.Disk c.narrow.ensures.moved c.fill_alive.ensures.moved
+
+pub returns-in-Err-narrow-clause-steps : goal.returns-in-Err-narrow-clause-steps
+returns-in-Err-narrow-clause-steps g c =
+    let first : cost_unread (length c.args.shape.now.columns) c.args.entry.now c.args.places.now c.as_mut_slice-read.result.now ≡ sum_by (column_cost (length c.args.shape.now.columns) c.args.entry.now) c.args.places.now =
+    ap (cost_unread (length c.args.shape.now.columns) c.args.entry.now c.args.places.now) (c.as_mut_slice-read.ensures.value ∙ c.in-Ok.ensures) ∙ cost_of_none (length c.args.shape.now.columns) c.args.entry.now c.args.places.now (length c.args.places.now) in
+    omega (arith, first, c.narrow.ensures.at_most)
+
+pub returns-in-Ok-fill_alive-clause-steps : goal.returns-in-Ok-fill_alive-clause-steps
+returns-in-Ok-fill_alive-clause-steps g c =
+    let first : cost_unread (length c.args.shape.now.columns) c.args.entry.now c.args.places.now c.as_mut_slice-read.result.now ≡ sum_by (column_cost (length c.args.shape.now.columns) c.args.entry.now) c.args.places.now =
+    ap (cost_unread (length c.args.shape.now.columns) c.args.entry.now c.args.places.now) (c.as_mut_slice-read.ensures.value ∙ c.in-Ok.ensures) ∙ cost_of_none (length c.args.shape.now.columns) c.args.entry.now c.args.places.now (length c.args.places.now) in
+    omega (arith, first, c.in-Ok-narrow.ensures.steps, c.fill_alive.ensures.at_most)
+
+pub returns-in-Err-fill_alive-clause-steps : goal.returns-in-Err-fill_alive-clause-steps
+returns-in-Err-fill_alive-clause-steps g c =
+    let first : cost_unread (length c.args.shape.now.columns) c.args.entry.now c.args.places.now c.as_mut_slice-read.result.now ≡ sum_by (column_cost (length c.args.shape.now.columns) c.args.entry.now) c.args.places.now =
+    ap (cost_unread (length c.args.shape.now.columns) c.args.entry.now c.args.places.now) (c.as_mut_slice-read.ensures.value ∙ c.in-Ok.ensures) ∙ cost_of_none (length c.args.shape.now.columns) c.args.entry.now c.args.places.now (length c.args.places.now) in
+    omega (arith, first, c.in-Ok-narrow.ensures.steps, c.fill_alive.ensures.at_most)

@@ -15,6 +15,7 @@ loop-column-init g c = record {
   width = refl;
   long = c.requires.long;
   fills = λ held m told rows holding are. filled_none c.args.places.now c.args.columns.now (rows_in c.args.k rows) are;
+  steps = omega arith;
   kept = refl;
   moved = moved_none g.D.Disk c.args.disk.now;
 }
@@ -37,6 +38,7 @@ loop-column-preserved g c =
           filled_more c.args.places.now c.loop-column.column c.loop-column.columns c.fill_column.new.columns (rows_in c.args.k rows)
           (c.in-Ok.ensures.fills (subst (λ (h : Option Contents). HoldsAll (written_of c.args.shape.now) c.args.entry.now h c.args.places.now c.args.indexes.now) (sym now.kept) held) m (now.kept ∙ told) rows holding)
           (now.fills held m told rows holding are);
+      steps = omega (arith, c.in-Ok.ensures.steps, now.steps);
       kept = c.fill_column.ensures.kept ∙ now.kept;
       moved = moved_join g.D.Disk now.moved c.fill_column.ensures.moved;
     }

@@ -1,4 +1,4 @@
-use Rattle.std.proofs.Common.{◌∙◌, refl, subst, sym}
+use Rattle.std.proofs.Common.{◌∙◌, refl, subst, sym, arith}
 use Rattle.std.specs.Prelude.{Option}
 use Rattle.common_laws.specs.Maps.{Contents}
 use Rattle.col_disk.proofs.Moving.{moved_join, moved_none}
@@ -15,6 +15,7 @@ loop-bound-init g c = record {
   long = c.requires.long;
   alive = refl;
   narrows = λ held m told rows holding. narrowed_none c.args.bounds.now c.args.places.now c.args.columns.now c.args.alive.now (rows_in c.args.k rows);
+  steps = omega arith;
   kept = refl;
   moved = moved_none g.D.Disk c.args.disk.now;
 }
@@ -39,6 +40,7 @@ loop-bound-preserved g c =
           narrowed_more c.args.bounds.now c.loop-bound.bound-index bound c.args.places.now c.args.columns.now c.loop-bound.columns c.narrow_by.new.columns c.args.alive.now c.loop-bound.alive c.narrow_by.new.alive (rows_in c.args.k rows)
           c.loop-bound-test.true c.bound-item.is (now.narrows held m told rows holding)
           (c.in-Ok.ensures.narrows (subst (λ (h : Option Contents). HoldsAll (written_of c.args.shape.now) c.args.entry.now h c.args.places.now c.args.indexes.now) (sym now.kept) held) m (now.kept ∙ told) rows holding);
+      steps = omega (arith, c.in-Ok.ensures.steps, now.steps);
       kept = c.narrow_by.ensures.kept ∙ now.kept;
       moved = moved_join g.D.Disk now.moved c.narrow_by.ensures.moved;
     }

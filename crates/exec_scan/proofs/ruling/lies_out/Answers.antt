@@ -8,4 +8,4 @@ use Rattle.exec_scan.proofs.ruling.lies_out.Goals as goal
 pub returns-in-Null : goal.returns-in-Null
 returns-in-Null c = λ says.
     let same : is_le (value_cmp c.args.value.now c.args.value.now) ≡ true = ap is_le (tied_itself value_total c.args.value.now) in
-    c.misses.ensures says c.args.value.now same same
+    c.misses.ensures.out says c.args.value.now same same

@@ -7,7 +7,7 @@ use Rattle.col_value.specs.declared.value.Value.{Value}
 use Rattle.row_bounds.proofs.Ends.{stands_above, told_lt}
 use Rattle.row_bounds.proofs.bound.ends_before.Goals as goal
 
-pub returns-in-Some : goal.returns-in-Some
-returns-in-Some c = λ less v from.
+pub returns-in-Some-clause-out : goal.returns-in-Some-clause-out
+returns-in-Some-clause-out c = λ less v from.
     ap (λ (o : Option Value). option_map_or (λ (greatest : Value). is_le (value_cmp v greatest)) o true) c.in-Some.is
     ∙ stands_above c.in-Some.end v c.args.least.now (told_lt c.order.result (value_cmp c.in-Some.end c.args.least.now) c.is_lt.result c.order.ensures c.is_lt.ensures less) from

@@ -1,5 +1,5 @@
 use Rattle.catalog_types.specs.Blank.{blank_container as blank}
-use Rattle.std.proofs.Common.{◌≤◌, ◌<◌, ◌+◌, ◌*◌, ◌∙◌, List, ℕ, length, get_or, sym, subst, arith}
+use Rattle.std.proofs.Common.{◌≡◌, ◌≤◌, false, ◌<◌, ◌+◌, ◌*◌, ◌∙◌, List, ℕ, length, get_or, sym, subst, arith}
 use Rattle.std.specs.Prelude.{Option, Some, IsSomeAnd}
 use Rattle.std.specs.List.{slice_get}
 use Rattle.common_laws.specs.Maps.{Contents}
@@ -10,10 +10,12 @@ use Rattle.ros_container.specs.Held.{BlamesContainer}
 use Rattle.stored_rows.specs.Stored.{Beside, mark_in}
 use Rattle.row_bounds.specs.declared.bound.Bound.{Bound}
 use Rattle.exec_scan.specs.Opened.{HasOpened, IsOpening}
-use Rattle.exec_scan.specs.Passing.{IsPassed}
+use Rattle.exec_scan.specs.Counting.{HaveIndexes, cost_left}
+use Rattle.exec_scan.specs.Passing.{IsPassed, is_passed}
 use Rattle.exec_scan.specs.Reading.{OfBlock, ShowsRows}
 use Rattle.exec_scan.specs.Scanning.{AreLeft, Gives, HasOpenedAt, IsAtHand, IsScanOf, Place, steps_left}
 use Rattle.exec_scan.proofs.Blames.{at_hand_on, blames_at, block_blames}
+use Rattle.exec_scan.proofs.Costs.{block_spends, done_costs}
 use Rattle.exec_scan.proofs.Stepping.{at_place, block_gives, block_unblamed, done_fewer, done_gives, handed, next_fewer, next_scan, opening_here, unblamed_at}
 use Rattle.exec_scan.proofs.scan.Scan.next_block.Goals as goal
 
@@ -144,3 +146,58 @@ returns-clause-fewer g c =
 
 pub returns-clause-moved : goal.returns-clause-moved
 returns-clause-moved g c = moved_join g.D.Disk c.at_hand.ensures.moved c.read_block.ensures.moved
+
+pub returns-in-Err-clause-at_most : goal.returns-in-Err-clause-at_most
+returns-in-Err-clause-at_most g c = λ m told at all have. omega arith
+
+pub returns-then-block-count-clause-steps : goal.returns-then-block-count-clause-steps
+returns-then-block-count-clause-steps g c = λ m told at all have.
+    let s = c.self.inside in
+    let p = c.args.store.now.stored in
+    let there : s.container < length p.entry.containers = subst (λ (x : Place). x.container < length p.entry.containers) (sym c.self.view_is) c.requires.there in
+    let held = subst (λ (x : Place). HaveIndexes m p.entry x.places all) (sym c.self.view_is) have in
+    let next = cost_left p.entry all (at_place s.epoch s.places.items s.bounds.items s.stamps (s.container + 1) 0 c.take-opened.new.self s.taken) in
+    let less : next ≤ cost_left p.entry all c.args.self.now = subst (λ (x : Place). next ≤ cost_left p.entry all x) c.self.view_is
+    (done_costs m p.entry all s.epoch s.places.items s.bounds.items s.stamps s.container s.block s.opened c.take-opened.new.self s.taken there held) in
+    omega (arith, less)
+
+pub returns-then-block-count-clause-at_most : goal.returns-then-block-count-clause-at_most
+returns-then-block-count-clause-at_most g c = λ m told at all have. omega arith
+
+pub returns-clause-steps : goal.returns-clause-steps
+returns-clause-steps g c = λ m told at all have.
+    let s = c.self.inside in
+    let p = c.args.store.now.stored in
+    let block = c.next_needed-block.result in
+    let was = subst (λ (x : Place). IsAtHand (Some m) p x) (sym c.self.view_is) at in
+    let there : s.container < length p.entry.containers = subst (λ (x : Place). x.container < length p.entry.containers) (sym c.self.view_is) c.requires.there in
+    let has = handed p s.container s.places.items c.as_slice.result.now s.opened c.take-opened.result m (g.D.Disk.holds c.args.disk.now) c.in-Ok.opened c.take-opened.ensures.value c.as_slice.ensures.value told was c.in-Ok.ensures.held in
+    let opening = subst (λ (ps : List (Option ℕ)). IsSomeAnd (slice_get p.entry.containers s.container) (λ k. IsOpening k.rows ps c.in-Ok.opened)) c.as_slice.ensures.value c.in-Ok.ensures.opening in
+    let below : block < blocks (get_or c.as_slice-2.result.now s.container blank).rows = omega (arith, c.if-block-count.false, c.blocks_of-count.ensures) in
+    let from : s.block ≤ block = c.next_needed-block.ensures.first (omega (arith, c.if-block-count.false)) in
+    let needs = subst (λ (w : List Bound). is_passed w c.in-Ok.opened.indexes block ≡ false) c.as_slice-3.ensures.value (c.next_needed-block.ensures.needed (omega (arith, c.if-block-count.false))) in
+    let held = subst (λ (x : Place). HaveIndexes m p.entry x.places all) (sym c.self.view_is) have in
+    subst (λ (x : Place). c.read_block.new.steps + cost_left p.entry all (at_place s.epoch s.places.items s.bounds.items s.stamps s.container (block + 1) (Some c.in-Ok.opened) s.taken) ≤ c.args.steps.now + cost_left p.entry all x) c.self.view_is
+    (block_spends m (g.D.Disk.holds c.args.disk.now) p all s.epoch s.places.items c.as_slice-4.result.now s.bounds.items s.stamps s.container s.block block s.opened c.in-Ok.opened s.taken c.args.steps.now c.read_block.new.steps c.entry-shape.result.now c.as_slice-2.result.now
+    told c.entry-shape.ensures.entry c.as_slice-2.ensures c.as_slice-4.ensures.value there held has opening from below needs c.read_block.ensures.steps)
+
+pub returns-clause-at_most : goal.returns-clause-at_most
+returns-clause-at_most g c = λ m told at all have.
+    omega (arith, returns-clause-steps g c m told at all have)
+
+pub returns-in-Err-read_block-clause-at_most : goal.returns-in-Err-read_block-clause-at_most
+returns-in-Err-read_block-clause-at_most g c = λ m told at all have.
+    let s = c.self.inside in
+    let p = c.args.store.now.stored in
+    let block = c.next_needed-block.result in
+    let was = subst (λ (x : Place). IsAtHand (Some m) p x) (sym c.self.view_is) at in
+    let there : s.container < length p.entry.containers = subst (λ (x : Place). x.container < length p.entry.containers) (sym c.self.view_is) c.requires.there in
+    let has = handed p s.container s.places.items c.as_slice.result.now s.opened c.take-opened.result m (g.D.Disk.holds c.args.disk.now) c.in-Ok.opened c.take-opened.ensures.value c.as_slice.ensures.value told was c.in-Ok.ensures.held in
+    let opening = subst (λ (ps : List (Option ℕ)). IsSomeAnd (slice_get p.entry.containers s.container) (λ k. IsOpening k.rows ps c.in-Ok.opened)) c.as_slice.ensures.value c.in-Ok.ensures.opening in
+    let below : block < blocks (get_or c.as_slice-2.result.now s.container blank).rows = omega (arith, c.if-block-count.false, c.blocks_of-count.ensures) in
+    let from : s.block ≤ block = c.next_needed-block.ensures.first (omega (arith, c.if-block-count.false)) in
+    let needs = subst (λ (w : List Bound). is_passed w c.in-Ok.opened.indexes block ≡ false) c.as_slice-3.ensures.value (c.next_needed-block.ensures.needed (omega (arith, c.if-block-count.false))) in
+    let held = subst (λ (x : Place). HaveIndexes m p.entry x.places all) (sym c.self.view_is) have in
+    let spent = block_spends m (g.D.Disk.holds c.args.disk.now) p all s.epoch s.places.items c.as_slice-4.result.now s.bounds.items s.stamps s.container s.block block s.opened c.in-Ok.opened s.taken c.args.steps.now c.read_block.new.steps c.entry-shape.result.now c.as_slice-2.result.now
+    told c.entry-shape.ensures.entry c.as_slice-2.ensures c.as_slice-4.ensures.value there held has opening from below needs c.read_block.ensures.steps in
+    subst (λ (x : Place). c.read_block.new.steps ≤ c.args.steps.now + cost_left p.entry all x) c.self.view_is (omega (arith, spent))
