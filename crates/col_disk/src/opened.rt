@@ -9,10 +9,11 @@ use std::io::{Read, Seek, SeekFrom};
 // The most files that stay open.
 const MOST: usize = 128;
 
-// How many bytes are read at once, where the file has so many.
+// How many bytes are read at once where the file has so many: of one that is read here and there, and at most of one that is read on.
+const LEAST: u64 = 8_192;
 const AHEAD: u64 = 65_536;
 
-/// A file that is open for reading, its length, and the bytes that were read last, from a place on.
+/// A file that is open for reading, its length, the bytes that were read last, from a place on, and how many were to be read then.
 #[derive(Drop)]
 struct Opened<F: Read + Seek + Drop> {
     name: u64,
@@ -20,6 +21,7 @@ struct Opened<F: Read + Seek + Drop> {
     size: u64,
     at: u64,
     ahead: Vec<u8>,
+    reach: u64,
 }
 
 /// The files that were read last.
@@ -38,7 +40,7 @@ impl<F: Read + Seek + Drop> Opened<F> {
             return Ok(bytes);
         }
         if !self.has(at, count) {
-            self.go_ahead(alloc, at)?;
+            self.go_ahead(alloc, at, count)?;
         }
         Ok(Vec::from_slice(
             alloc,
@@ -51,13 +53,25 @@ impl<F: Read + Seek + Drop> Opened<F> {
         self.at <= at && at <= upto && count <= upto - at
     }
 
+    // what is read on from where the last bytes were is read further ahead each time
+    fn reach_from(&self, at: u64) -> u64 {
+        let upto = self.at.saturating_add(self.ahead.len() as u64);
+        if self.at < at && at <= upto {
+            self.reach.saturating_mul(4).min(AHEAD)
+        } else {
+            LEAST
+        }
+    }
+
     // nothing is known of what a failed read left, so what was read before goes first
-    fn go_ahead(&mut self, alloc: Global, at: u64) -> io::Result<()> {
-        let count = self.size.saturating_sub(at).min(AHEAD);
+    fn go_ahead(&mut self, alloc: Global, at: u64, count: u64) -> io::Result<()> {
+        let reach = self.reach_from(at);
+        let count = self.size.saturating_sub(at).min(reach.max(count));
         let mut bytes = vec![in alloc; 0u8; count as usize]?;
         self.fill(at, &mut bytes)?;
         self.at = at;
         self.ahead = bytes;
+        self.reach = reach;
         Ok(())
     }
 
@@ -119,6 +133,7 @@ impl<F: Read + Seek + Drop> OpenedFiles<F> {
             size,
             at: 0,
             ahead: Vec::new(alloc),
+            reach: LEAST,
         })?;
         Ok(())
     }
