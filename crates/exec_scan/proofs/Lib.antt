@@ -13,6 +13,7 @@ pub mod Long
 pub mod Narrowing
 pub mod Passed
 pub mod Stepping
+pub mod There
 pub mod Unhidden
 pub mod Within
 pub mod Replaced

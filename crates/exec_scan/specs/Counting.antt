@@ -1,5 +1,5 @@
 -- How many blocks of files a scan reads.
-use Rattle.std.specs.Prelude.{ℕ, ◌≡◌, ◌≤◌, ◌+◌, ◌-◌, ◌*◌, not, sum_by, List, [], ◌∷◌, length, drop, Option, Some, None}
+use Rattle.std.specs.Prelude.{ℕ, ◌≡◌, ◌≤◌, ◌<◌, ◌+◌, ◌-◌, ◌*◌, not, sum_by, List, [], ◌∷◌, length, drop, Option, Some, None}
 use Rattle.std.specs.List.{AllZip, count_by, range_with_len}
 use Rattle.std.specs.Option.{option_map_or}
 use Rattle.catalog_types.specs.declared.catalogue.Container.{Container}
@@ -8,9 +8,10 @@ use Rattle.col_value.specs.declared.value.Value.{Value}
 use Rattle.common_laws.specs.Maps.{Contents}
 use Rattle.pos_index.specs.Index.{blocks}
 use Rattle.pos_index.specs.declared.index.PosIndex.{PosIndex}
-use Rattle.ros_container.specs.Encodings.{written_of}
+use Rattle.ros_container.specs.Encodings.{default_at, written_of}
 use Rattle.row_bounds.specs.declared.bound.Bound.{Bound}
 use Rattle.stored_rows.specs.Stored.{Projected}
+use Rattle.container_blocks.specs.Blocks.{IsIndexOf, IsIndexOfOne}
 use Rattle.container_blocks.specs.Counts.{blocks_read}
 use Rattle.exec_scan.specs.Opened.{HoldsAll, IsNeeded}
 use Rattle.exec_scan.specs.Passing.{is_passed}
@@ -69,3 +70,7 @@ Spends holds p old new before after =
 -- and by no more than is left at first
 abbrev pub SpendsUpto : Option Contents → Projected → Place → ℕ → ℕ → Type 0
 SpendsUpto holds p old before after = (m : Contents) → holds ≡ Some m → IsAtHand (Some m) p old → (indexes : Indexes) → HaveIndexes m p.entry old.places indexes → after ≤ before + cost_left p.entry indexes old
+
+-- each column that a container doesn't store has an index of its default
+abbrev pub IndexesDefaults : Projection → Container → Type 0
+IndexesDefaults p k = (i : ℕ) → k.stored ≤ i → i < length p.columns → (at : PosIndex) × IsIndexOf k.rows at × IsIndexOfOne (default_at (written_of p) i) at

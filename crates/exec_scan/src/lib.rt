@@ -14,6 +14,7 @@
 mod batch;
 mod chosen;
 mod columns;
+mod laws;
 mod opened;
 mod passing;
 mod reading;
@@ -24,6 +25,7 @@ mod shown;
 mod slots;
 
 pub use batch::Batch;
+pub use laws::stored_rows_have_indexes;
 pub use retained::retains;
 pub use row_bounds::compare_lanes;
 pub use scan::Scan;

@@ -1,6 +1,6 @@
 //! The committed rows that match, batch by batch.
 
-ghost use Rattle.std.specs.Prelude.{ℕ, ◌≡◌, [], true, Some, List, IfOk, IfErr, OnOk};
+ghost use Rattle.std.specs.Prelude.{ℕ, ◌≡◌, ◌<◌, [], true, Some, List, IfOk, IfErr, OnOk};
 ghost use Rattle.std.specs.List.{All};
 ghost use Rattle.common_laws.specs.Causes.{HasCause};
 ghost use Rattle.common_laws.specs.Maps.{Contents};
@@ -19,12 +19,15 @@ ghost use Rattle.row_matching.specs.Seeing.{AreOthers, Keeps, Sifts, SiftsMore, 
 
 use col_disk::{Disk, StoreFault};
 use col_value::{Asked, Row, Value};
+use common_laws::Steps;
 use exec_scan::{Batch, Scan};
 use expr_value::are_true;
 use proj_store::ProjStore;
 use row_bounds::bounds_of;
 use sql_bound::Expr;
 use std::alloc::{AllocError, Global};
+use std::marker::Brand;
+use std::sync::ledger::{Blank, Ledger};
 use wanted_rows::Wants;
 use write_store::Inserted;
 
@@ -142,6 +145,42 @@ pub fn committed_rows<D: Disk>(
     ensures moved { Moved ⟦<D as Disk>⟧ NoName NoName disk.old disk.new }
     ensures cause { HasCause StoreFault.Disk (D.faults disk.old) (D.faults disk.new) result }
 {
+    committed_by::<D, Brand>(
+        alloc,
+        store,
+        epoch,
+        places,
+        keeps,
+        gone,
+        disk,
+        Blank::new(1),
+    )
+}
+
+/// The same, counted over a blank.
+fn committed_by<D: Disk, L: Ledger>(
+    alloc: Global,
+    store: &ProjStore,
+    epoch: u64,
+    places: Vec<Option<usize>>,
+    keeps: &[Expr],
+    gone: &[Asked],
+    disk: &mut D,
+    blank: Blank,
+) -> Result<Vec<Asked>, StoreFault>
+    requires name { blank.name ≡ L.name }
+    requires parts { blank.parts ≡ L.parts }
+    requires some { 0 < L.parts }
+    requires own { AreOwn store.now.stored.entry places.items }
+    requires narrow { All (λ e. is_narrow [] e ≡ true) keeps.now }
+    ensures found { IfOk result (λ v. (m : Contents) → D.holds disk.old ≡ Some m → (rows : List Stamped) → Stores m store.now.stored rows → AreOthers keeps.now gone.now (seen_rows epoch places.items rows) v.items) }
+    ensures valid { IfOk result (λ v. All (λ a. IsRow a.row) v.items) }
+    ensures unblamed { IfErr result (λ fault. (m : Contents) → D.holds disk.old ≡ Some m → (rows : List Stamped) → Stores m store.now.stored rows → IsUnblamed fault) }
+    ensures blamed { IfErr result (BlamesRows store.now.stored.entry (D.holds disk.old)) }
+    ensures kept { D.holds disk.new ≡ D.holds disk.old }
+    ensures moved { Moved ⟦<D as Disk>⟧ NoName NoName disk.old disk.new }
+    ensures cause { HasCause StoreFault.Disk (D.faults disk.old) (D.faults disk.new) result }
+{
     let bounds = match bounds_of(alloc, keeps, places.len()) {
         Ok(bounds) => bounds,
         Err(AllocError) => return Err(StoreFault::Memory),
@@ -150,10 +189,11 @@ pub fn committed_rows<D: Disk>(
         Ok(wants) => wants,
         Err(AllocError) => return Err(StoreFault::Memory),
     };
+    let mut steps = Steps::<L>::new(blank);
     let mut scan = Scan::new(epoch, places, bounds, true);
     let mut out = Vec::new(alloc);
     loop {
-        let batch = match scan.next(alloc, store, disk) {
+        let batch = match scan.next(alloc, store, disk, &mut steps) {
             Ok(Some(batch)) => batch,
             Ok(None) => return Ok(out),
             Err(fault) => return Err(fault),

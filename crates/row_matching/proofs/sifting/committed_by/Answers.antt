@@ -12,7 +12,7 @@ use Rattle.proj_store.specs.Reading.{BlamesRows}
 use Rattle.exec_scan.specs.Batches.{Shown}
 use Rattle.exec_scan.specs.Scanning.{Gives, IsAtHand, IsScanOf, Place}
 use Rattle.row_matching.proofs.Others.{Bounded, sought_all, sought_more, sought_none, Wanted}
-use Rattle.row_matching.proofs.sifting.committed_rows.Goals as goal
+use Rattle.row_matching.proofs.sifting.committed_by.Goals as goal
 
 pub loop-batch-init : goal.loop-batch-init
 loop-batch-init g c = record {
