@@ -3,7 +3,7 @@
 ghost use Rattle.std.specs.Prelude.{◌≡◌, map, pos, slice_index_or, IfOk};
 ghost use Rattle.std.specs.List.{All};
 ghost use Rattle.block_choice.specs.Choice.{TakesAll};
-ghost use Rattle.block_codec.specs.Held.{cell_value};
+ghost use Rattle.block_codec.specs.Held.{cell_value, number_value};
 ghost use Rattle.col_value.specs.Order.{IsValue};
 ghost use Rattle.col_value.specs.declared.value.Value.TheVariants.{Int, Null};
 ghost use Rattle.ros_container.specs.Rows.{column_values, epoch_values, stored_values};
@@ -81,7 +81,8 @@ pub fn epoch_at(rows: &Rows, place: usize) -> u64
 
 /// An epoch as a number.
 fn number_of(epoch: u64) -> Result<Value, AllocError>
-    ensures { IfOk result (λ v. v ≡ Int (pos epoch)) }
+    ensures same { IfOk result (λ v. v ≡ Int (pos epoch)) }
+    ensures value { IfOk result IsValue }
 {
     if epoch > i64::MAX as u64 {
         return Err(AllocError);
@@ -89,7 +90,43 @@ fn number_of(epoch: u64) -> Result<Value, AllocError>
     Ok(Value::Int(epoch as i64))
 }
 
-fn column_values(
+/// The value that a number of a lane stands for is one of a table.
+fn lane_value(n: i64) -> Value
+    ensures same { result ≡ number_value n }
+    ensures value { IsValue result }
+{
+    if n == i64::MIN {
+        Value::Null
+    } else {
+        Value::Int(n)
+    }
+}
+
+/// The value at a place of a lane; where none stands there it is NULL.
+fn value_in(lane: &[i64], place: usize) -> Value
+    ensures same { result ≡ slice_index_or (map number_value lane.now) place Null }
+    ensures value { IsValue result }
+{
+    match lane.get(place) {
+        Some(n) => lane_value(*n),
+        None => Value::Null,
+    }
+}
+
+/// The values at places of a lane.
+fn gathered(alloc: Global, lane: &[i64], places: &[usize]) -> Result<Vec<Value>, AllocError>
+    ensures same { IfOk result (λ v. v.items ≡ map (λ i. slice_index_or (map number_value lane.now) i Null) places.now) }
+    ensures values { IfOk result (λ v. All IsValue v.items) }
+{
+    let mut out = Vec::with_capacity(alloc, places.len())?;
+    for place in places {
+        out.push_reserved(value_in(lane, *place));
+    }
+    Ok(out)
+}
+
+/// The values of rows in a column, each copied from where it is held.
+fn copied(
     alloc: Global,
     rows: &Rows,
     places: &[usize],
@@ -106,13 +143,28 @@ fn column_values(
     Ok(out)
 }
 
+fn column_values(
+    alloc: Global,
+    rows: &Rows,
+    places: &[usize],
+    column: usize,
+) -> Result<Vec<Value>, AllocError>
+    ensures same { IfOk result (λ v. v.items ≡ column_values column (all_at rows.now places.now)) }
+    ensures values { IfOk result (λ v. All IsValue v.items) }
+{
+    match rows.numbers(alloc, column)? {
+        Some(lane) => gathered(alloc, lane.as_slice(), places),
+        None => copied(alloc, rows, places, column),
+    }
+}
+
 fn epoch_values(alloc: Global, rows: &Rows, places: &[usize]) -> Result<Vec<Value>, AllocError>
     ensures same { IfOk result (λ v. v.items ≡ epoch_values (all_at rows.now places.now)) }
     ensures values { IfOk result (λ v. All IsValue v.items) }
 {
     let mut out = Vec::with_capacity(alloc, places.len())?;
     for place in places {
-        out.push_reserved(fitting(number_of(epoch_at(rows, *place))?)?);
+        out.push_reserved(number_of(epoch_at(rows, *place))?);
     }
     Ok(out)
 }
