@@ -8,11 +8,10 @@ ghost use Rattle.col_value.specs.Order.{IsValue};
 ghost use Rattle.col_value.specs.declared.value.Value.TheVariants.{Int, Null};
 ghost use Rattle.ros_container.specs.Rows.{column_values, epoch_values, stored_values};
 ghost use Rattle.container_draft.specs.Placed.{asked_at, all_at};
-ghost use Rattle.container_draft.specs.Spots.{asked_on};
 
-use crate::rows::{Rows, Spot};
+use crate::rows::Rows;
 use block_choice::takes_all;
-use block_codec::{Cell, number_value};
+use block_codec::Cell;
 use col_value::{Encoding, Value};
 use std::alloc::{AllocError, Global};
 use value_bytes::is_value;
@@ -51,24 +50,16 @@ fn owned(alloc: Global, cell: Cell) -> Result<Value, AllocError>
     }
 }
 
-/// The value of a row in a column, by its word where it lends one.
-fn unnumbered(alloc: Global, spot: &Spot, column: usize) -> Result<Value, AllocError>
-    ensures { IfOk result (λ v. v ≡ slice_index_or (asked_on spot.now).row column Null) }
-{
-    match spot.lent(column) {
-        Some(value) => value.copy(alloc),
-        None => owned(alloc, spot.cell(column)),
-    }
-}
-
-/// The value of the row at a place; a row that is not there has none.
+/// The value of the row at a place, where a table may have it; a row that is not there has none.
 fn value_at(alloc: Global, rows: &Rows, place: usize, column: usize) -> Result<Value, AllocError>
-    ensures { IfOk result (λ v. v ≡ slice_index_or (asked_at rows.now place).row column Null) }
+    ensures same { IfOk result (λ v. v ≡ slice_index_or (asked_at rows.now place).row column Null) }
+    ensures value { IfOk result IsValue }
 {
     let spot = rows.spot(place);
-    match spot.number(column) {
-        Some(n) => Ok(number_value(n)),
-        None => unnumbered(alloc, &spot, column),
+    match spot.lent(column) {
+        Some(value) if is_value(value) => value.copy(alloc),
+        Some(_) => Err(AllocError),
+        None => fitting(owned(alloc, spot.cell(column))?),
     }
 }
 
@@ -137,8 +128,7 @@ fn copied(
 {
     let mut out = Vec::with_capacity(alloc, places.len())?;
     for place in places {
-        let value = value_at(alloc, rows, *place, column)?;
-        out.push_reserved(fitting(value)?);
+        out.push_reserved(value_at(alloc, rows, *place, column)?);
     }
     Ok(out)
 }
