@@ -11,6 +11,7 @@ pub mod Full
 pub mod ByLanes
 pub mod Loaded
 pub mod Widths
+pub mod Gathering
 pub mod Heads
 pub mod Ranking
 pub mod ByLeads

@@ -1,9 +1,9 @@
 //! A column in memory.
 
-ghost use Rattle.std.specs.Prelude.{◌≡◌, ◌++◌, [], get_or, slice_index_or, IfSome, IsTrue, OnOk};
+ghost use Rattle.std.specs.Prelude.{◌≡◌, ◌++◌, [], get_or, map, slice_index_or, IfOk, IfSome, IsTrue, OnOk};
 ghost use Rattle.block_codec.specs.Held.{cell_value, number_value, picked};
 ghost use Rattle.col_value.specs.declared.value.Value.TheVariants.{Null};
-ghost use Rattle.container_draft.specs.Lanes.{EndsFull};
+ghost use Rattle.container_draft.specs.Lanes.{joined, EndsFull};
 
 use block_codec::{Block, Cell};
 use col_value::Value;
@@ -102,6 +102,20 @@ fn lent_at(blocks: &[Block], k: usize, i: usize) -> Option<&Value>
     }
 }
 
+/// The numbers of blocks behind others, where all hold such.
+fn numbers_on(blocks: &[Block], before: Vec<i64>) -> Result<Option<Vec<i64>>, AllocError>
+    ensures { IfOk result (λ o. IfSome o (λ v. map number_value v.items ≡ map number_value before.items ++ joined blocks.now)) }
+{
+    let mut out = before;
+    for block in blocks {
+        match block.numbers() {
+            Some(numbers) => out.extend_from_slice(numbers)?,
+            None => return Ok(None),
+        }
+    }
+    Ok(Some(out))
+}
+
 /// Whether a block may follow: the last one is full.
 fn may_follow(blocks: &[Block]) -> bool
     ensures { IsTrue result → EndsFull blocks.now }
@@ -146,6 +160,13 @@ impl Column {
         ensures { IfSome result (λ n. number_value n ≡ slice_index_or self.now place Null) }
     {
         number_at(self.pieces.as_slice(), place / BLOCK, place % BLOCK)
+    }
+
+    /// The numbers of lanes that stand for the values, behind others, where such are held.
+    pub fn numbers(&self, before: Vec<i64>) -> Result<Option<Vec<i64>>, AllocError>
+        ensures { IfOk result (λ o. IfSome o (λ v. map number_value v.items ≡ map number_value before.items ++ self.now)) }
+    {
+        numbers_on(self.pieces.as_slice(), before)
     }
 
     /// The value at a place, where it is a word that is lent.

@@ -1,14 +1,16 @@
 //! The rows of a container in memory.
 
-ghost use Rattle.std.specs.Prelude.{◌≡◌, length, get_or, slice_index_or, IfSome};
+ghost use Rattle.std.specs.Prelude.{◌≡◌, ◌<◌, ◌+◌, ◌++◌, [], length, get_or, map, slice_index_or, IfOk, IfSome};
 ghost use Rattle.block_codec.specs.Held.{cell_value, number_value};
 ghost use Rattle.col_value.specs.declared.value.Value.TheVariants.{Null};
+ghost use Rattle.ros_container.specs.Rows.{column_values};
 ghost use Rattle.container_draft.specs.Lanes.{row_by, rows_by};
 ghost use Rattle.container_draft.specs.Placed.{asked_at};
 
 use crate::column::Column;
 use block_codec::Cell;
 use col_value::Value;
+use std::alloc::AllocError;
 use std::marker::Model;
 
 /// Rows that are held by their columns, with the epochs that inserted them.
@@ -58,6 +60,27 @@ fn lent_of(columns: &[Column], place: usize, column: usize) -> Option<&Value>
     }
 }
 
+/// The numbers of a column of so many values behind others, where it is there and holds such.
+fn numbers_of(
+    columns: &[Column],
+    column: usize,
+    count: usize,
+    before: Vec<i64>,
+) -> Result<Option<Vec<i64>>, AllocError>
+    ensures numbers { IfOk result (λ o. IfSome o (λ v. map number_value v.items ≡ map number_value before.items ++ get_or columns.now column [])) }
+    ensures there { IfOk result (λ o. IfSome o (λ v. column < length columns.now)) }
+    ensures long { IfOk result (λ o. IfSome o (λ v. length v.items ≡ length before.items + count)) }
+{
+    let Some(values) = columns.get(column) else {
+        return Ok(None);
+    };
+    let few = before.len();
+    match values.numbers(before)? {
+        Some(numbers) if numbers.len() >= few && numbers.len() - few == count => Ok(Some(numbers)),
+        _ => Ok(None),
+    }
+}
+
 /// The epoch at a place; where none stands there it is 0.
 fn epoch_in(epochs: &[u64], place: usize) -> u64
     ensures { result ≡ get_or epochs.now place 0 }
@@ -103,6 +126,13 @@ impl Lanes {
         } else {
             None
         }
+    }
+
+    /// The numbers of lanes that stand for the values of a column, behind others, where such are held.
+    pub fn numbers(&self, column: usize, before: Vec<i64>) -> Result<Option<Vec<i64>>, AllocError>
+        ensures { IfOk result (λ o. IfSome o (λ v. map number_value v.items ≡ map number_value before.items ++ column_values column self.now)) }
+    {
+        numbers_of(self.columns.as_slice(), column, self.len(), before)
     }
 
     /// The value of the row at a place in a column, where it is a word that is lent.

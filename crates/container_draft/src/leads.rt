@@ -1,13 +1,17 @@
 //! Three numbers of a row, by which the order of a container mostly tells it from another one without a look at its values.
 
-ghost use Rattle.std.specs.Prelude.{◌≡◌, slice_index_or};
+ghost use Rattle.std.specs.Prelude.{◌≡◌, map, slice_index_or, IfSome};
+ghost use Rattle.block_codec.specs.Held.{number_value};
 ghost use Rattle.col_value.specs.declared.value.Value.TheVariants.{Null};
+ghost use Rattle.ros_container.specs.Rows.{column_values};
 ghost use Rattle.container_draft.specs.Leads.{first_but, first_key, is_either, key_but, keys_of, lead_of, value_at};
+ghost use Rattle.container_draft.specs.Placed.{asked_at};
 ghost use Rattle.container_draft.specs.Ranks.{far_rank, is_far, is_near, near_rank};
 ghost use Rattle.container_draft.specs.Spots.{asked_on};
 
 use crate::ranks::{Far, Near, far_number, far_rank, near_number, near_rank};
-use crate::rows::Spot;
+use crate::rows::{Rows, Spot};
+use col_value::Value;
 
 /// The columns by which rows are told apart first.
 #[derive(Clone, Copy)]
@@ -83,12 +87,9 @@ fn far_in(spot: &Spot, column: usize) -> Far
     ensures at { result.at ≡ far_rank (value_at (asked_on spot.now).row column) }
     ensures exact { result.exact ≡ is_far (value_at (asked_on spot.now).row column) }
 {
-    match spot.number(column) {
-        Some(n) => far_number(n),
-        None => match spot.lent(column) {
-            Some(value) => far_rank(value),
-            None => far_rank(spot.cell(column).value()),
-        },
+    match spot.lent(column) {
+        Some(value) => far_rank(value),
+        None => far_rank(spot.cell(column).value()),
     }
 }
 
@@ -96,20 +97,70 @@ fn near_in(spot: &Spot, column: usize) -> Near
     ensures at { result.at ≡ near_rank (value_at (asked_on spot.now).row column) }
     ensures exact { result.exact ≡ is_near (value_at (asked_on spot.now).row column) }
 {
-    match spot.number(column) {
-        Some(n) => near_number(n),
-        None => match spot.lent(column) {
-            Some(value) => near_rank(value),
-            None => near_rank(spot.cell(column).value()),
-        },
+    match spot.lent(column) {
+        Some(value) => near_rank(value),
+        None => near_rank(spot.cell(column).value()),
     }
 }
 
-/// The lead of a row.
-pub fn lead_of(spot: &Spot, keys: Keys) -> Lead
-    ensures { result ≡ lead_of keys (asked_on spot.now).row }
+fn far_on(lane: &[i64], place: usize) -> Far
+    ensures at { result.at ≡ far_rank (slice_index_or (map number_value lane.now) place Null) }
+    ensures exact { result.exact ≡ is_far (slice_index_or (map number_value lane.now) place Null) }
 {
-    let first = far_in(spot, keys.first);
+    match lane.get(place) {
+        Some(n) => far_number(*n),
+        None => far_rank(&Value::Null),
+    }
+}
+
+fn near_on(lane: &[i64], place: usize) -> Near
+    ensures at { result.at ≡ near_rank (slice_index_or (map number_value lane.now) place Null) }
+    ensures exact { result.exact ≡ is_near (slice_index_or (map number_value lane.now) place Null) }
+{
+    match lane.get(place) {
+        Some(n) => near_number(*n),
+        None => near_rank(&Value::Null),
+    }
+}
+
+/// The numbers of the keys' columns, where their lanes hold such.
+#[derive(Drop)]
+pub struct KeyLanes {
+    pub first: Option<Vec<i64>>,
+    pub second: Option<Vec<i64>>,
+    pub third: Option<Vec<i64>>,
+}
+
+fn far_at(lane: &Option<Vec<i64>>, rows: &Rows, place: usize, column: usize) -> Far
+    requires { IfSome lane.now (λ v. map number_value v.items ≡ column_values column rows.now) }
+    ensures at { result.at ≡ far_rank (value_at (asked_at rows.now place).row column) }
+    ensures exact { result.exact ≡ is_far (value_at (asked_at rows.now place).row column) }
+{
+    match lane {
+        Some(lane) => far_on(lane.as_slice(), place),
+        None => far_in(&rows.spot(place), column),
+    }
+}
+
+fn near_at(lane: &Option<Vec<i64>>, rows: &Rows, place: usize, column: usize) -> Near
+    requires { IfSome lane.now (λ v. map number_value v.items ≡ column_values column rows.now) }
+    ensures at { result.at ≡ near_rank (value_at (asked_at rows.now place).row column) }
+    ensures exact { result.exact ≡ is_near (value_at (asked_at rows.now place).row column) }
+{
+    match lane {
+        Some(lane) => near_on(lane.as_slice(), place),
+        None => near_in(&rows.spot(place), column),
+    }
+}
+
+/// The lead of the row at a place.
+pub fn lead_at(lanes: &KeyLanes, rows: &Rows, place: usize, keys: Keys) -> Lead
+    requires first { IfSome lanes.now.first (λ v. map number_value v.items ≡ column_values keys.first rows.now) }
+    requires second { IfSome lanes.now.second (λ v. map number_value v.items ≡ column_values keys.second rows.now) }
+    requires third { IfSome lanes.now.third (λ v. map number_value v.items ≡ column_values keys.third rows.now) }
+    ensures { result ≡ lead_of keys (asked_at rows.now place).row }
+{
+    let first = far_at(&lanes.first, rows, place, keys.first);
     if !first.exact {
         return Lead {
             first: first.at,
@@ -117,9 +168,9 @@ pub fn lead_of(spot: &Spot, keys: Keys) -> Lead
             third: 0,
         };
     }
-    let second = near_in(spot, keys.second);
+    let second = near_at(&lanes.second, rows, place, keys.second);
     let third = if second.exact {
-        near_in(spot, keys.third).at
+        near_at(&lanes.third, rows, place, keys.third).at
     } else {
         0
     };

@@ -1,8 +1,9 @@
 //! Rows in memory, and the places where they are held.
 
-ghost use Rattle.std.specs.Prelude.{◌≡◌, ◌≤◌, ◌+◌, ◌++◌, length, slice_index_or, IfSome, OnOk};
+ghost use Rattle.std.specs.Prelude.{◌≡◌, ◌≤◌, ◌+◌, ◌++◌, length, map, slice_index_or, IfOk, IfSome, OnOk};
 ghost use Rattle.block_codec.specs.Held.{cell_value, number_value};
 ghost use Rattle.col_value.specs.declared.value.Value.TheVariants.{Null};
+ghost use Rattle.ros_container.specs.Rows.{column_values};
 ghost use Rattle.container_draft.specs.Lanes.{joined};
 ghost use Rattle.container_draft.specs.Placed.{asked_at};
 ghost use Rattle.container_draft.specs.Spots.{asked_on};
@@ -72,6 +73,20 @@ fn count_on(first: usize, parts: &[Lanes]) -> usize
         count = count.saturating_add(lanes.len());
     }
     count
+}
+
+/// The numbers of a column of containers' rows, one container after the other, where all hold such.
+fn numbers_in(alloc: Global, parts: &[Lanes], column: usize) -> Result<Option<Vec<i64>>, AllocError>
+    ensures { IfOk result (λ o. IfSome o (λ v. map number_value v.items ≡ column_values column (joined parts.now))) }
+{
+    let mut out = Vec::with_capacity(alloc, count_on(0, parts))?;
+    for lanes in parts {
+        match lanes.numbers(column, out)? {
+            Some(more) => out = more,
+            None => return Ok(None),
+        }
+    }
+    Ok(Some(out))
 }
 
 impl<'a> Spot<'a> {
@@ -154,6 +169,16 @@ impl Rows {
     {
         self.parts.push(lanes)?;
         Ok(())
+    }
+
+    /// The numbers of lanes that stand for the values of a column, where such are held.
+    pub fn numbers(&self, alloc: Global, column: usize) -> Result<Option<Vec<i64>>, AllocError>
+        ensures { IfOk result (λ o. IfSome o (λ v. map number_value v.items ≡ column_values column self.now)) }
+    {
+        if !self.own.is_empty() {
+            return Ok(None);
+        }
+        numbers_in(alloc, self.parts.as_slice(), column)
     }
 
     /// The row at a place.

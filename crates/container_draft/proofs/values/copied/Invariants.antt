@@ -4,7 +4,7 @@ use Rattle.std.specs.List.{All}
 use Rattle.col_value.specs.Order.{IsValue}
 use Rattle.ros_container.specs.Rows.{column_values}
 use Rattle.container_draft.specs.Placed.{all_at}
-use Rattle.container_draft.proofs.values.column_values.Given as goal
+use Rattle.container_draft.proofs.values.copied.Given as goal
 
 abbrev pub invariant-loop-place : goal.invariant-loop-place
 invariant-loop-place l = record {
