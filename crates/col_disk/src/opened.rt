@@ -11,6 +11,7 @@ const MOST: usize = 128;
 
 // How many bytes are read at once where the file has so many: of one that is read here and there, and at most of one that is read on.
 const LEAST: u64 = 8_192;
+
 const AHEAD: u64 = 65_536;
 
 /// A file that is open for reading, its length, the bytes that were read last, from a place on, and how many were to be read then.
