@@ -1,6 +1,6 @@
 //! Rows that go to a run of the query, one by one.
 
-ghost use Rattle.std.specs.Prelude.{◌≡◌, ◌∷◌, true, false, List, [], Some, length, map, IfOk, IfErr, OnOk};
+ghost use Rattle.std.specs.Prelude.{◌≡◌, ◌<◌, ◌∷◌, true, false, List, [], Some, length, map, IfOk, IfErr, OnOk};
 ghost use Rattle.std.specs.List.{All};
 ghost use Rattle.common_laws.specs.Causes.{HasCause};
 ghost use Rattle.common_laws.specs.Maps.{Contents};
@@ -21,12 +21,15 @@ ghost use Rattle.store_query.specs.Lessening.{asked};
 
 use col_disk::{Disk, StoreFault};
 use col_value::{Row, Value};
+use common_laws::Steps;
 use exec_scan::{Batch, Scan};
 use proj_store::ProjStore;
 use query_run::Run;
 use row_bounds::Bound;
 use sql_bound::BoundQuery;
 use std::alloc::{AllocError, Global};
+use std::marker::Brand;
+use std::sync::ledger::{Blank, Ledger};
 use wanted_rows::Wants;
 use write_store::Inserted;
 
@@ -160,10 +163,52 @@ pub fn feed_scan<D: Disk>(
     ensures moved { Moved ⟦<D as Disk>⟧ NoName NoName disk.old disk.new }
     ensures cause { HasCause StoreFault.Disk (D.faults disk.old) (D.faults disk.new) result }
 {
+    feed_by::<D, Brand>(
+        alloc,
+        query,
+        store,
+        epoch,
+        places,
+        bounds,
+        wants,
+        run,
+        disk,
+        Blank::new(1),
+    )
+}
+
+/// The same, counted over a blank.
+fn feed_by<D: Disk, L: Ledger>(
+    alloc: Global,
+    query: &BoundQuery,
+    store: &ProjStore,
+    epoch: u64,
+    places: Vec<Option<usize>>,
+    bounds: Vec<Bound>,
+    wants: Wants,
+    run: &mut Run,
+    disk: &mut D,
+    blank: Blank,
+) -> Result<(), StoreFault>
+    requires name { blank.name ≡ L.name }
+    requires parts { blank.parts ≡ L.parts }
+    requires some { 0 < L.parts }
+    requires bounded { IsBoundedQuery query.now }
+    requires own { AreOwn store.now.stored.entry places.items }
+    requires run { IsRunOf query.now run.old }
+    ensures fed { OnOk result ((m : Contents) → D.holds disk.old ≡ Some m → (rows : List Stamped) → Stores m store.now.stored rows → TakesLess query.now bounds.items (length places.items) (need_in wants) (map (placed places.items) (visible epoch rows)) run.old run.new) }
+    ensures run { OnOk result (IsRunOf query.now run.new) }
+    ensures unblamed { IfErr result (λ fault. (m : Contents) → D.holds disk.old ≡ Some m → (rows : List Stamped) → Stores m store.now.stored rows → IsUnblamed fault) }
+    ensures blamed { IfErr result (BlamesRows store.now.stored.entry (D.holds disk.old)) }
+    ensures kept { D.holds disk.new ≡ D.holds disk.old }
+    ensures moved { Moved ⟦<D as Disk>⟧ NoName NoName disk.old disk.new }
+    ensures cause { HasCause StoreFault.Disk (D.faults disk.old) (D.faults disk.new) result }
+{
     let mut wants = wants;
+    let mut steps = Steps::<L>::new(blank);
     let mut scan = Scan::new(epoch, places, bounds, false);
     loop {
-        let batch = match scan.next(alloc, store, disk) {
+        let batch = match scan.next(alloc, store, disk, &mut steps) {
             Ok(Some(batch)) => batch,
             Ok(None) => return Ok(()),
             Err(fault) => return Err(fault),

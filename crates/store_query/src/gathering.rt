@@ -17,10 +17,13 @@ ghost use Rattle.store_query.specs.Feeding.{Passes};
 
 use col_disk::{Disk, StoreFault};
 use col_value::Row;
+use common_laws::Steps;
 use exec_scan::{Batch, Scan};
 use proj_store::ProjStore;
 use row_bounds::Bound;
 use std::alloc::{AllocError, Global};
+use std::marker::Brand;
+use std::sync::ledger::{Blank, Ledger};
 
 /// The row of a batch at a place.
 fn row_at(alloc: Global, batch: &Batch, place: usize) -> Result<Row, AllocError>
@@ -64,10 +67,36 @@ pub fn scan_within<D: Disk>(
     ensures moved { Moved ⟦<D as Disk>⟧ NoName NoName disk.old disk.new }
     ensures cause { HasCause StoreFault.Disk (D.faults disk.old) (D.faults disk.new) result }
 {
+    scan_by::<D, Brand>(alloc, store, epoch, places, bounds, disk, Blank::new(1))
+}
+
+/// The same, counted over a blank.
+fn scan_by<D: Disk, L: Ledger>(
+    alloc: Global,
+    store: &ProjStore,
+    epoch: u64,
+    places: Vec<Option<usize>>,
+    bounds: Vec<Bound>,
+    disk: &mut D,
+    blank: Blank,
+) -> Result<Vec<Row>, StoreFault>
+    requires name { blank.name ≡ L.name }
+    requires parts { blank.parts ≡ L.parts }
+    requires some { 0 < L.parts }
+    requires own { AreOwn store.now.stored.entry places.items }
+    ensures passes { IfOk result (λ v. (m : Contents) → D.holds disk.old ≡ Some m → (rows : List Stamped) → Stores m store.now.stored rows → Passes bounds.items (length places.items) (map (placed places.items) (visible epoch rows)) v.items) }
+    ensures valid { IfOk result (λ v. All IsRow v.items) }
+    ensures unblamed { IfErr result (λ fault. (m : Contents) → D.holds disk.old ≡ Some m → (rows : List Stamped) → Stores m store.now.stored rows → IsUnblamed fault) }
+    ensures blamed { IfErr result (BlamesRows store.now.stored.entry (D.holds disk.old)) }
+    ensures kept { D.holds disk.new ≡ D.holds disk.old }
+    ensures moved { Moved ⟦<D as Disk>⟧ NoName NoName disk.old disk.new }
+    ensures cause { HasCause StoreFault.Disk (D.faults disk.old) (D.faults disk.new) result }
+{
+    let mut steps = Steps::<L>::new(blank);
     let mut scan = Scan::new(epoch, places, bounds, false);
     let mut out = Vec::new(alloc);
     loop {
-        let batch = match scan.next(alloc, store, disk) {
+        let batch = match scan.next(alloc, store, disk, &mut steps) {
             Ok(Some(batch)) => batch,
             Ok(None) => return Ok(out),
             Err(fault) => return Err(fault),

@@ -8,7 +8,7 @@ use Rattle.exec_scan.specs.Scanning.{Gives, IsAtHand, IsScanOf, Place}
 use Rattle.wanted_rows.specs.Wanted.{need_in}
 use Rattle.store_query.proofs.Fed.{streamed_all, streamed_more, streamed_none}
 use Rattle.store_query.proofs.Gathered.{asks_on, asks_start}
-use Rattle.store_query.proofs.feeding.feed_scan.Goals as goal
+use Rattle.store_query.proofs.feeding.feed_by.Goals as goal
 
 pub loop-batch-init : goal.loop-batch-init
 loop-batch-init g c = record {

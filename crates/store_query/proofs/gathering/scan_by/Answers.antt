@@ -10,12 +10,12 @@ use Rattle.proj_store.specs.Reading.{BlamesRows}
 use Rattle.exec_scan.specs.Batches.{Shown}
 use Rattle.exec_scan.specs.Scanning.{Gives, IsAtHand, IsScanOf, Place}
 use Rattle.store_query.proofs.Gathered.{asks_on, asks_start, gathered_all, gathered_more, gathered_none}
-use Rattle.store_query.proofs.gathering.scan_within.Goals as goal
+use Rattle.store_query.proofs.gathering.scan_by.Goals as goal
 
 pub loop-batch-init : goal.loop-batch-init
 loop-batch-init g c = record {
   gathered = λ m told rows stores. gathered_none m c.args.store.now.stored c.args.epoch c.args.places.items c.args.bounds.items c.new-scan.result rows c.new-out.result.items c.new-scan.ensures c.new-out.ensures.items stores;
-  scan_of = subst (λ (s : Place). IsScanOf c.args.store.now.stored.entry s) (sym c.new-scan.ensures) (record { own = c.requires; opening = tt; closed = λ none. refl });
+  scan_of = subst (λ (s : Place). IsScanOf c.args.store.now.stored.entry s) (sym c.new-scan.ensures) (record { own = c.requires.own; opening = tt; closed = λ none. refl });
   at_hand = subst (λ (s : Place). IsAtHand (g.D.Disk.holds c.args.disk.now) c.args.store.now.stored s) (sym c.new-scan.ensures) tt;
   asks = asks_start c.args.epoch c.args.places.items c.args.bounds.items c.new-scan.result c.new-scan.ensures;
   valid = subst (λ (xs : List (List Value)). All IsRow xs) (sym c.new-out.ensures.items) (All-nil IsRow);
