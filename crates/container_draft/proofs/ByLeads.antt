@@ -2,10 +2,10 @@
 use Rattle.std.proofs.Common.{◌≡◌, ℕ, zero, suc, ◌+◌, ◌^◌, ◌<◌, ◌≤◌, ◌&&◌, ◌||◌, Bool, true, false, cond, List, [], ◌∷◌, ◌++◌, length, map, take, get_or, ℤ, pos, ◌<ℤ◌, ◌≤ℤ◌, refl, sym, ap, ap₂, ◌∙◌, arith, subst}
 use Rattle.std.specs.Prelude.{◌==◌}
 use Rattle.std.specs.Ordering.{int_cmp, is_lt, nat_cmp, ordering_reverse, ordering_then, MatchOrdering}
-use Rattle.std.specs.Cmp.{IsTotalOrder, int_cmp_total, int_ranks, on_total, then_total, tied_itself}
+use Rattle.std.specs.Cmp.{ranks, IsTotalOrder, int_cmp_total, int_ranks, on_total, then_total, tied_itself}
 use Rattle.std.specs.List.{All}
 use Rattle.std.specs.List.Sorted.{IsPermutation, IsSorted}
-use Rattle.std.proofs.lemmas.List.{get_or-map, length-map, map-append, take_more}
+use Rattle.std.proofs.lemmas.List.{get_or_default, get_or-map, length-map, map-append, take_more}
 use Rattle.std.proofs.lemmas.List.Elements.{All-push, All-weaker}
 use Rattle.std.proofs.lemmas.List.Sorted.{All-permutation}
 use Rattle.std.proofs.lemmas.Map.Views.{All-map-IsPermutation}
@@ -28,8 +28,11 @@ use Rattle.container_draft.specs.declared.leads.Keys.{Keys}
 use Rattle.container_draft.specs.declared.leads.Lead.{Lead}
 use Rattle.container_draft.specs.Led.{place_of}
 use Rattle.container_draft.specs.Placed.{asked_at}
-use Rattle.container_draft.specs.Ranks.{is_exact, is_far, is_near, near_rank, rank_of}
+use Rattle.container_draft.specs.Ranks.{far_rank, is_exact, is_far, is_near, near_rank, rank_of}
 use Rattle.container_draft.specs.Leads.{first_but, first_key, first_lead, is_either, key_but, keys_of, second_key, second_lead, third_key, third_lead, led_cmp, value_at, IsLed}
+use Rattle.block_codec.specs.Held.{number_value}
+use Rattle.ros_container.specs.Rows.{column_values}
+use Rattle.container_draft.proofs.Gathering.{at_row}
 use Rattle.container_draft.proofs.Ranking.{exact_same, rank_less}
 
 -- ---- the first column in which two rows differ tells how they stand
@@ -252,3 +255,48 @@ led_more k rows leds next l is led before = subst (All (IsLed k rows)) (sym is) 
 pub places_more : (i : ℕ) (places : List ℕ) (leds next : List Led) (l : Led) → next ≡ leds ++ l ∷ [] → l.place ≡ get_or places i 0 → i < length places → map place_of leds ≡ take i places → map place_of next ≡ take (i + 1) places
 places_more i places leds next l is here lt before =
     ap (map place_of) is ∙ map-append place_of leds (l ∷ []) ∙ ap₂ (λ (xs : List ℕ) (x : ℕ). xs ++ x ∷ []) before here ∙ sym (take_more places i 0 lt)
+
+-- ---- places whose first keys rise
+
+-- the first key of the row at a place has this rank
+abbrev pub HasFar : Projection → List Asked → ℕ → ℤ → Type 0
+HasFar shape rows i rank = rank ≡ far_rank (value_at (asked_at rows i).row (first_key shape.sort))
+
+-- places up to a number of them stand in order, and the last of these has this rank
+pub record RiseTo (shape : Projection) (rows : List Asked) (places : List ℕ) (i : ℕ) (before : ℤ) : Type 0 where
+  pub last : (k : ℕ) → k + 1 ≡ i → HasFar shape rows (get_or places k 0) before
+  pub sorted : (k : ℕ) → k + 1 < i → is_lt (container_cmp shape (asked_at rows (get_or places (k + 1) 0)) (asked_at rows (get_or places k 0))) ≡ false
+
+rise_less : (shape : Projection) (rows : List Asked) (i j : ℕ) (x y : ℤ) → HasFar shape rows i x → HasFar shape rows j y → x <ℤ y → is_lt (container_cmp shape (asked_at rows j) (asked_at rows i)) ≡ false
+rise_less shape rows i j x y here there lt =
+    let a = asked_at rows i in
+    let b = asked_at rows j in
+    let less : container_cmp shape a b ≡ Less = container_less shape a b (first_less shape.sort a.row b.row (subst (λ (z : ℤ). z <ℤ first_lead (keys_of shape.sort) b.row) here (subst (λ (z : ℤ). x <ℤ z) there lt))) in
+    ap is_lt ((container_total shape).antisymm b a ∙ ap ordering_reverse less)
+
+pub rise_none : (shape : Projection) (rows : List Asked) (places : List ℕ) (before : ℤ) → RiseTo shape rows places 0 before
+rise_none shape rows places before = record { last = λ k e. absurd (omega (arith, e)); sorted = λ k lt. absurd (omega (arith, lt)) }
+
+pub rise_more : (shape : Projection) (rows : List Asked) (places : List ℕ) (i : ℕ) (before at : ℤ) → HasFar shape rows (get_or places i 0) at → before <ℤ at → RiseTo shape rows places i before → RiseTo shape rows places (i + 1) at
+rise_more shape rows places i before at here lt rise = record {
+  last = λ k e. let is : k ≡ i = omega (arith, e) in subst (λ n. HasFar shape rows (get_or places n 0) at) (sym is) here;
+  sorted = λ k inside. by k (nat_cmp (k + 1) i) (ranks (k + 1) i) inside;
+}
+  where
+    by : (k : ℕ) (o : Ordering) → MatchOrdering o (k + 1 < i) (k + 1 ≡ i) (i < k + 1) → k + 1 < i + 1 → is_lt (container_cmp shape (asked_at rows (get_or places (k + 1) 0)) (asked_at rows (get_or places k 0))) ≡ false
+    by k Less h inside = rise.sorted k h
+    by k Equal h inside = rise_less shape rows (get_or places k 0) (get_or places (k + 1) 0) before at (rise.last k h) (subst (λ n. HasFar shape rows (get_or places n 0) at) (sym h) here) lt
+    by k Greater h inside = absurd (omega (arith, h, inside))
+
+pub rise_all : (shape : Projection) (rows : List Asked) (places : List ℕ) (i : ℕ) (before : ℤ) → length places ≤ i → RiseTo shape rows places i before → IsSorted (λ i j. container_cmp shape (asked_at rows i) (asked_at rows j)) places
+rise_all shape rows places i before le rise =
+    λ k d low inside.
+    let this = get_or_default places k d 0 (omega (arith, inside)) in
+    let next = get_or_default places (k + 1) d 0 inside in
+    ap₂ (λ (x y : ℕ). is_lt (container_cmp shape (asked_at rows x) (asked_at rows y))) next this ∙ rise.sorted k (omega (arith, inside, le))
+
+pub lane_rank : (shape : Projection) (rows : List Asked) (lane : List ℤ) (i : ℕ) (rank : ℤ) → map number_value lane ≡ column_values (first_key shape.sort) rows → rank ≡ far_rank (value_at (map number_value lane) i) → HasFar shape rows i rank
+lane_rank shape rows lane i rank is here = here ∙ ap (λ (vs : List Value). far_rank (value_at vs i)) is ∙ ap far_rank (at_row (first_key shape.sort) rows i)
+
+pub rise_on : (shape : Projection) (rows : List Asked) (places : List ℕ) (i : ℕ) (before at next : ℤ) → HasFar shape rows (get_or places i 0) at → before <ℤ next → next ≡ at → RiseTo shape rows places i before → RiseTo shape rows places (i + 1) next
+rise_on shape rows places i before at next here lt same rise = rise_more shape rows places i before next (same ∙ here) lt rise

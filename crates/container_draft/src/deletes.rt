@@ -21,7 +21,7 @@ fn padded(alloc: Global, dels: &[Option<u64>], count: usize) -> Result<Vec<Optio
 {
     let mut out = Vec::with_capacity(alloc, count)?;
     for place in 0..count {
-        out.push(del_at(dels, place))?;
+        out.push_reserved(del_at(dels, place));
     }
     Ok(out)
 }

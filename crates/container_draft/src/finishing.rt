@@ -30,24 +30,19 @@ use std::alloc::{AllocError, Global};
 // Numbers are drawn below this one.
 const MOST_NUMBERS: u64 = 1 << 61;
 
-fn least_epoch(rows: &Rows, places: &[usize]) -> u64
-    ensures { All (λ i. result ≤ (asked_at rows.now i).ins) places.now }
+/// The least and the greatest epoch of the rows at some places.
+fn epoch_bounds(rows: &Rows, places: &[usize]) -> (u64, u64)
+    ensures least { All (λ i. result.0 ≤ (asked_at rows.now i).ins) places.now }
+    ensures greatest { All (λ i. (asked_at rows.now i).ins ≤ result.1) places.now }
 {
     let mut least = u64::MAX;
-    for place in places {
-        least = least.min(epoch_at(rows, *place));
-    }
-    least
-}
-
-fn greatest_epoch(rows: &Rows, places: &[usize]) -> u64
-    ensures { All (λ i. (asked_at rows.now i).ins ≤ result) places.now }
-{
     let mut greatest: u64 = 0;
     for place in places {
-        greatest = greatest.max(epoch_at(rows, *place));
+        let epoch = epoch_at(rows, *place);
+        least = least.min(epoch);
+        greatest = greatest.max(epoch);
     }
-    greatest
+    (least, greatest)
 }
 
 /// The entry of a container of the rows at some places, none of them deleted, which stores so many columns.
@@ -58,11 +53,12 @@ fn entry_of(base: u64, rows: &Rows, places: &[usize], level: u32, columns: usize
     ensures level { result.level ≡ level }
     ensures within { AreWithin result (all_at rows.now places.now) }
 {
+    let (least_epoch, greatest_epoch) = epoch_bounds(rows, places);
     Container {
         base,
         rows: places.len() as u64,
-        least_epoch: least_epoch(rows, places),
-        greatest_epoch: greatest_epoch(rows, places),
+        least_epoch,
+        greatest_epoch,
         level,
         marks: None,
         greatest_mark: 0,

@@ -59,7 +59,7 @@ pub fn deletes_at(
 {
     let mut out = Vec::with_capacity(alloc, places.len())?;
     for place in places {
-        out.push(del_at(dels, *place))?;
+        out.push_reserved(del_at(dels, *place));
     }
     Ok(out)
 }

@@ -60,7 +60,8 @@ fn key_but(p: usize, q: usize, sort: &[usize]) -> usize
     first_but(p, q)
 }
 
-fn first_key(sort: &[usize]) -> usize
+/// The column by which rows are told apart first.
+pub fn first_key(sort: &[usize]) -> usize
     ensures { result ≡ first_key sort.now }
 {
     match sort.first() {
@@ -103,7 +104,8 @@ fn near_in(spot: &Spot, column: usize) -> Near
     }
 }
 
-fn far_on(lane: &[i64], place: usize) -> Far
+/// The rank of the first key of the row at a place, by the key's lane.
+pub fn far_on(lane: &[i64], place: usize) -> Far
     ensures at { result.at ≡ far_rank (slice_index_or (map number_value lane.now) place Null) }
     ensures exact { result.exact ≡ is_far (slice_index_or (map number_value lane.now) place Null) }
 {
