@@ -29,3 +29,6 @@ pub mod Stepping
 pub mod LeastNames
 pub mod Named
 pub mod Purged
+pub mod Shown
+pub mod SameTables
+pub mod Rooted

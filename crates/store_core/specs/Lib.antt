@@ -9,6 +9,8 @@ pub mod Jobs
 pub mod Waiting
 pub mod Stepping
 pub mod Named
+pub mod Rooted
+pub mod Shown
 pub use Rattle.row_matching.specs.Matching
 pub use Rattle.store_commit.specs.Seen
 pub use Rattle.store_opening.specs.Opening

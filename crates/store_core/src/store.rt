@@ -63,6 +63,7 @@ mod looking;
 mod marking;
 mod mover;
 mod moving;
+mod rooting;
 mod shaping;
 mod stepping;
 

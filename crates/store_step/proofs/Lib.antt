@@ -11,4 +11,5 @@ mod Served
 mod Rows
 mod Copied
 pub mod Named
+pub use Rattle.store_core.proofs.Shown
 pub use Rattle.store_core.proofs.Unblamed

@@ -11,4 +11,5 @@ pub use Rattle.store_core.specs.Running
 pub use Rattle.store_core.specs.Events
 pub use Rattle.store_core.specs.Cuts
 pub use Rattle.store_core.specs.Named
+pub use Rattle.store_core.specs.Shown
 pub use Rattle.store_core.specs.Opening

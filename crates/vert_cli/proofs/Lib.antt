@@ -8,3 +8,4 @@ pub mod FewTexts
 pub mod Audited
 pub mod Serving
 pub mod Naming
+pub mod Showing

@@ -16,13 +16,16 @@ use Rattle.run_words.specs.Words.{Source, from_file, generated, ScriptRun, Wante
 use Rattle.generated_load.specs.Load.{generated_files, generated_script}
 use Rattle.vert_cli.specs.declared.faults.RunFault.{RunFault}
 use Rattle.vert_cli.specs.declared.faults.Status.{Status}
-use Rattle.vert_cli.specs.Statuses.{status_of, status_of_end, NeverBegins}
+use Rattle.vert_cli.specs.Statuses.{status_of, status_of_end, status_of_run, NeverBegins}
 use Rattle.vert_cli.specs.Runs.{setting_of, StopsInNext}
 use Rattle.vert_cli.specs.Asked.{Asked, misused, audit, absent, large, statements, is_within_limits, asked_by, asked_from, asked}
 use Rattle.vert_cli.specs.Audits.{IsAuditStatus}
+use Rattle.vert_cli.specs.Blamed.{IsToldAs}
 use Rattle.vert_cli.specs.Ends.{IsIdle, IsOpenable, RunBegins, RunEnds, RunLeaves, Counts, IsAnswered, RanAs}
+use Rattle.vert_cli.specs.Shown.{RunShows}
 use Rattle.vert_cli.proofs.Cuts.{leaves_still}
 use Rattle.vert_cli.proofs.FewTexts.{generated_within}
+use Rattle.vert_cli.proofs.Naming.{told_over}
 use Rattle.vert_cli.proofs.Limits.{within_limits, over_bytes, over_many, over_limits, in_limits}
 
 -- ---- the status of a run that began
@@ -85,7 +88,7 @@ not_begun status (inl is) = ap is_begun is
 not_begun status (inr (inl is)) = ap is_begun is
 not_begun status (inr (inr is)) = ap is_begun is
 
-true_false : true ≡ false → ⊥
+pub true_false : true ≡ false → ⊥
 true_false is = absurd (cc)
 
 pub never_begun : (ended : Result Bool RunFault) (status : Status) → status ≡ status_of_end ended → NeverBegins status → ⊥
@@ -132,6 +135,7 @@ short disk what now told = record {
   begins = short_begins what now told;
   ends = λ setting texts d is openable. inr (record { why = inl refl; untaken = refl; left = λ x image. inl image });
   any_moment = λ setting texts d is openable. still_leaves disk setting d texts now told told;
+  shown = λ setting texts d is openable halted none done. absurd (cc);
 }
 
 -- so does a file that couldn't be read, where a script is
@@ -148,6 +152,7 @@ unread disk setting held now told = record {
   begins = unread_begins setting held now told;
   ends = λ other texts d is openable. inr (record { why = inr (inr (refl, refl)); untaken = refl; left = λ x image. inl image });
   any_moment = λ other texts d is openable. still_leaves disk other d texts now told told;
+  shown = λ other texts d is openable halted none done. absurd (cc);
 }
 
 absent_run : {D : Type 0} (disk : Ghosts D) (now : D) (told : Option (List ℕ)) → RanAs Status.NoScript disk absent now now told told
@@ -155,6 +160,7 @@ absent_run disk now told = record {
   begins = (inl refl, idle now told);
   ends = λ setting texts d is openable. absurd (cc);
   any_moment = λ setting texts d is openable. still_leaves disk setting d texts now told told;
+  shown = λ setting texts d is openable halted none done. absurd (cc);
 }
 
 pub no_script : {D : Type 0} (disk : Ghosts D) (setting : Setting) (held : Option (List ℕ)) (now : D) (told : Option (List ℕ)) → held ≡ None → RanAs Status.NoScript disk (asked_by setting held) now now told told
@@ -165,6 +171,7 @@ large_run disk now told = record {
   begins = (inl refl, idle now told);
   ends = λ setting texts d is openable. absurd (cc);
   any_moment = λ setting texts d is openable. still_leaves disk setting d texts now told told;
+  shown = λ setting texts d is openable halted none done. absurd (cc);
 }
 
 pub too_large : {D : Type 0} (disk : Ghosts D) (what : Asked) (now : D) (told : Option (List ℕ)) → what ≡ large → RanAs Status.TooLarge disk what now now told told
@@ -175,35 +182,39 @@ misused_run disk now told = record {
   begins = (inl refl, idle now told);
   ends = λ setting texts d is openable. absurd (cc);
   any_moment = λ setting texts d is openable. still_leaves disk setting d texts now told told;
+  shown = λ setting texts d is openable halted none done. absurd (cc);
 }
 
 -- ---- an audit
 
 audit_run : {D : Type 0} (disk : Ghosts D) (old now : D) (before after : Option (List ℕ)) (status : Status) → IsAuditStatus status → RanAs status disk audit old now before after
-audit_run disk old now before after status is = record { begins = is; ends = λ setting texts d same openable. absurd (cc); any_moment = λ setting texts d same openable. absurd (cc) }
+audit_run disk old now before after status is = record { begins = is; ends = λ setting texts d same openable. absurd (cc); any_moment = λ setting texts d same openable. absurd (cc); shown = λ setting texts d same openable. absurd (cc) }
 
 -- ---- a script that is there
 
 served_run : {D : Type 0} (disk : Ghosts D) (setting : Setting) (texts : List (List ℕ)) (old now : D) (before after : Option (List ℕ)) (ended : Result Bool RunFault)
     → ((d : Database) → IsOpenable disk old d → RunEnds (status_of_end ended) disk setting d texts old now before after)
     → ((d : Database) → IsOpenable disk old d → Leaves disk (RunLeaves disk old setting d texts before after) old now)
+    → ((d : Database) → IsOpenable disk old d → RunShows (status_of_end ended) disk setting texts now)
     → RanAs (status_of_end ended) disk (statements setting texts) old now before after
-served_run disk setting texts old now before after ended ends leaves = record {
+served_run disk setting texts old now before after ended ends leaves shown = record {
   begins = (ended, refl);
   ends = λ other others d is openable. of_same (λ s ts. RunEnds (status_of_end ended) disk s d ts old now before after) setting other texts others is (ends d openable);
   any_moment = λ other others d is openable. of_same (λ s ts. Leaves disk (RunLeaves disk old s d ts before after) old now) setting other texts others is (leaves d openable);
+  shown = λ other others d is openable. of_same (λ s ts. RunShows (status_of_end ended) disk s ts now) setting other texts others is (shown d openable);
 }
 
 pub served : {D : Type 0} (disk : Ghosts D) (setting : Setting) (script : List ℕ) (texts : List (List ℕ)) (old now : D) (before after : Option (List ℕ)) (status : Status) (ended : Result Bool RunFault)
     → length script ≤ 67108864 → length texts ≤ 4096 → status ≡ status_of_end ended → texts ≡ statement_texts script
     → ((d : Database) → IsOpenable disk old d → RunEnds (status_of_end ended) disk setting d texts old now before after)
     → ((d : Database) → IsOpenable disk old d → Leaves disk (RunLeaves disk old setting d texts before after) old now)
+    → ((d : Database) → IsOpenable disk old d → RunShows (status_of_end ended) disk setting texts now)
     → RanAs status disk (asked_by setting (Some script)) old now before after
-served disk setting script texts old now before after status ended bytes few is texts_are ends leaves =
+served disk setting script texts old now before after status ended bytes few is texts_are ends leaves shown =
     let within = within_limits script bytes (subst (λ (ts : List (List ℕ)). length ts ≤ 4096) texts_are few) in
     subst (λ (w : Asked). RanAs status disk w old now before after) (ap (statements setting) texts_are ∙ sym (in_limits setting script within))
     (subst (λ (s : Status). RanAs s disk (statements setting texts) old now before after) (sym is)
-    (served_run disk setting texts old now before after ended ends leaves))
+    (served_run disk setting texts old now before after ended ends leaves shown))
 
 -- ---- the script is what the files have
 
@@ -302,6 +313,39 @@ none_asked words content setting texts none asks =
 none_blamed : {D : Type 0} (disk : Ghosts D) (setting : Setting) (mid : State) (rest : List (List ℕ)) (now : D) (before after : Option (List ℕ)) (q : ℕ) → StopsInNext disk setting mid rest now before after (RunFault.Damaged q) → ⊥
 none_blamed disk setting mid [] now before after q (halts, none) = none
 none_blamed disk setting mid (text ∷ more) now before after q none = none
+
+never_stopped : (refused : Bool) (q : ℕ) → Status.Damaged q ≡ status_of_run refused → ⊥
+never_stopped true q is = absurd (cc)
+never_stopped false q is = absurd (cc)
+
+stops_unnamed : {D : Type 0} (disk : Ghosts D) (setting : Setting) (mid : State) (rest : List (List ℕ)) (now : D) (before after : Option (List ℕ)) (q : ℕ) (fault : RunFault) → Status.Damaged q ≡ status_of fault
+    → StopsInNext disk setting mid rest now before after fault → ⊥
+stops_unnamed disk setting mid rest now before after q RunFault.Sink is stops = absurd (cc)
+stops_unnamed disk setting mid rest now before after q RunFault.Disk is stops = absurd (cc)
+stops_unnamed disk setting mid rest now before after q (RunFault.Damaged n) is stops = none_blamed disk setting mid rest now before after n stops
+stops_unnamed disk setting mid rest now before after q RunFault.Memory is stops = absurd (cc)
+stops_unnamed disk setting mid rest now before after q RunFault.Read is stops = absurd (cc)
+stops_unnamed disk setting mid rest now before after q RunFault.Halted is stops = absurd (cc)
+
+-- no run over a folder that reopens names a file
+pub run_unnamed : {D : Type 0} (disk : Ghosts D) (setting : Setting) (d : Database) (texts : List (List ℕ)) (old now : D) (before after : Option (List ℕ)) (q : ℕ) → RunEnds (Status.Damaged q) disk setting d texts old now before after → ⊥
+run_unnamed disk setting d texts old now before after q (inl (start, starts, inl ran)) = never_stopped ran.refused q ran.status_is
+run_unnamed disk setting d texts old now before after q (inl (start, starts, inr ran)) = stops_unnamed disk setting ran.mid (drop ran.count texts) now ran.between after q ran.fault ran.status_is ran.stops
+run_unnamed disk setting d texts old now before after q (inr none) = by none.why
+  where
+    by : (Status.Damaged q ≡ Status.Memory) ⊎ ((Status.Damaged q ≡ Status.DiskFault) ⊎ ((Status.Damaged q ≡ Status.ReadFault) × (now ≡ old))) → ⊥
+    by (inl is) = absurd (cc)
+    by (inr (inl is)) = absurd (cc)
+    by (inr (inr (is, still))) = absurd (cc)
+
+-- how a run that met a fault ends, with what a crash leaves of it
+abbrev pub MetFault : {D : Type 0} → Ghosts D → Setting → Database → List (List ℕ) → D → Option (List ℕ) → Option (List ℕ) → RunFault → D → Type 0
+MetFault disk setting d texts old before after fault now = RunEnds (status_of fault) disk setting d texts old now before after × Leaves disk (RunLeaves disk old setting d texts before after) old now
+
+pub fault_told : {D : Type 0} (disk : Ghosts D) (setting : Setting) (d : Database) (texts : List (List ℕ)) (old mid new : D) (before after : Option (List ℕ)) (fault told : RunFault) → IsToldAs fault told mid new
+    → RunEnds (status_of fault) disk setting d texts old mid before after → Leaves disk (RunLeaves disk old setting d texts before after) old mid → MetFault disk setting d texts old before after told new
+fault_told disk setting d texts old mid new before after fault told is ends leaves =
+    told_over (MetFault disk setting d texts old before after) fault told mid new is (λ q met. run_unnamed disk setting d texts old mid before after q met.0) (ends, leaves)
 
 answered_stop : {D : Type 0} (disk : Ghosts D) (setting : Setting) (mid : State) (rest : List (List ℕ)) (now : D) (before after : Option (List ℕ)) (was new : Counts) (status : Status) (fault : RunFault)
     → status ≡ status_of fault → StopsInNext disk setting mid rest now before after fault

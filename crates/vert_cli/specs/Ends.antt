@@ -14,6 +14,7 @@ use Rattle.vert_cli.specs.Statuses.{status_of_run, IsEnd, IsUnread}
 use Rattle.vert_cli.specs.Asked.{Asked, misused, audit, absent, large, statements}
 use Rattle.vert_cli.specs.Audits.{IsAuditStatus}
 use Rattle.vert_cli.specs.Runs.{LeavesNow, RanToItsEnd, RanAndStopped, IsOnTheWay}
+use Rattle.vert_cli.specs.Shown.{RunShows}
 
 -- ---- whether it begins
 
@@ -88,3 +89,4 @@ pub record RanAs {D : Type 0} (status : Status) (disk : Ghosts D) (what : Asked)
   pub begins : RunBegins status what old now before after
   pub ends : (setting : Setting) (texts : List (List ℕ)) (d : Database) → what ≡ statements setting texts → IsOpenable disk old d → RunEnds status disk setting d texts old now before after
   pub any_moment : (setting : Setting) (texts : List (List ℕ)) (d : Database) → what ≡ statements setting texts → IsOpenable disk old d → Leaves disk (RunLeaves disk old setting d texts before after) old now
+  pub shown : (setting : Setting) (texts : List (List ℕ)) (d : Database) → what ≡ statements setting texts → IsOpenable disk old d → RunShows status disk setting texts now

@@ -6,6 +6,7 @@ pub mod Asked
 pub mod Audits
 pub mod Ends
 pub mod Blamed
+pub mod Shown
 pub use Rattle.db_model.specs.Loading
 pub use Rattle.db_model.specs.Mover
 pub use Rattle.db_model.specs.State

@@ -1,27 +1,29 @@
 //! A session: a running store that statements are run on, one after the other.
 #![tactic(auto)]
 
-ghost use Rattle.std.specs.Prelude.{◌≡◌, ◌≤◌, ◌||◌, ℕ, Some, false, true, IfOk, IfErr, OnOk, IsErrOf};
+ghost use Rattle.std.specs.Prelude.{◌≡◌, ◌≢◌, ◌≤◌, ◌⊎◌, ◌||◌, ℕ, Some, false, true, IfOk, IfErr, OnOk, IsErrOf};
 ghost use Rattle.common_laws.specs.Causes.{Rose, HasCause};
 ghost use Rattle.common_laws.specs.Maps.{Contents};
 ghost use Rattle.col_disk.specs.Moved.{Leaves};
-ghost use Rattle.col_disk.specs.declared.disk.StoreFault.TheVariants.{Disk as disk_failed};
+ghost use Rattle.col_disk.specs.declared.disk.StoreFault.TheVariants.{Disk as disk_failed, Damaged as damaged_held};
 ghost use Rattle.db_model.specs.Database.{Database as Logical};
 ghost use Rattle.db_model.specs.Loading.{Files as LoadFiles};
 ghost use Rattle.db_model.specs.State.{State, opened_with};
 ghost use Rattle.folder_model.specs.Reopening.{Reopens};
-ghost use Rattle.store_step.specs.Named.{NamesHeld};
+ghost use Rattle.store_step.specs.Named.{NamesHeld, NamesListed};
 ghost use Rattle.store_step.specs.Opening.{BlamesOpening, IsLeftAlone, IsOpening, IsStartOf, IsStill, WhereBlamed};
 ghost use Rattle.store_step.specs.Running.{Running, IsState};
 ghost use Rattle.store_step.specs.Steps.{Ends};
-ghost use Rattle.vert_cli.specs.declared.faults.RunFault.TheVariants.{Sink as sink_failed, Disk as stopped, Read as read_failed, Halted as halted};
-ghost use Rattle.vert_cli.specs.Blamed.{NamesInRun};
+ghost use Rattle.vert_cli.specs.declared.faults.RunFault.TheVariants.{Sink as sink_failed, Damaged as damaged_file, Disk as stopped, Read as read_failed, Halted as halted};
+ghost use Rattle.vert_cli.specs.Blamed.{IsToldAs, NamesInRun};
 ghost use Rattle.vert_cli.specs.Sessions.{halts_by, is_of_disk};
+ghost use Rattle.vert_cli.specs.Shown.{HasShown};
 ghost use Rattle.vert_cli.specs.Statements.{Executed, HasWorked, MovedOn, in_run};
 
 use crate::faults::{Outcome, RunFault, either, fault_of, fault_of_step};
 use col_disk::{Disk, StoreFault};
 use col_io::{Files, Sink, SinkFault, write_all};
+use sql_reader::one_reading;
 use std::alloc::Global;
 use std::marker::Model;
 use store_step::{Answer, Store, end, mover_step, step};
@@ -78,7 +80,7 @@ impl Session {
     ///
     /// The whole printed text is made first and written afterwards. After `Ok` the sink took exactly the text, and the refusal in the
     /// outcome is the statement's; over a state a MERGEOUT that wasn't refused leaves no up-to-date projection with four containers of a level,
-    /// and a PURGE_TABLE none of its table with a row that was deleted at or before the ancient history mark. After `Sink` the statement has taken effect, and a front of its text was taken; the sink's count of
+    /// and a PURGE_TABLE none of its table with a row that was deleted at or before the ancient history mark, and the folder shows it. After `Sink` the statement has taken effect, and a front of its text was taken; the sink's count of
     /// faults rose. After `Memory` nothing was taken and nothing changed, but that the mover's job may be dropped and for jobs of the statement that were done; or the sink was short of memory,
     /// and the statement has taken effect. After `Read` the statement is a COPY, nothing was taken and nothing changed. `Damaged` names a file of
     /// a projection of the session, which is bad in what the disk holds then; over a state none is named. Whatever a crash leaves
@@ -95,6 +97,7 @@ impl Session {
         ensures executed { (there : LoadFiles) (state : State) → F.content files.old ≡ Some there → self.old.halted ≡ false → IsState ⟦<D as Disk>⟧ self.old.running disk.old state
             → Executed ⟦<D as Disk>⟧ there text.now self.new.running disk.old disk.new result state (S.taken out.old) (S.taken out.new) }
         ensures works { HasWorked ⟦<D as Disk>⟧ text.now self.old.running self.new.running disk.old result }
+        ensures shows { (there : LoadFiles) (state : State) → F.content files.old ≡ Some there → self.old.halted ≡ false → IsState ⟦<D as Disk>⟧ self.old.running disk.old state → HasShown ⟦<D as Disk>⟧ text.now disk.new result }
         ensures named { IfErr result (NamesInRun ⟦<D as Disk>⟧ self.new.running disk.new) }
         ensures flag { self.new.halted ≡ (self.old.halted || halts_by result) }
         ensures live { IfOk result (λ outcome. self.new.halted ≡ false) }
@@ -107,6 +110,7 @@ impl Session {
         ensures only_halted { IsErrOf result halted → self.old.halted ≡ true }
         ensures always_halted { self.old.halted ≡ true → IsErrOf result halted × (self.new ≡ self.old) × (files.new ≡ files.old) × (disk.new ≡ disk.old) × (out.new ≡ out.old) }
     {
+        one_reading();
         if self.halted {
             return Err(RunFault::Halted);
         }
@@ -130,6 +134,7 @@ impl Session {
         disk: &mut D,
     ) -> Result<(), RunFault>
         ensures moved { (state : State) → self.old.halted ≡ false → IsState ⟦<D as Disk>⟧ self.old.running disk.old state → MovedOn ⟦<D as Disk>⟧ steps self.new.running disk.old disk.new result state }
+        ensures still { steps ≡ 0 → disk.new ≡ disk.old }
         ensures named { IfErr result (NamesInRun ⟦<D as Disk>⟧ self.new.running disk.new) }
         ensures flag { self.new.halted ≡ (self.old.halted || halts_by result) }
         ensures live { OnOk result (self.new.halted ≡ false) }
@@ -145,6 +150,53 @@ impl Session {
         match move_steps(alloc, &mut self.store, steps, disk) {
             Ok(()) => Ok(()),
             Err(fault) => Err(self.note(fault_of(fault))),
+        }
+    }
+
+    // The end of a script, as `close` makes it.
+    pub(crate) fn finish<D: Disk>(&mut self, alloc: Global, disk: &mut D) -> Result<(), StoreFault>
+        ensures ends { (state : State) → IsState ⟦<D as Disk>⟧ self.old.running disk.old state → Ends ⟦<D as Disk>⟧ self.new.running disk.old disk.new result state }
+        ensures named { IfErr result (NamesHeld ⟦<D as Disk>⟧ self.new.running disk.new) }
+        ensures cause { HasCause disk_failed (D.faults disk.old) (D.faults disk.new) result }
+    {
+        end(alloc, &mut self.store, disk)
+    }
+
+    // The fault that a run tells which met a file that is bad: it names the file where the disk opens to the session's tables, so that the root
+    // lists it. A disk that keeps what was written does; of any other one it says nothing but that it couldn't go on.
+    fn blame_file<D: Disk>(&self, alloc: Global, name: u64, disk: &mut D) -> RunFault
+        ensures named { NamesHeld ⟦<D as Disk>⟧ self.now.running disk.old (damaged_held name) → (q : ℕ) → result ≡ damaged_file q → NamesListed ⟦<D as Disk>⟧ q disk.new }
+        ensures sink { result ≢ sink_failed }
+        ensures read { result ≢ read_failed }
+        ensures not_halted { result ≢ halted }
+        ensures failed { result ≡ stopped → Rose (D.faults disk.old) (D.faults disk.new) }
+        ensures later { D.faults disk.old ≤ D.faults disk.new }
+    {
+        match self.store.is_rooted(alloc, disk) {
+            Ok(true) => RunFault::Damaged(name),
+            Ok(false) => RunFault::Memory,
+            Err(StoreFault::Disk) => RunFault::Disk,
+            Err(_) => RunFault::Memory,
+        }
+    }
+
+    // The fault that a run tells which ends with this one.
+    pub(crate) fn blame<D: Disk>(&self, alloc: Global, fault: RunFault, disk: &mut D) -> RunFault
+        ensures told { IsToldAs fault result disk.old disk.new }
+        ensures named { NamesInRun ⟦<D as Disk>⟧ self.now.running disk.old fault → (q : ℕ) → result ≡ damaged_file q → NamesListed ⟦<D as Disk>⟧ q disk.new }
+        ensures sink { result ≡ sink_failed → fault ≡ sink_failed }
+        ensures read { result ≡ read_failed → fault ≡ read_failed }
+        ensures not_halted { result ≡ halted → fault ≡ halted }
+        ensures failed { result ≡ stopped → (fault ≡ stopped) ⊎ Rose (D.faults disk.old) (D.faults disk.new) }
+        ensures later { D.faults disk.old ≤ D.faults disk.new }
+    {
+        match fault {
+            RunFault::Damaged(name) => self.blame_file(alloc, name, disk),
+            RunFault::Sink => RunFault::Sink,
+            RunFault::Disk => RunFault::Disk,
+            RunFault::Memory => RunFault::Memory,
+            RunFault::Read => RunFault::Read,
+            RunFault::Halted => RunFault::Halted,
         }
     }
 
@@ -169,6 +221,7 @@ fn move_steps<D: Disk>(
     disk: &mut D,
 ) -> Result<(), StoreFault>
     ensures moved { (state : State) → IsState ⟦<D as Disk>⟧ store.old disk.old state → MovedOn ⟦<D as Disk>⟧ steps store.new disk.old disk.new (in_run result) state }
+    ensures still { steps ≡ 0 → disk.new ≡ disk.old }
     ensures named { IfErr result (NamesHeld ⟦<D as Disk>⟧ store.new disk.new) }
     ensures cause { HasCause disk_failed (D.faults disk.old) (D.faults disk.new) result }
 {

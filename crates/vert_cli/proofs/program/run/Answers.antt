@@ -100,3 +100,20 @@ pub returns-in-Ok-None-clause-audit_keeps : goal.returns-in-Ok-None-clause-audit
 returns-in-Ok-None-clause-audit_keeps g c =
     let none : ◌≡◌ {A = Option Wanted} None (wanted (map string_bytes c.args.words.now)) = ap (option_map told) (sym c.in-Ok-None.field-0-is) ∙ c.in-Ok-None.ensures in
     nothing_kept g.D.Disk (wanted (map string_bytes c.args.words.now)) c.args.disk.now none
+
+pub returns-in-Ok-Some-clause-shown : goal.returns-in-Ok-Some-clause-shown
+returns-in-Ok-Some-clause-shown g c = λ setting texts d asks openable.
+    let is : ◌≡◌ {A = Option Wanted} (Some (told c.in-Ok-Some.wanted)) (wanted (map string_bytes c.args.words.now)) = ap (option_map told) (sym c.in-Ok-Some.field-0-is) ∙ c.in-Ok-Some.ensures in
+    let ran = c.run_wanted.ensures.ran (statements setting texts) (subst (λ (w : Option Wanted). asked w (g.F.Files.content c.args.files.now) ≡ Some (statements setting texts)) (sym is) asks) in
+    ran.shown setting texts d refl openable
+
+pub returns-in-Err-clause-shown : goal.returns-in-Err-clause-shown
+returns-in-Err-clause-shown g c = λ setting texts d asks openable.
+    let ran = short g.D.Disk (statements setting texts) c.args.disk.now (g.S.Sink.taken c.args.out.now) in
+    ran.shown setting texts d refl openable
+
+pub returns-in-Ok-None-clause-shown : goal.returns-in-Ok-None-clause-shown
+returns-in-Ok-None-clause-shown g c = λ setting texts d asks openable.
+    let none : ◌≡◌ {A = Option Wanted} None (wanted (map string_bytes c.args.words.now)) = ap (option_map told) (sym c.in-Ok-None.field-0-is) ∙ c.in-Ok-None.ensures in
+    let ran = asked_nothing g.D.Disk (wanted (map string_bytes c.args.words.now)) (g.F.Files.content c.args.files.now) (statements setting texts) c.args.disk.now (g.S.Sink.taken c.args.out.now) none asks in
+    ran.shown setting texts d refl openable

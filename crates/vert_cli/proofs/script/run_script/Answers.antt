@@ -6,6 +6,7 @@ use Rattle.vert_cli.specs.Runs.{setting_of}
 use Rattle.vert_cli.specs.Asked.{asked_by}
 use Rattle.vert_cli.proofs.Naming.{damaged_only}
 use Rattle.vert_cli.proofs.Serving.{disk_only, large_many, never_begun, never_misused, read_only, served, short, sink_only, too_large}
+use Rattle.vert_cli.proofs.Showing.{run_shown}
 use Rattle.vert_cli.proofs.script.run_script.Goals as goal
 
 pub returns-in-Err-clause-ran : goal.returns-in-Err-clause-ran
@@ -30,6 +31,7 @@ returns-clause-ran g c = λ there content.
     served g.D.Disk (setting_of there c.args.steps c.args.halts) c.args.script.now (map (cut c.args.script.now) c.as_slice.result.now) c.args.disk.now c.run_opened.new.disk (g.S.Sink.taken c.args.out.now) (g.S.Sink.taken c.run_opened.new.out)
     c.status_of_end.result c.run_opened.result c.requires few c.status_of_end.ensures (ap (map (cut c.args.script.now)) (c.as_slice.ensures.value ∙ c.in-Ok.ensures.spans))
     (λ d openable. c.run_opened.ensures.ends there d content openable) (λ d openable. c.run_opened.ensures.any_moment there d content openable)
+    (λ d openable halted none done. run_shown c.run_opened.result _ (c.run_opened.ensures.shows there d content openable halted none) done)
 
 pub returns-clause-named : goal.returns-clause-named
 returns-clause-named g c = λ same. never_misused c.run_opened.result c.status_of_end.result c.status_of_end.ensures same

@@ -1,6 +1,7 @@
 use Rattle.std.proofs.Common.{◌∙◌}
 use Rattle.vert_cli.proofs.Executing.{seen_state, not_answered_at, written_at, worked_at, sink_failed_at, sink_short_at}
 use Rattle.vert_cli.proofs.Naming.{step_named}
+use Rattle.vert_cli.proofs.Showing.{step_shown}
 use Rattle.vert_cli.proofs.session.Session.execute.Goals as goal
 
 pub returns-in-Err-clause-executed : goal.returns-in-Err-clause-executed
@@ -34,3 +35,8 @@ returns-in-Err-clause-named g c =
 pub returns-in-Ok-write_all-clause-works : goal.returns-in-Ok-write_all-clause-works
 returns-in-Ok-write_all-clause-works g c =
     worked_at g.D.Disk c.args.text.now c.self.inside.store c.step.new.store c.self.inside.halted c.args.self.now c.args.disk.now c.in-Ok.answer c.of.result c.self.view_is c.of.ensures c.in-Ok.ensures.works
+
+pub returns-in-Ok-write_all-clause-shows : goal.returns-in-Ok-write_all-clause-shows
+returns-in-Ok-write_all-clause-shows g c = λ there state content live here.
+    let own = seen_state g.D.Disk c.self.inside.store c.self.inside.halted c.args.self.now c.args.disk.now state c.self.view_is here in
+    step_shown g.D.Disk c.one_reading.ensures there c.args.text.now c.self.inside.store c.step.new.store c.args.disk.now c.step.new.disk c.in-Ok.answer c.of.result state c.of.ensures own (c.in-Ok.ensures.steps there state content own) c.in-Ok.ensures.works
