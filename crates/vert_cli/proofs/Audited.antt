@@ -94,21 +94,18 @@ not_unbegun (Status.Damaged name) is never = absurd is
 not_unbegun Status.ReadFault is never = absurd is
 not_unbegun Status.TooLarge is never = absurd is
 
-no_unread : (status : Status) → IsAuditStatus status → status ≡ Status.ReadFault → ⊥
-no_unread Status.Done is e = cc
-no_unread Status.SinkFault is e = cc
-no_unread Status.DiskFault is e = cc
-no_unread Status.Memory is e = cc
-no_unread Status.AuditNo is e = cc
-no_unread Status.Refused is e = absurd is
-no_unread Status.Usage is e = absurd is
-no_unread Status.NoScript is e = absurd is
-no_unread (Status.Damaged name) is e = absurd is
-no_unread Status.ReadFault is e = absurd is
-no_unread Status.TooLarge is e = absurd is
-
 pub audit_unread : (status : Status) → IsAuditStatus status → status ≡ Status.ReadFault → ⊥
-audit_unread = no_unread
+audit_unread Status.Done is e = cc
+audit_unread Status.SinkFault is e = cc
+audit_unread Status.DiskFault is e = cc
+audit_unread Status.Memory is e = cc
+audit_unread Status.AuditNo is e = cc
+audit_unread Status.Refused is e = absurd is
+audit_unread Status.Usage is e = absurd is
+audit_unread Status.NoScript is e = absurd is
+audit_unread (Status.Damaged name) is e = absurd is
+audit_unread Status.ReadFault is e = absurd is
+audit_unread Status.TooLarge is e = absurd is
 
 -- ---- words that ask for none
 

@@ -101,7 +101,7 @@ pub sink_short_at : {D : Type 0} (disk : Ghosts D) (files : Files) (text piece :
 sink_short_at disk files text piece is old new a state before after piece_is steps taken =
     sink_short disk files text is old new a state before after steps (subst (λ (p : List ℕ). AppendsFront before after p) piece_is taken)
 
-none_where_done : (why : Option Refusal) → outcome_of why ≡ Outcome.Done → why ≡ None
+pub none_where_done : (why : Option Refusal) → outcome_of why ≡ Outcome.Done → why ≡ None
 none_where_done None is = refl
 none_where_done (Some why) is = absurd (cc)
 

@@ -21,11 +21,11 @@ use Rattle.vert_cli.specs.Runs.{setting_of, StopsInNext}
 use Rattle.vert_cli.specs.Asked.{Asked, misused, audit, absent, large, statements, is_within_limits, asked_by, asked_from, asked}
 use Rattle.vert_cli.specs.Audits.{IsAuditStatus}
 use Rattle.vert_cli.specs.Blamed.{IsToldAs}
-use Rattle.vert_cli.specs.Ends.{IsIdle, IsOpenable, RunBegins, RunEnds, RunLeaves, Counts, IsAnswered, RanAs}
-use Rattle.vert_cli.specs.Shown.{RunShows}
+use Rattle.vert_cli.specs.Ends.{IsIdle, IsOpenable, RunBegins, RunEnds, RunLeaves, RunShows, Counts, IsAnswered, RanAs}
 use Rattle.vert_cli.proofs.Cuts.{leaves_still}
 use Rattle.vert_cli.proofs.FewTexts.{generated_within}
 use Rattle.vert_cli.proofs.Naming.{told_over}
+use Rattle.vert_cli.proofs.Showing.{never_ran}
 use Rattle.vert_cli.proofs.Limits.{within_limits, over_bytes, over_many, over_limits, in_limits}
 
 -- ---- the status of a run that began
@@ -135,7 +135,7 @@ short disk what now told = record {
   begins = short_begins what now told;
   ends = λ setting texts d is openable. inr (record { why = inl refl; untaken = refl; left = λ x image. inl image });
   any_moment = λ setting texts d is openable. still_leaves disk setting d texts now told told;
-  shown = λ setting texts d is openable halted none done. absurd (cc);
+  shown = λ setting texts d is openable halted none refused done. absurd (never_ran RunFault.Memory refused done);
 }
 
 -- so does a file that couldn't be read, where a script is
@@ -152,7 +152,7 @@ unread disk setting held now told = record {
   begins = unread_begins setting held now told;
   ends = λ other texts d is openable. inr (record { why = inr (inr (refl, refl)); untaken = refl; left = λ x image. inl image });
   any_moment = λ other texts d is openable. still_leaves disk other d texts now told told;
-  shown = λ other texts d is openable halted none done. absurd (cc);
+  shown = λ other texts d is openable halted none refused done. absurd (never_ran RunFault.Read refused done);
 }
 
 absent_run : {D : Type 0} (disk : Ghosts D) (now : D) (told : Option (List ℕ)) → RanAs Status.NoScript disk absent now now told told
@@ -160,7 +160,7 @@ absent_run disk now told = record {
   begins = (inl refl, idle now told);
   ends = λ setting texts d is openable. absurd (cc);
   any_moment = λ setting texts d is openable. still_leaves disk setting d texts now told told;
-  shown = λ setting texts d is openable halted none done. absurd (cc);
+  shown = λ setting texts d is openable. absurd (cc);
 }
 
 pub no_script : {D : Type 0} (disk : Ghosts D) (setting : Setting) (held : Option (List ℕ)) (now : D) (told : Option (List ℕ)) → held ≡ None → RanAs Status.NoScript disk (asked_by setting held) now now told told
@@ -171,7 +171,7 @@ large_run disk now told = record {
   begins = (inl refl, idle now told);
   ends = λ setting texts d is openable. absurd (cc);
   any_moment = λ setting texts d is openable. still_leaves disk setting d texts now told told;
-  shown = λ setting texts d is openable halted none done. absurd (cc);
+  shown = λ setting texts d is openable. absurd (cc);
 }
 
 pub too_large : {D : Type 0} (disk : Ghosts D) (what : Asked) (now : D) (told : Option (List ℕ)) → what ≡ large → RanAs Status.TooLarge disk what now now told told
@@ -182,7 +182,7 @@ misused_run disk now told = record {
   begins = (inl refl, idle now told);
   ends = λ setting texts d is openable. absurd (cc);
   any_moment = λ setting texts d is openable. still_leaves disk setting d texts now told told;
-  shown = λ setting texts d is openable halted none done. absurd (cc);
+  shown = λ setting texts d is openable. absurd (cc);
 }
 
 -- ---- an audit
@@ -195,20 +195,20 @@ audit_run disk old now before after status is = record { begins = is; ends = λ 
 served_run : {D : Type 0} (disk : Ghosts D) (setting : Setting) (texts : List (List ℕ)) (old now : D) (before after : Option (List ℕ)) (ended : Result Bool RunFault)
     → ((d : Database) → IsOpenable disk old d → RunEnds (status_of_end ended) disk setting d texts old now before after)
     → ((d : Database) → IsOpenable disk old d → Leaves disk (RunLeaves disk old setting d texts before after) old now)
-    → ((d : Database) → IsOpenable disk old d → RunShows (status_of_end ended) disk setting texts now)
+    → ((d : Database) → IsOpenable disk old d → RunShows (status_of_end ended) disk setting d texts old now before after)
     → RanAs (status_of_end ended) disk (statements setting texts) old now before after
 served_run disk setting texts old now before after ended ends leaves shown = record {
   begins = (ended, refl);
   ends = λ other others d is openable. of_same (λ s ts. RunEnds (status_of_end ended) disk s d ts old now before after) setting other texts others is (ends d openable);
   any_moment = λ other others d is openable. of_same (λ s ts. Leaves disk (RunLeaves disk old s d ts before after) old now) setting other texts others is (leaves d openable);
-  shown = λ other others d is openable. of_same (λ s ts. RunShows (status_of_end ended) disk s ts now) setting other texts others is (shown d openable);
+  shown = λ other others d is openable. of_same (λ s ts. RunShows (status_of_end ended) disk s d ts old now before after) setting other texts others is (shown d openable);
 }
 
 pub served : {D : Type 0} (disk : Ghosts D) (setting : Setting) (script : List ℕ) (texts : List (List ℕ)) (old now : D) (before after : Option (List ℕ)) (status : Status) (ended : Result Bool RunFault)
     → length script ≤ 67108864 → length texts ≤ 4096 → status ≡ status_of_end ended → texts ≡ statement_texts script
     → ((d : Database) → IsOpenable disk old d → RunEnds (status_of_end ended) disk setting d texts old now before after)
     → ((d : Database) → IsOpenable disk old d → Leaves disk (RunLeaves disk old setting d texts before after) old now)
-    → ((d : Database) → IsOpenable disk old d → RunShows (status_of_end ended) disk setting texts now)
+    → ((d : Database) → IsOpenable disk old d → RunShows (status_of_end ended) disk setting d texts old now before after)
     → RanAs status disk (asked_by setting (Some script)) old now before after
 served disk setting script texts old now before after status ended bytes few is texts_are ends leaves shown =
     let within = within_limits script bytes (subst (λ (ts : List (List ℕ)). length ts ≤ 4096) texts_are few) in

@@ -1,8 +1,9 @@
 -- What the folder shows of the work of a run's last statement.
 use Rattle.std.proofs.Common.{ℕ, ◌≡◌, ◌+◌, ◌<◌, ◌≤◌, ◌∙◌, ◌||◌, ◌++◌, Bool, true, false, List, [], ◌∷◌, take, map, length, get_or, sym, ap, subst, refl, arith}
-use Rattle.std.specs.Prelude.{Option, Some, None, Result, Ok, Err, is_some}
+use Rattle.std.specs.Prelude.{Option, Some, None, Result, Ok, Err, IfOk, is_some}
 use Rattle.std.proofs.lemmas.List.{get_or-map, length-map, take_all, take_more}
 use Rattle.common_laws.specs.Maps.{Contents}
+use Rattle.common_laws.proofs.Telling.{appends_join}
 use Rattle.col_disk.specs.Moved.{ImageOf}
 use Rattle.col_disk.specs.declared.disk.Disk.{Ghosts}
 use Rattle.sql_words.specs.Symbols.{Symbol, symbols_of}
@@ -25,10 +26,12 @@ use Rattle.store_step.specs.declared.answer.Answer.{Answer}
 use Rattle.store_step.proofs.Shown.{merged_shown, purged_shown, still_named}
 use Rattle.vert_cli.specs.declared.faults.Outcome.{Outcome}
 use Rattle.vert_cli.specs.declared.faults.RunFault.{RunFault}
-use Rattle.vert_cli.specs.declared.faults.Status.{Status}
-use Rattle.vert_cli.specs.Shown.{IsShown, RunShows, Shows, ShowsLast, ShowsOf, WhereNoneRefused}
+use Rattle.vert_cli.specs.Runs.{RanText}
+use Rattle.vert_cli.specs.Shown.{IsShown, Shows, ShowsLast, ShowsLastOf, ShowsOf}
 use Rattle.vert_cli.specs.Statements.{outcome_of, refusal_in}
-use Rattle.vert_cli.specs.Statuses.{status_of, status_of_end}
+use Rattle.vert_cli.specs.Statuses.{status_of, status_of_end, status_of_run}
+use Rattle.vert_cli.proofs.Executing.{none_where_done}
+use Rattle.vert_cli.proofs.Running.{RanWhole}
 
 -- ---- one statement
 
@@ -59,15 +62,11 @@ text_shown disk one files text printed was is old now state new here step stands
         (still_named disk was old state new (λ s. is_of_table name state.database.tables s.name) place name here named (raised one files text printed name state new spelled step)) purged x image
     by s spelled work = tt
 
-none_refused : (why : Option Refusal) (outcome : Outcome) → outcome ≡ outcome_of why → outcome ≡ Outcome.Done → why ≡ None
-none_refused None outcome told done = refl
-none_refused (Some why) outcome told done = absurd (cc)
-
 -- a statement text that was answered
 pub step_shown : {D : Type 0} (disk : Ghosts D) → OneReading → (files : Files) (text : List ℕ) (was is : Running) (old now : D) (a : Answer) (outcome : Outcome) (state : State) → outcome ≡ outcome_of a.refusal → IsState disk was old state
     → Steps disk files text is old now (Ok a) state → (a.refusal ≡ None → (s : State) → IsState disk was old s → WorksOf text was is) → outcome ≡ Outcome.Done → IsShown disk text now
 step_shown disk one files text was is old now a outcome state told here steps works done =
-    let none = none_refused a.refusal outcome told done in
+    let none = none_where_done a.refusal (sym told ∙ done) in
     let (new, step, stands) = steps.done in
     let stood = stands.database in
     let each = text_shown disk one files text a.text.items was is old now state new here (subst (λ (why : Option Refusal). Step is_served state files text a.text.items why new) none step) stands (works none state here) in
@@ -93,43 +92,83 @@ not_nothing : {X : Type 0} (xs : List X) (x : X) → [] ≡ xs ++ x ∷ [] → �
 not_nothing [] x is = absurd (cc)
 not_nothing (y ∷ xs) x is = absurd (cc)
 
+front_same : {X : Type 0} (xs ys : List X) (x y : X) → xs ++ x ∷ [] ≡ ys ++ y ∷ [] → xs ≡ ys
+front_same [] [] x y is = refl
+front_same [] (z ∷ ys) x y is = absurd (not_nothing ys y (cc))
+front_same (z ∷ xs) [] x y is = absurd (not_nothing xs x (cc))
+front_same {X} (z ∷ xs) (w ∷ ys) x y is =
+    let head : z ≡ w = cc in
+    ap (λ (l : List X). z ∷ l) (front_same xs ys x y (cc)) ∙ ap (λ (h : X). h ∷ ys) head
+
 last_same : {X : Type 0} (xs ys : List X) (x y : X) → xs ++ x ∷ [] ≡ ys ++ y ∷ [] → x ≡ y
 last_same [] [] x y is = cc
 last_same [] (z ∷ ys) x y is = absurd (not_nothing ys y (cc))
 last_same (z ∷ xs) [] x y is = absurd (not_nothing xs x (cc))
 last_same (z ∷ xs) (w ∷ ys) x y is = last_same xs ys x y (cc)
 
-pub none_last : {D : Type 0} (disk : Ghosts D) (now : D) → ShowsLast disk [] now
-none_last disk now first text is = absurd (not_nothing first text is)
+pub none_last : {D : Type 0} (disk : Ghosts D) (setting : Setting) (start : State) (refused : Bool) (now : D) (before after : Option (List ℕ)) → ShowsLastOf disk setting start [] refused now before after
+none_last disk setting start refused now before after first text is = absurd (not_nothing first text is)
 
-either_none : (refused was told : Bool) → told ≡ (refused || was) → told ≡ false → was ≡ false
-either_none true was told is none = absurd (cc)
-either_none false was told is none = sym is ∙ none
+-- a text behind others that ran
+one_last : {D : Type 0} (disk : Ghosts D) (setting : Setting) (start mid : State) (is : Running) (first : List (List ℕ)) (text : List ℕ) (old now : D) (refused told was : Bool) (before between after : Option (List ℕ)) → told ≡ (refused || was)
+    → RanWhole setting start first refused mid before between → RanText disk setting text is old now (Ok was) mid between after → (was ≡ false → IsShown disk text now) → ShowsLast disk setting start first text told now before after
+one_last disk setting start mid is first text old now refused told was before between after told_is whole ran shown =
+    let (why, next, answer, passes, taken, here, was_is) = ran.done in
+    record {
+      printed = whole.printed;
+      earlier = refused;
+      mid = mid;
+      ran = whole.ran;
+      answer = answer;
+      why = why;
+      new = next;
+      passes = passes;
+      taken = appends_join before between after whole.printed answer whole.taken taken;
+      refused_is = told_is ∙ ap (λ (b : Bool). refused || b) was_is;
+      shown = λ none. shown (was_is ∙ ap is_some none);
+    }
 
-pub next_last : {D : Type 0} (disk : Ghosts D) {X : Type 0} (f : X → List ℕ) (spans : List X) (i : ℕ) (d : X) (now : D) (refused was told : Bool) → i < length spans → told ≡ (refused || was) → (was ≡ false → IsShown disk (f (get_or spans i d)) now)
-    → told ≡ false → ShowsLast disk (take (i + 1) (map f spans)) now
-next_last disk f spans i d now refused was told below told_is shown none first text is =
+-- of the texts of some spans the next one ran
+pub next_last : {D : Type 0} (disk : Ghosts D) {X : Type 0} (f : X → List ℕ) (spans : List X) (i : ℕ) (d : X) (setting : Setting) (is : Running) (start mid : State) (old now : D) (refused told was : Bool) (before between after : Option (List ℕ))
+    → i < length spans → told ≡ (refused || was) → RanWhole setting start (take i (map f spans)) refused mid before between → RanText disk setting (f (get_or spans i d)) is old now (Ok was) mid between after
+    → (was ≡ false → IsShown disk (f (get_or spans i d)) now) → ShowsLastOf disk setting start (take (i + 1) (map f spans)) told now before after
+next_last disk f spans i d setting is start mid old now refused told was before between after below told_is whole ran shown first text texts_are =
+    let texts = take i (map f spans) in
     let inside : i < length (map f spans) = subst (λ (n : ℕ). i < n) (sym (length-map spans f)) below in
-    let next = take_more (map f spans) i (f d) inside ∙ ap (λ (t : List ℕ). take i (map f spans) ++ t ∷ []) (get_or-map f spans i d (f d) below) in
-    subst (λ (t : List ℕ). IsShown disk t now) (last_same (take i (map f spans)) first (f (get_or spans i d)) text (sym next ∙ is)) (shown (either_none refused was told told_is none))
+    let next : take (i + 1) (map f spans) ≡ texts ++ f (get_or spans i d) ∷ [] = take_more (map f spans) i (f d) inside ∙ ap (λ (t : List ℕ). texts ++ t ∷ []) (get_or-map f spans i d (f d) below) in
+    let same : texts ++ f (get_or spans i d) ∷ [] ≡ first ++ text ∷ [] = sym next ∙ texts_are in
+    subst (λ (ts : List (List ℕ)). ShowsLast disk setting start ts text told now before after) (front_same texts first (f (get_or spans i d)) text same)
+    (subst (λ (t : List ℕ). ShowsLast disk setting start texts t told now before after) (last_same texts first (f (get_or spans i d)) text same)
+    (one_last disk setting start mid is texts (f (get_or spans i d)) old now refused told was before between after told_is whole ran shown))
 
-pub all_last : {D : Type 0} (disk : Ghosts D) {X : Type 0} (f : X → List ℕ) (spans : List X) (i : ℕ) (now : D) → length spans ≤ i → ShowsLast disk (take i (map f spans)) now → ShowsLast disk (map f spans) now
-all_last disk f spans i now all shown = subst (λ (texts : List (List ℕ)). ShowsLast disk texts now) (take_all i (map f spans) (omega (arith, all, length-map spans f))) shown
+pub all_last : {D : Type 0} (disk : Ghosts D) {X : Type 0} (f : X → List ℕ) (spans : List X) (i : ℕ) (setting : Setting) (start : State) (refused : Bool) (now : D) (before after : Option (List ℕ)) → length spans ≤ i
+    → ShowsLastOf disk setting start (take i (map f spans)) refused now before after → ShowsLastOf disk setting start (map f spans) refused now before after
+all_last disk f spans i setting start refused now before after all shown =
+    subst (λ (texts : List (List ℕ)). ShowsLastOf disk setting start texts refused now before after) (take_all i (map f spans) (omega (arith, all, length-map spans f))) shown
 
 -- ---- a run
 
-none_status : (refused : Bool) → status_of_end (Ok refused) ≡ Status.Done → refused ≡ false
-none_status true is = absurd (cc)
-none_status false is = refl
+same_refused : (was refused : Bool) → status_of_run was ≡ status_of_run refused → was ≡ refused
+same_refused true true is = refl
+same_refused true false is = absurd (cc)
+same_refused false true is = absurd (cc)
+same_refused false false is = refl
 
-never_done : (fault : RunFault) → status_of fault ≡ Status.Done → ⊥
-never_done RunFault.Sink is = absurd (cc)
-never_done RunFault.Disk is = absurd (cc)
-never_done (RunFault.Damaged q) is = absurd (cc)
-never_done RunFault.Memory is = absurd (cc)
-never_done RunFault.Read is = absurd (cc)
-never_done RunFault.Halted is = absurd (cc)
+-- a run that stopped didn't come to its end
+pub never_ran : (fault : RunFault) (refused : Bool) → status_of fault ≡ status_of_run refused → ⊥
+never_ran RunFault.Sink true is = absurd (cc)
+never_ran RunFault.Sink false is = absurd (cc)
+never_ran RunFault.Disk true is = absurd (cc)
+never_ran RunFault.Disk false is = absurd (cc)
+never_ran (RunFault.Damaged q) true is = absurd (cc)
+never_ran (RunFault.Damaged q) false is = absurd (cc)
+never_ran RunFault.Memory true is = absurd (cc)
+never_ran RunFault.Memory false is = absurd (cc)
+never_ran RunFault.Read true is = absurd (cc)
+never_ran RunFault.Read false is = absurd (cc)
+never_ran RunFault.Halted true is = absurd (cc)
+never_ran RunFault.Halted false is = absurd (cc)
 
-pub run_shown : (ended : Result Bool RunFault) (Left : Type 0) → WhereNoneRefused ended Left → status_of_end ended ≡ Status.Done → Left
-run_shown (Ok refused) Left shown is = shown (none_status refused is)
-run_shown (Err fault) Left shown is = absurd (never_done fault is)
+pub run_shown : (ended : Result Bool RunFault) (Left : Bool → Type 0) → IfOk ended Left → (refused : Bool) → status_of_end ended ≡ status_of_run refused → Left refused
+run_shown (Ok was) Left shown refused is = subst Left (same_refused was refused is) shown
+run_shown (Err fault) Left shown refused is = absurd (never_ran fault refused is)

@@ -1,5 +1,5 @@
 -- How a run begins, by what it is asked for, and how it ends over a folder that reopens to a database.
-use Rattle.std.specs.Prelude.{ℕ, ◌≡◌, ◌⊎◌, List, Bool, Option, Some}
+use Rattle.std.specs.Prelude.{ℕ, ◌≡◌, ◌⊎◌, List, Bool, true, Option, Some}
 use Rattle.common_laws.specs.Causes.{Rose}
 use Rattle.common_laws.specs.Maps.{Contents}
 use Rattle.col_disk.specs.Moved.{Leaves}
@@ -14,7 +14,7 @@ use Rattle.vert_cli.specs.Statuses.{status_of_run, IsEnd, IsUnread}
 use Rattle.vert_cli.specs.Asked.{Asked, misused, audit, absent, large, statements}
 use Rattle.vert_cli.specs.Audits.{IsAuditStatus}
 use Rattle.vert_cli.specs.Runs.{LeavesNow, RanToItsEnd, RanAndStopped, IsOnTheWay}
-use Rattle.vert_cli.specs.Shown.{RunShows}
+use Rattle.vert_cli.specs.Shown.{ShowsLastOf}
 
 -- ---- whether it begins
 
@@ -65,6 +65,12 @@ RunEnds status disk setting d texts old now before after =
 abbrev pub RunLeaves : {D : Type 0} → Ghosts D → D → Setting → Database → List (List ℕ) → Option (List ℕ) → Option (List ℕ) → Contents → Type 0
 RunLeaves disk old setting d texts before after x = IsStill disk old d x ⊎ ((start : State) × IsStart disk old d start × IsOnTheWay setting start texts before after x)
 
+-- A run that was asked to halt without the end, with no steps of the mover, and in which every statement was answered: the folder shows the work of the
+-- last text, where that wasn't refused itself.
+abbrev pub RunShows : {D : Type 0} → Status → Ghosts D → Setting → Database → List (List ℕ) → D → D → Option (List ℕ) → Option (List ℕ) → Type 0
+RunShows status disk setting d texts old now before after =
+    setting.halts ≡ true → setting.steps ≡ 0 → (refused : Bool) → status ≡ status_of_run refused → (start : State) × IsStart disk old d start × ShowsLastOf disk setting start texts refused now before after
+
 -- ---- whether every statement is answered
 
 -- how often the sink, the files and the disk had failed
@@ -89,4 +95,4 @@ pub record RanAs {D : Type 0} (status : Status) (disk : Ghosts D) (what : Asked)
   pub begins : RunBegins status what old now before after
   pub ends : (setting : Setting) (texts : List (List ℕ)) (d : Database) → what ≡ statements setting texts → IsOpenable disk old d → RunEnds status disk setting d texts old now before after
   pub any_moment : (setting : Setting) (texts : List (List ℕ)) (d : Database) → what ≡ statements setting texts → IsOpenable disk old d → Leaves disk (RunLeaves disk old setting d texts before after) old now
-  pub shown : (setting : Setting) (texts : List (List ℕ)) (d : Database) → what ≡ statements setting texts → IsOpenable disk old d → RunShows status disk setting texts now
+  pub shown : (setting : Setting) (texts : List (List ℕ)) (d : Database) → what ≡ statements setting texts → IsOpenable disk old d → RunShows status disk setting d texts old now before after

@@ -1,16 +1,18 @@
 -- What a run leaves to be seen in the folder of the work of its last statement.
-use Rattle.std.specs.Prelude.{ℕ, ◌≡◌, ◌++◌, true, false, Bool, List, [], ◌∷◌, Option, Some, Result, IfOk}
+use Rattle.std.specs.Prelude.{ℕ, ◌≡◌, ◌++◌, ◌||◌, Bool, List, [], ◌∷◌, Option, Some, None, is_some, Result, IfOk}
 use Rattle.common_laws.specs.Maps.{Contents}
+use Rattle.common_laws.specs.Told.{Appends}
 use Rattle.col_disk.specs.declared.disk.Disk.{Ghosts}
 use Rattle.sql_words.specs.Symbols.{symbols_of}
+use Rattle.sql_tree.specs.declared.refusal.Refusal.{Refusal}
 use Rattle.sql_tree.specs.declared.statement.Function.{Function}
 use Rattle.sql_tree.specs.declared.statement.Statement.{Statement}
 use Rattle.sql_tree.specs.Spells.{Spells}
-use Rattle.db_model.specs.Run.{Setting}
+use Rattle.db_model.specs.State.{State}
+use Rattle.db_model.specs.Run.{Setting, Passes, RunTexts}
 use Rattle.store_step.specs.Shown.{ShowsMerged, ShowsPurged}
 use Rattle.vert_cli.specs.declared.faults.Outcome.{Outcome}
 use Rattle.vert_cli.specs.declared.faults.RunFault.{RunFault}
-use Rattle.vert_cli.specs.declared.faults.Status.{Status}
 use Rattle.vert_cli.specs.Runs.{LeavesNow}
 
 -- Behind a MERGEOUT a folder lists no up-to-date projection that has four containers of a level. Behind a PURGE_TABLE it lists the table, and no
@@ -31,18 +33,25 @@ pub record IsShown {D : Type 0} (disk : Ghosts D) (text : List ℕ) (now : D) : 
   pub shows : ShowsOf text files
   pub left : LeavesNow disk (ShowsOf text) now
 
--- so it is of the last of some texts
-abbrev pub ShowsLast : {D : Type 0} → Ghosts D → List (List ℕ) → D → Type 0
-ShowsLast disk texts now = (first : List (List ℕ)) (text : List ℕ) → texts ≡ first ++ text ∷ [] → IsShown disk text now
-
 -- of a statement that wasn't refused
 abbrev pub HasShown : {D : Type 0} → Ghosts D → List ℕ → D → Result Outcome RunFault → Type 0
 HasShown disk text now result = IfOk result (λ outcome. outcome ≡ Outcome.Done → IsShown disk text now)
 
--- of texts none of which was refused
-abbrev pub WhereNoneRefused : Result Bool RunFault → Type 0 → Type 0
-WhereNoneRefused result Left = IfOk result (λ refused. refused ≡ false → Left)
+-- The last of some texts that ran over a state. The sink took what the others print, and then the answer of this one, which its step ties to why it
+-- is refused, if it is. Where it isn't, its work is shown, whatever was refused before it.
+pub record ShowsLast {D : Type 0} (disk : Ghosts D) (setting : Setting) (start : State) (first : List (List ℕ)) (text : List ℕ) (refused : Bool) (now : D) (before after : Option (List ℕ)) : Type 0 where
+  pub printed : List ℕ
+  pub earlier : Bool
+  pub mid : State
+  pub ran : RunTexts setting start first printed earlier mid
+  pub answer : List ℕ
+  pub why : Option Refusal
+  pub new : State
+  pub passes : Passes setting mid text answer why new
+  pub taken : Appends before after (printed ++ answer)
+  pub refused_is : refused ≡ (earlier || is_some why)
+  pub shown : why ≡ None → IsShown disk text now
 
--- A run that was asked to halt without the end, with no steps of the mover, and in which every statement was answered and none was refused.
-abbrev pub RunShows : {D : Type 0} → Status → Ghosts D → Setting → List (List ℕ) → D → Type 0
-RunShows status disk setting texts now = setting.halts ≡ true → setting.steps ≡ 0 → status ≡ Status.Done → ShowsLast disk texts now
+-- so it is of texts, where there is a last one
+abbrev pub ShowsLastOf : {D : Type 0} → Ghosts D → Setting → State → List (List ℕ) → Bool → D → Option (List ℕ) → Option (List ℕ) → Type 0
+ShowsLastOf disk setting start texts refused now before after = (first : List (List ℕ)) (text : List ℕ) → texts ≡ first ++ text ∷ [] → ShowsLast disk setting start first text refused now before after

@@ -15,11 +15,10 @@ ghost use Rattle.generated_load.specs.Load.{generated_files, generated_script};
 ghost use Rattle.vert_cli.specs.declared.faults.Status.TheVariants.{Damaged as damaged, Usage as usage_refused, SinkFault as sink_fault, ReadFault as read_fault, DiskFault as disk_fault};
 ghost use Rattle.vert_cli.specs.Audits.{AuditKeeps, AuditOf};
 ghost use Rattle.vert_cli.specs.Blamed.{NamesFile};
-ghost use Rattle.vert_cli.specs.Shown.{RunShows};
 ghost use Rattle.vert_cli.specs.Statuses.{NeverBegins};
 ghost use Rattle.vert_cli.specs.Runs.{setting_of};
 ghost use Rattle.vert_cli.specs.Asked.{Asked, asked, asked_by, asked_from, statements};
-ghost use Rattle.vert_cli.specs.Ends.{IsAnswered, IsIdle, IsOpenable, RanAs, RunBegins, RunEnds, RunLeaves};
+ghost use Rattle.vert_cli.specs.Ends.{IsAnswered, IsIdle, IsOpenable, RanAs, RunBegins, RunEnds, RunLeaves, RunShows};
 
 use crate::auditing::run_audit;
 use crate::faults::Status;
@@ -38,7 +37,8 @@ const MOST_BYTES: usize = 67_108_864;
 ///
 /// It reads the file SCRIPT, or takes the generated script over the files that have its load, opens the tables that the disk holds, runs the
 /// script's statements in order over them, each with K steps of the mover behind it, and writes what each prints. At the end, after `Done`
-/// and `Refused`, all tables are on the disk, but with `--halt`, which leaves the end out. Each status comes as `Status` says; `Memory` is
+/// and `Refused`, all tables are on the disk, but with `--halt`, which leaves the end out: where no steps of the mover are asked for either, the disk
+/// shows the work of a MERGEOUT or a PURGE_TABLE that is the last statement, where that isn't refused itself. Each status comes as `Status` says; `Memory` is
 /// free to come at any time. What is said of a script that is read holds where the files tell their content, what is said of the written
 /// bytes where the sink tells them, and what is said of the tables where the disk tells what it holds. `Damaged` comes of the opening, and
 /// then it names a file that keeps the folder from opening and no file was removed, or of a folder that opened, and then one that the root
@@ -60,7 +60,7 @@ pub fn run<F: Files, S: Sink, D: Disk>(
     ensures any_moment { (setting : Setting) (texts : List (List ℕ)) (d : Logical) → asked (wanted (map string_bytes words.now)) (F.content files.old) ≡ Some (statements setting texts) → IsOpenable ⟦<D as Disk>⟧ disk.old d
         → Leaves ⟦<D as Disk>⟧ (RunLeaves ⟦<D as Disk>⟧ disk.old setting d texts (S.taken out.old) (S.taken out.new)) disk.old disk.new }
     ensures shown { (setting : Setting) (texts : List (List ℕ)) (d : Logical) → asked (wanted (map string_bytes words.now)) (F.content files.old) ≡ Some (statements setting texts) → IsOpenable ⟦<D as Disk>⟧ disk.old d
-        → RunShows result ⟦<D as Disk>⟧ setting texts disk.new }
+        → RunShows result ⟦<D as Disk>⟧ setting d texts disk.old disk.new (S.taken out.old) (S.taken out.new) }
     ensures complete { (setting : Setting) (texts : List (List ℕ)) (d : Logical) → asked (wanted (map string_bytes words.now)) (F.content files.old) ≡ Some (statements setting texts) → IsOpenable ⟦<D as Disk>⟧ disk.old d
         → IsAnswered result (record { sink = S.faults out.old; files = F.faults files.old; disk = D.faults disk.old }) (record { sink = S.faults out.new; files = F.faults files.new; disk = D.faults disk.new }) }
     ensures audit { (m : Contents) → D.holds disk.old ≡ Some m → AuditOf (wanted (map string_bytes words.now)) result m (S.taken out.old) (S.taken out.new) }

@@ -12,11 +12,11 @@ ghost use Rattle.store_step.specs.Running.{IsState};
 ghost use Rattle.vert_cli.specs.declared.faults.RunFault.TheVariants.{Sink as sink_failed, Damaged as damaged_file, Disk as disk_failed, Read as read_failed, Halted as halted};
 ghost use Rattle.vert_cli.specs.declared.faults.Status.TheVariants.{Damaged as damaged, Usage as usage_refused, SinkFault as sink_fault, DiskFault as disk_fault, ReadFault as read_fault};
 ghost use Rattle.vert_cli.specs.Blamed.{NamesFile, NamesInRun};
-ghost use Rattle.vert_cli.specs.Shown.{IsShown, ShowsLast, WhereNoneRefused};
+ghost use Rattle.vert_cli.specs.Shown.{IsShown, ShowsLastOf};
 ghost use Rattle.vert_cli.specs.Statuses.{NeverBegins, status_of_end};
 ghost use Rattle.vert_cli.specs.Runs.{RanText, RanTexts, setting_of};
 ghost use Rattle.vert_cli.specs.Asked.{asked_by};
-ghost use Rattle.vert_cli.specs.Ends.{IsIdle, IsOpenable, RanAs, RunEnds, RunLeaves};
+ghost use Rattle.vert_cli.specs.Ends.{IsIdle, IsOpenable, IsStart, RanAs, RunEnds, RunLeaves};
 
 use crate::faults::{RunFault, Status, either, fault_of, status_of_end};
 use crate::session::Session;
@@ -89,7 +89,8 @@ fn run_opened<F: Files, S: Sink, D: Disk>(
     ensures any_moment { (there : LoadFiles) (d : Logical) → F.content files.old ≡ Some there → IsOpenable ⟦<D as Disk>⟧ disk.old d
         → Leaves ⟦<D as Disk>⟧ (RunLeaves ⟦<D as Disk>⟧ disk.old (setting_of there steps halts) d (map (cut script.now) spans.now) (S.taken out.old) (S.taken out.new)) disk.old disk.new }
     ensures shows { (there : LoadFiles) (d : Logical) → F.content files.old ≡ Some there → IsOpenable ⟦<D as Disk>⟧ disk.old d → halts ≡ true → steps ≡ 0
-        → WhereNoneRefused result (ShowsLast ⟦<D as Disk>⟧ (map (cut script.now) spans.now) disk.new) }
+        → IfOk result (λ refused. (start : State) × IsStart ⟦<D as Disk>⟧ disk.old d start
+        × ShowsLastOf ⟦<D as Disk>⟧ (setting_of there steps halts) start (map (cut script.now) spans.now) refused disk.new (S.taken out.old) (S.taken out.new)) }
     ensures blamed { (q : ℕ) → result ≡ Err (damaged_file q) → NamesFile ⟦<D as Disk>⟧ q disk.old disk.new (S.taken out.old) (S.taken out.new) }
     ensures content { F.content files.new ≡ F.content files.old }
     ensures sink { IsErrOf result sink_failed → Rose (S.faults out.old) (S.faults out.new) }
@@ -131,8 +132,8 @@ fn run_spans<F: Files, S: Sink, D: Disk>(
     requires live { session.old.halted ≡ false }
     ensures ran { (there : LoadFiles) (start : State) (halts : Bool) → F.content files.old ≡ Some there → IsState ⟦<D as Disk>⟧ session.old.running disk.old start
         → RanTexts ⟦<D as Disk>⟧ (setting_of there steps halts) (map (cut script.now) spans.now) session.new.running disk.old disk.new result start (S.taken out.old) (S.taken out.new) }
-    ensures shows { (there : LoadFiles) (start : State) → F.content files.old ≡ Some there → IsState ⟦<D as Disk>⟧ session.old.running disk.old start → steps ≡ 0
-        → WhereNoneRefused result (ShowsLast ⟦<D as Disk>⟧ (map (cut script.now) spans.now) disk.new) }
+    ensures shows { (there : LoadFiles) (start : State) (halts : Bool) → F.content files.old ≡ Some there → IsState ⟦<D as Disk>⟧ session.old.running disk.old start → steps ≡ 0
+        → IfOk result (λ refused. ShowsLastOf ⟦<D as Disk>⟧ (setting_of there steps halts) start (map (cut script.now) spans.now) refused disk.new (S.taken out.old) (S.taken out.new)) }
     ensures named { IfErr result (NamesInRun ⟦<D as Disk>⟧ session.new.running disk.new) }
     ensures live { IfOk result (λ refused. session.new.halted ≡ false) }
     ensures content { F.content files.new ≡ F.content files.old }
@@ -174,7 +175,7 @@ fn run_text<F: Files, S: Sink, D: Disk>(
     requires live { session.old.halted ≡ false }
     ensures ran { (there : LoadFiles) (state : State) (halts : Bool) → F.content files.old ≡ Some there → IsState ⟦<D as Disk>⟧ session.old.running disk.old state
         → RanText ⟦<D as Disk>⟧ (setting_of there steps halts) text.now session.new.running disk.old disk.new result state (S.taken out.old) (S.taken out.new) }
-    ensures shows { (there : LoadFiles) (state : State) → F.content files.old ≡ Some there → IsState ⟦<D as Disk>⟧ session.old.running disk.old state → steps ≡ 0 → WhereNoneRefused result (IsShown ⟦<D as Disk>⟧ text.now disk.new) }
+    ensures shows { (there : LoadFiles) (state : State) → F.content files.old ≡ Some there → IsState ⟦<D as Disk>⟧ session.old.running disk.old state → steps ≡ 0 → IfOk result (λ refused. refused ≡ false → IsShown ⟦<D as Disk>⟧ text.now disk.new) }
     ensures named { IfErr result (NamesInRun ⟦<D as Disk>⟧ session.new.running disk.new) }
     ensures live { IfOk result (λ was. session.new.halted ≡ false) }
     ensures content { F.content files.new ≡ F.content files.old }

@@ -129,8 +129,11 @@ returns-clause-blamed g c = λ q is.
 
 pub returns-then-halts-clause-shows : goal.returns-then-halts-clause-shows
 returns-then-halts-clause-shows g c = λ there d content openable halted none.
-    let start = c.in-Ok.ensures.opened openable.files d openable.told openable.reopens in
-    c.in-Ok-run_spans.ensures.shows there (opened_with start.0 start.1 d) content start.3 none
+    let start = c.in-Ok.ensures.opened openable.files d openable.told openable.reopens in (
+      opened_with start.0 start.1 d,
+      starts_with g.D.Disk openable.files c.args.disk.now d start.0 start.1 openable.told start.2,
+      c.in-Ok-run_spans.ensures.shows there (opened_with start.0 start.1 d) c.args.halts content start.3 none,
+    )
 
 pub returns-in-Ok-finish-clause-shows : goal.returns-in-Ok-finish-clause-shows
 returns-in-Ok-finish-clause-shows g c = λ there d content openable halted. absurd (true_false (sym halted ∙ c.if-halts.false))

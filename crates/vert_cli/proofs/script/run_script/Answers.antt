@@ -31,7 +31,7 @@ returns-clause-ran g c = λ there content.
     served g.D.Disk (setting_of there c.args.steps c.args.halts) c.args.script.now (map (cut c.args.script.now) c.as_slice.result.now) c.args.disk.now c.run_opened.new.disk (g.S.Sink.taken c.args.out.now) (g.S.Sink.taken c.run_opened.new.out)
     c.status_of_end.result c.run_opened.result c.requires few c.status_of_end.ensures (ap (map (cut c.args.script.now)) (c.as_slice.ensures.value ∙ c.in-Ok.ensures.spans))
     (λ d openable. c.run_opened.ensures.ends there d content openable) (λ d openable. c.run_opened.ensures.any_moment there d content openable)
-    (λ d openable halted none done. run_shown c.run_opened.result _ (c.run_opened.ensures.shows there d content openable halted none) done)
+    (λ d openable halted none refused done. run_shown c.run_opened.result _ (c.run_opened.ensures.shows there d content openable halted none) refused done)
 
 pub returns-clause-named : goal.returns-clause-named
 returns-clause-named g c = λ same. never_misused c.run_opened.result c.status_of_end.result c.status_of_end.ensures same

@@ -9,7 +9,7 @@ pub loop-span-init : goal.loop-span-init
 loop-span-init g c = record {
   ran = λ there start halts content here.
       so_far_none g.D.Disk (setting_of there c.args.steps halts) (map (cut c.args.script.now) c.args.spans.now) c.args.session.now.running c.args.disk.now start (g.S.Sink.taken c.args.out.now) here;
-  shows = λ there start content here none fine. none_last g.D.Disk c.args.disk.now;
+  shows = λ there start halts content here none. none_last g.D.Disk (setting_of there c.args.steps halts) start false c.args.disk.now (g.S.Sink.taken c.args.out.now) (g.S.Sink.taken c.args.out.now);
   live = c.requires.live;
   content = refl;
   sinks = omega arith;
@@ -31,10 +31,11 @@ loop-span-preserved g c = record {
       so_far_more g.D.Disk (cut c.args.script.now) c.args.spans.now c.loop-span.span-index _ (setting_of there c.args.steps halts) c.loop-span.session.running c.run_text.new.session.running c.args.disk.now c.loop-span.disk c.run_text.new.disk start
       c.loop-span.refused c.either-refused.result c.in-Ok.was (g.S.Sink.taken c.args.out.now) (g.S.Sink.taken c.loop-span.out) (g.S.Sink.taken c.run_text.new.out) (omega (arith, c.loop-span-test.true)) c.either-refused.ensures so_far
       (c.in-Ok.ensures.ran there so_far.mid halts (c.loop-span.invariant.content ∙ content) so_far.stands));
-  shows = λ there start content here none.
-      (let so_far = c.loop-span.invariant.ran there start false content here in
-      next_last g.D.Disk (cut c.args.script.now) c.args.spans.now c.loop-span.span-index _ c.run_text.new.disk c.loop-span.refused c.in-Ok.was c.either-refused.result (omega (arith, c.loop-span-test.true)) c.either-refused.ensures
-      (c.in-Ok.ensures.shows there so_far.mid (c.loop-span.invariant.content ∙ content) so_far.stands none));
+  shows = λ there start halts content here none.
+      (let so_far = c.loop-span.invariant.ran there start halts content here in
+      next_last g.D.Disk (cut c.args.script.now) c.args.spans.now c.loop-span.span-index _ (setting_of there c.args.steps halts) c.run_text.new.session.running start so_far.mid c.loop-span.disk c.run_text.new.disk
+      c.loop-span.refused c.either-refused.result c.in-Ok.was (g.S.Sink.taken c.args.out.now) (g.S.Sink.taken c.loop-span.out) (g.S.Sink.taken c.run_text.new.out) (omega (arith, c.loop-span-test.true)) c.either-refused.ensures so_far.whole
+      (c.in-Ok.ensures.ran there so_far.mid halts (c.loop-span.invariant.content ∙ content) so_far.stands) (c.in-Ok.ensures.shows there so_far.mid (c.loop-span.invariant.content ∙ content) so_far.stands none));
   live = c.in-Ok.ensures.live;
   content = c.in-Ok.ensures.content ∙ c.loop-span.invariant.content;
   sinks = omega (arith, c.loop-span.invariant.sinks, c.in-Ok.ensures.later);
@@ -48,5 +49,6 @@ returns-clause-ran g c = λ there start halts content here.
     (g.S.Sink.taken c.loop-span.out) (omega (arith, c.loop-span-test.false)) (c.loop-span.invariant.ran there start halts content here)
 
 pub returns-clause-shows : goal.returns-clause-shows
-returns-clause-shows g c = λ there start content here none fine.
-    all_last g.D.Disk (cut c.args.script.now) c.args.spans.now c.loop-span.span-index c.loop-span.disk (omega (arith, c.loop-span-test.false)) (c.loop-span.invariant.shows there start content here none fine)
+returns-clause-shows g c = λ there start halts content here none.
+    all_last g.D.Disk (cut c.args.script.now) c.args.spans.now c.loop-span.span-index (setting_of there c.args.steps halts) start c.loop-span.refused c.loop-span.disk (g.S.Sink.taken c.args.out.now) (g.S.Sink.taken c.loop-span.out)
+    (omega (arith, c.loop-span-test.false)) (c.loop-span.invariant.shows there start halts content here none)
