@@ -175,19 +175,27 @@ eq_lies c least v w is same e =
     let equal : is_true (compared Cmp.Eq (widened v) (widened w)) ≡ true = ap (λ (d : Cmp). is_true (compared d (widened v) (widened w))) (sym is) ∙ e in
     ap₂ (λ (a b : Bool). a && b) (ap (λ (x : Value). is_le (value_cmp x v)) same ∙ eq_on v w equal) (eq_up v w equal)
 
--- what is true of a column and a literal, is so of each row where the comparison is
-pub set_bound : (c : Cmp) (a b : Expr) (column : ℕ) (w : Wide) (o : Option Bound) → ((row : List Value) → value_of (of_row row) a ≡ widened (slice_index_or row column value.Null)) → ((row : List Value) → value_of (of_row row) b ≡ w)
-    → IfSome o (λ bound. (bound.column ≡ column) × ((v : Value) → is_true (compared c (widened v) w) ≡ true → lies_in bound v ≡ true))
-    → IfSome o (λ bound. (row : List Value) → is_true (compared c (value_of (of_row row) a) (value_of (of_row row) b)) ≡ true → lies_in bound (slice_index_or row bound.column value.Null) ≡ true)
-set_bound c a b column w None a_is b_is set = tt
-set_bound c a b column w (Some bound) a_is b_is (at, lies) = λ row e.
-    ap (λ (n : ℕ). lies_in bound (slice_index_or row n value.Null)) at
-    ∙ lies (slice_index_or row column value.Null) (ap₂ (λ (x y : Wide). is_true (compared c x y)) (sym (a_is row)) (sym (b_is row)) ∙ e)
+-- the bound of a column that stands so to a constant, whatever the row
+pub side_lies : (c : Cmp) (column : ℕ) (w : Value) (e : Expr) (o : Option Bound) → ((row : List Value) → value_of (of_row row) e ≡ widened w)
+    → IfSome o (λ bound. (bound.column ≡ column) × ((v : Value) → is_true (compared c (widened v) (widened w)) ≡ true → lies_in bound v ≡ true))
+    → IfSome o (λ bound. (bound.column ≡ column) × ((row : List Value) (v : Value) → is_true (compared c (widened v) (value_of (of_row row) e)) ≡ true → lies_in bound v ≡ true))
+side_lies c column w e None worth lies = tt
+side_lies c column w e (Some bound) worth (at, lies) = (at, λ row v told. lies v (ap (λ (x : Wide). is_true (compared c (widened v) x)) (sym (worth row)) ∙ told))
 
-pub set_turned : (c d : Cmp) (a b : Expr) (column : ℕ) (w : Wide) (o : Option Bound) → ((x y : Wide) → is_true (compared c x y) ≡ true → is_true (compared d y x) ≡ true)
-    → ((row : List Value) → value_of (of_row row) b ≡ widened (slice_index_or row column value.Null)) → ((row : List Value) → value_of (of_row row) a ≡ w)
-    → IfSome o (λ bound. (bound.column ≡ column) × ((v : Value) → is_true (compared d (widened v) w) ≡ true → lies_in bound v ≡ true))
+-- what is true of a column and another side, is so of each row where the comparison is
+pub column_lies : (c : Cmp) (a b : Expr) (column : ℕ) (o : Option Bound) → ((row : List Value) → value_of (of_row row) a ≡ widened (slice_index_or row column value.Null))
+    → IfSome o (λ bound. (bound.column ≡ column) × ((row : List Value) (v : Value) → is_true (compared c (widened v) (value_of (of_row row) b)) ≡ true → lies_in bound v ≡ true))
     → IfSome o (λ bound. (row : List Value) → is_true (compared c (value_of (of_row row) a) (value_of (of_row row) b)) ≡ true → lies_in bound (slice_index_or row bound.column value.Null) ≡ true)
-set_turned c d a b column w None turns b_is a_is set = tt
-set_turned c d a b column w (Some bound) turns b_is a_is set = λ row e.
-    set_bound d b a column w (Some bound) b_is a_is set row (turns (value_of (of_row row) a) (value_of (of_row row) b) e)
+column_lies c a b column None a_is lies = tt
+column_lies c a b column (Some bound) a_is (at, lies) = λ row e.
+    ap (λ (n : ℕ). lies_in bound (slice_index_or row n value.Null)) at
+    ∙ lies row (slice_index_or row column value.Null) (ap (λ (x : Wide). is_true (compared c x (value_of (of_row row) b))) (sym (a_is row)) ∙ e)
+
+pub turned_lies : (c d : Cmp) (a b : Expr) (column : ℕ) (o : Option Bound) → ((x y : Wide) → is_true (compared c x y) ≡ true → is_true (compared d y x) ≡ true)
+    → ((row : List Value) → value_of (of_row row) b ≡ widened (slice_index_or row column value.Null))
+    → IfSome o (λ bound. (bound.column ≡ column) × ((row : List Value) (v : Value) → is_true (compared d (widened v) (value_of (of_row row) a)) ≡ true → lies_in bound v ≡ true))
+    → IfSome o (λ bound. (row : List Value) → is_true (compared c (value_of (of_row row) a) (value_of (of_row row) b)) ≡ true → lies_in bound (slice_index_or row bound.column value.Null) ≡ true)
+turned_lies c d a b column None turns b_is lies = tt
+turned_lies c d a b column (Some bound) turns b_is (at, lies) = λ row e.
+    ap (λ (n : ℕ). lies_in bound (slice_index_or row n value.Null)) at
+    ∙ lies row (slice_index_or row column value.Null) (ap (λ (y : Wide). is_true (compared d y (value_of (of_row row) a))) (sym (b_is row)) ∙ turns (value_of (of_row row) a) (value_of (of_row row) b) e)

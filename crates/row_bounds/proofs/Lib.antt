@@ -6,3 +6,4 @@ pub mod Hulls
 pub mod Nearest
 pub mod Bits
 pub mod Shifts
+pub mod Sets

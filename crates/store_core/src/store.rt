@@ -50,7 +50,8 @@ use statement_plan::Frame;
 use std::alloc::{AllocError, Global};
 use std::marker::Model;
 use store_opening::open;
-use store_query::{SelectFault, bound_queries_read_their_tables, select};
+use store_query::uncounted::select;
+use store_query::{SelectFault, bound_queries_read_their_tables};
 use table_store::TableStore;
 use txn_core::Txns;
 

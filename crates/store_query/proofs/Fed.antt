@@ -130,10 +130,10 @@ streamed_more q m p epoch places bounds s new batch rows first need less old now
 }
 
 fed_less : (q : BoundQuery) (more : List Rows) (first need : Asked → ℕ) (rows : Rows) (r : Run) (fed : HasFed q more first rows need r) → AreGone first rows fed.out
-fed_less q more first need rows r fed = λ gone are.
+fed_less q more first need rows r fed =
     let empty : (a : Asked) → tally a (map asked []) ≡ 0 = λ a. refl in
     let lessens : Lessens first rows need [] fed.out = record { counts = λ a. omega (arith, fed.counts a, empty a); none = fed.none } in
-    lessens_all gone rows [] fed.out first need are refl lessens
+    lessens_all rows [] fed.out first need refl lessens
 
 pub streamed_all : (q : BoundQuery) (m : Contents) (p : Projected) (epoch : ℕ) (places : List (Option ℕ)) (bounds : List Bound) (s : Place) (rows : List Stamped) (first need : Asked → ℕ) (old now : Run)
     → ((left : List Stamped) → AreLeft m p s left → left ≡ []) → Streamed q m p epoch places bounds s rows first need old now

@@ -1,5 +1,5 @@
 -- What is read of a store.
-use Rattle.std.proofs.Common.{◌≡◌, ℕ, ◌+◌, ◌<◌, ◌++◌, ◌⊎◌, Bool, true, false, List, [], ◌∷◌, drop, length, map, Option, Some, None, refl, sym, ap, ◌∙◌, inl, inr, arith, subst}
+use Rattle.std.proofs.Common.{◌≡◌, ℕ, ◌+◌, ◌-◌, ◌<◌, ◌≤◌, ◌++◌, Bool, true, false, List, [], ◌∷◌, drop, length, map, Option, Some, None, refl, sym, ap, ◌∙◌, arith, subst}
 use Rattle.std.specs.Prelude.{IsSomeAnd}
 use Rattle.std.specs.List.{All, AllZip, slice_get}
 use Rattle.std.specs.Option.{option_map_or}
@@ -37,12 +37,13 @@ use Rattle.query_run.specs.Runs.{HasTaken}
 use Rattle.query_run.specs.declared.run.Run.{Run}
 use Rattle.wanted_rows.specs.Wanted.{tally}
 use Rattle.store_query.specs.Feeding.{HasRead, IsBeyond, Passes, TakesItem, TakesLess, TakesRows}
-use Rattle.store_query.specs.Lessening.{asked, cleared, deletes_of, HasChanges, IsLess}
+use Rattle.store_query.specs.Lessening.{asked, cleared, deletes_of, times, HasChanges, IsLess}
 use Rattle.store_query.specs.Placing.{ArePlacesOf}
 use Rattle.store_query.specs.Faults.{of_store, IsUnblamed}
 use Rattle.store_query.specs.Reading.{epoch_of, item_rows, pending_of, rows_of, source_rows, AreOver, CanRead, IsOver, IsRead, Suffice}
 use Rattle.store_query.specs.Taking.{IsTaken}
 use Rattle.store_query.proofs.Fed.{gone_counted}
+use Rattle.store_query.proofs.Lessens.{all_by_times, bag_of_times, times_both, times_of_bag, times_without}
 use Rattle.store_query.proofs.Putting.{places_cover}
 use Rattle.store_query.proofs.Seeing.{changed_seen, fitting, gone_in, gone_is, mark_before, pending_in, pending_is, rows_asked, rows_split, wide_front}
 use Rattle.store_query.proofs.Served.{taken_serves, Serves}
@@ -88,38 +89,29 @@ table_at d f over = by (slice_get d.tables f.table) refl over
 
 -- ---- rows that were passed over
 
--- Some rows are those that came and those that were passed over. Without the gone ones they are what is left of those that came, and those
--- that were passed over, where none is gone or none was passed over.
-less_passed : (gone rows came less passed : List (List Value)) → SameBag rows (came ++ passed) → IsLess gone came less → (gone ≡ []) ⊎ (passed ≡ []) → IsLess gone rows (less ++ passed)
-less_passed gone rows came less passed parts lessens (inl none) = λ rest bag.
-    let whole : SameBag rows rest = subst (λ (xs : List (List Value)). SameBag rows (xs ++ rest)) none bag in
-    let own : SameBag came (gone ++ came) = subst (λ (xs : List (List Value)). SameBag came (xs ++ came)) (sym none) (bag_refl came) in
-    let same : SameBag less came = lessens came own in
-    bag_trans (less ++ passed) rows rest (bag_sym rows (less ++ passed) (bag_trans rows (came ++ passed) (less ++ passed) parts (bag_append came passed less passed (bag_sym less came same) (bag_refl passed)))) whole
-less_passed gone rows came less passed parts lessens (inr none) = λ rest bag.
-    let all : came ++ passed ≡ came = ap (λ (xs : List (List Value)). came ++ xs) none ∙ append-nil came in
-    let kept : less ++ passed ≡ less = ap (λ (xs : List (List Value)). less ++ xs) none ∙ append-nil less in
-    let same : SameBag rows came = subst (SameBag rows) all parts in
-    subst (λ (xs : List (List Value)). SameBag xs rest) (sym kept) (lessens rest (bag_trans came rows (gone ++ rest) (bag_sym rows came same) bag))
+-- Some rows are those that came and those that were passed over. Without the gone ones, as far as these came, they are what is left of those that
+-- came, and some of those that were passed over.
+pub record ArePassed (gone rows less passed : List (List Value)) : Type 0 where
+  pub behind : List (List Value)
+  pub parts : SameBag (without gone rows) (less ++ behind)
+  pub among : (a : Asked) → times a behind ≤ times a passed
 
-behind_passed : (less passed more : List (List Value)) → SameBag ((less ++ passed) ++ more) ((less ++ more) ++ passed)
-behind_passed less passed more = record {
-  counts = λ p. omega (arith, count_append p (less ++ passed) more, count_append p less passed, count_append p (less ++ more) passed, count_append p less more);
+less_passed : (gone rows came less passed : List (List Value)) → SameBag rows (came ++ passed) → IsLess gone came less → ArePassed gone rows less passed
+less_passed gone rows came less passed parts lessens =
+    let whole = without gone rows in
+    let all : (a : Asked) → times a whole ≡ times a rows - times a gone = times_without gone rows in
+    let behind : (a : Asked) → times a (without less whole) ≡ times a whole - times a less = times_without less whole in
+    let split : (a : Asked) → times a rows ≡ times a came + times a passed = λ a. times_of_bag a rows (came ++ passed) parts ∙ times_both a came passed in
+    record {
+      behind = without less whole;
+      parts = bag_of_times whole (less ++ without less whole) (λ a. omega (arith, all a, behind a, split a, lessens a, times_both a less (without less whole)));
+      among = λ a. omega (arith, all a, behind a, split a, lessens a);
+    }
+
+behind_passed : (whole less passed more : List (List Value)) → SameBag whole (less ++ passed) → SameBag (whole ++ more) ((less ++ more) ++ passed)
+behind_passed whole less passed more bag = record {
+  counts = λ p. omega (arith, bag.counts p, count_append p whole more, count_append p less passed, count_append p (less ++ more) passed, count_append p less more);
 }
-
--- without bounds no row lies out of them
-none_beyond : (bounds : List Bound) (columns : ℕ) (passed : List (List Value)) → bounds ≡ [] → All (IsBeyond bounds columns) passed → passed ≡ []
-none_beyond bounds columns [] none beyond = refl
-none_beyond bounds columns (row ∷ passed) none beyond =
-    let here : within bounds row ≡ false = (All-head (IsBeyond bounds columns) row passed beyond).1 in
-    let in_none : within bounds row ≡ true = ap (λ (bs : List Bound). within bs row) none in
-    absurd (cc)
-
--- none is gone, or none was passed over
-nothing_passed : (places : List (Option ℕ)) (deletes : List Asked) (bounds : List Bound) (passed : List (List Value)) → (deletes ≡ []) ⊎ (bounds ≡ []) → All (IsBeyond bounds (length places)) passed
-    → (map (λ (a : Asked). cleared places a.row) deletes ≡ []) ⊎ (passed ≡ [])
-nothing_passed places deletes bounds passed (inl none) beyond = inl (ap (map (λ (a : Asked). cleared places a.row)) none)
-nothing_passed places deletes bounds passed (inr none) beyond = inr (none_beyond bounds (length places) passed none beyond)
 
 -- on a row that lies out of the bounds of the conditions no tuple is kept
 beyond_out : (q : BoundQuery) (first : ℕ) (bounds : List Bound) (columns : ℕ) (row : List Value) → All (λ b. b.column < columns) bounds → ((row : List Value) → is_kept q.keep row ≡ true → within bounds (drop first row) ≡ true)
@@ -134,18 +126,17 @@ beyond_out q first bounds columns row own kept (long, beyond) = λ before rest a
         front_within bounds row rest (subst (λ (n : ℕ). All (λ b. b.column < n) bounds) (sym long) own) (sym (ap (within bounds) behind) ∙ kept (before ++ (row ++ rest)) is) in
         absurd (cc)
 
--- the bounds of the rows of a FROM item, whose first column has this place, where these are to be taken out
-pub record AreBounds (q : BoundQuery) (first columns : ℕ) (deletes : List Asked) (bounds : List Bound) : Type 0 where
+-- the bounds of the rows of a FROM item, whose first column has this place
+pub record AreBounds (q : BoundQuery) (first columns : ℕ) (bounds : List Bound) : Type 0 where
   pub own : All (λ b. b.column < columns) bounds
   pub kept : (row : List Value) → is_kept q.keep row ≡ true → within bounds (drop first row) ≡ true
-  pub whole : (deletes ≡ []) ⊎ (bounds ≡ [])
 
 -- ---- rows that suffice
 
 -- of the rows that a projection shows these came, within the bounds; without the gone ones, and with the pending ones, they suffice for the item
 less_suffice : (m : Contents) (s : Seen) (changes : List Changes) (at : At) (q : BoundQuery) (f : FromItem) (d : Database) (p : Projected) (epoch : ℕ) (places : List (Option ℕ)) (bounds : List Bound) (came less : List (List Value)) (t : Table)
     (taken : IsTaken s q f p) → IsRead m s changes at d → ArePlacesOf q f.first f.columns (ordinals p.entry) places → epoch ≡ epoch_of at s.catalogue.last → slice_get d.tables f.table ≡ Some t → f.columns ≡ length t.columns
-    → (serves : Serves m q f d taken.table t p) → AreBounds q f.first f.columns (deletes_of at s.catalogue.tables changes f) bounds
+    → (serves : Serves m q f d taken.table t p) → AreBounds q f.first f.columns bounds
     → Passes bounds (length places) (map (placed places) (visible epoch serves.history.stored)) came → IsLess (map (λ a. cleared places a.row) (deletes_of at s.catalogue.tables changes f)) came less
     → (rows : List (List Value)) × AreSeen q f.first f.columns rows (rows_of at d changes t) × AreEnough q f.first f.columns (less ++ pending_of at s.catalogue.tables changes f) rows
 less_suffice m s changes at q f d p epoch places bounds came less t taken read are epoch_is is wide serves bounds_are passes lessens =
@@ -153,19 +144,20 @@ less_suffice m s changes at q f d p epoch places bounds came less t taken read a
     let gone = map (λ (a : Asked). cleared places a.row) deletes in
     let behind = pending_of at s.catalogue.tables changes f in
     let shown = map (placed places) (visible epoch serves.history.stored) in
-    let passed = passes.passed in
-    let lessened : IsLess gone shown (less ++ passed) = less_passed gone shown came less passed passes.parts lessens (nothing_passed places deletes bounds passed bounds_are.whole passes.beyond) in
-    let seen : AreSeen q f.first f.columns ((less ++ passed) ++ behind) (rows_of at d changes t) =
-    over_seen m s changes at q f d p epoch places ((less ++ passed) ++ behind) t taken read are epoch_is is wide serves (less ++ passed, lessened, refl) in
+    let whole = without gone shown in
+    let passed = less_passed gone shown came less passes.passed passes.parts lessens in
+    let seen : AreSeen q f.first f.columns (whole ++ behind) (rows_of at d changes t) =
+    over_seen m s changes at q f d p epoch places (whole ++ behind) t taken read are epoch_is is wide serves (whole, times_without gone shown, refl) in
     let own : All (λ b. b.column < length places) bounds = subst (λ (n : ℕ). All (λ b. b.column < n) bounds) (sym are.long) bounds_are.own in
-    let parts : SameBag ((less ++ passed) ++ behind) ((less ++ behind) ++ passed) = behind_passed less passed behind in (
-      (less ++ passed) ++ behind,
+    let parts : SameBag (whole ++ behind) ((less ++ behind) ++ passed.behind) = behind_passed whole less passed.behind behind passed.parts in (
+      whole ++ behind,
       seen,
       record {
-        wide = wide_front f.columns (less ++ behind) passed ((less ++ passed) ++ behind) parts seen.wide;
-        passed = passed;
+        wide = wide_front f.columns (less ++ behind) passed.behind (whole ++ behind) parts seen.wide;
+        passed = passed.behind;
         parts = parts;
-        out = All-weaker (IsBeyond bounds (length places)) (IsOut q f.first) (λ row beyond. beyond_out q f.first bounds (length places) row own bounds_are.kept beyond) passed passes.beyond;
+        out = All-weaker (IsBeyond bounds (length places)) (IsOut q f.first) (λ row beyond. beyond_out q f.first bounds (length places) row own bounds_are.kept beyond) passed.behind
+            (all_by_times (IsBeyond bounds (length places)) passed.behind passes.passed passed.among passes.beyond);
       },
     )
 
@@ -176,7 +168,7 @@ pub record AreRows (s : Seen) (changes : List Changes) (at : At) (f : FromItem) 
   pub changed : HasChanges (map (λ a. cleared places a.row) (deletes_of at s.catalogue.tables changes f)) (pending_of at s.catalogue.tables changes f) scanned out
 
 pub item_suffices : (m : Contents) (s : Seen) (changes : List Changes) (at : At) (q : BoundQuery) (f : FromItem) (d : Database) (p : Projected) (epoch : ℕ) (places : List (Option ℕ)) (bounds : List Bound) (out : List (List Value))
-    → IsTaken s q f p → IsRead m s changes at d → ArePlacesOf q f.first f.columns (ordinals p.entry) places → epoch ≡ epoch_of at s.catalogue.last → AreBounds q f.first f.columns (deletes_of at s.catalogue.tables changes f) bounds
+    → IsTaken s q f p → IsRead m s changes at d → ArePlacesOf q f.first f.columns (ordinals p.entry) places → epoch ≡ epoch_of at s.catalogue.last → AreBounds q f.first f.columns bounds
     → AreRows s changes at f m p epoch places bounds out → Suffice at changes q d f out
 item_suffices m s changes at q f d p epoch places bounds out taken read are epoch_is bounds_are rows = λ over. by (table_at d f over) rows.changed
   where
@@ -196,7 +188,7 @@ item_suffices m s changes at q f d p epoch places bounds out taken read are epoc
 -- so it is where the rows go to a run of the query
 pub item_taken : (m : Contents) (s : Seen) (changes : List Changes) (at : At) (q : BoundQuery) (f : FromItem) (d : Database) (p : Projected) (epoch : ℕ) (places : List (Option ℕ)) (bounds : List Bound) (first : Asked → ℕ) (old mid new : Run) → IsTaken s q f p
     → ArePlacesOf q f.first f.columns (ordinals p.entry) places → epoch ≡ epoch_of at s.catalogue.last → ((a : Asked) → first a ≡ tally a (map (λ x. asked (cleared places x.row)) (deletes_of at s.catalogue.tables changes f)))
-    → AreBounds q f.first f.columns (deletes_of at s.catalogue.tables changes f) bounds
+    → AreBounds q f.first f.columns bounds
     → ((rows : List Stamped) → Stores m p rows → TakesLess q bounds (length places) first (map (placed places) (visible epoch rows)) old mid) → TakesRows q (pending_of at s.catalogue.tables changes f) mid new
     → IsRead m s changes at d → IsOver d.tables f → TakesItem at changes q d f old new
 item_taken m s changes at q f d p epoch places bounds first old mid new taken are epoch_is first_is bounds_are takes pending read over = λ more has. by more (table_at d f over) has
@@ -216,7 +208,7 @@ item_taken m s changes at q f d p epoch places bounds first old mid new taken ar
         let serves = taken_serves m s q f d t p taken read.are is in
         let took = takes serves.history.stored serves.history.are more has in
         let less = took.1 in
-        let found = less_suffice m s changes at q f d p epoch places bounds took.0 less t taken read are epoch_is is wide serves bounds_are took.2 (took.3 gone counted) in
+        let found = less_suffice m s changes at q f d p epoch places bounds took.0 less t taken read are epoch_is is wide serves bounds_are took.2 (λ a. took.3 a ∙ ap (λ (n : ℕ). times a took.0 - n) (counted a)) in
         let at_table : rows_of at d changes t ≡ item_rows at d changes f = sym (ap (λ (o : Option Table). option_map_or (rows_of at d changes) o no_rows) is) in (
           less ++ behind,
           λ there. (found.0, subst (AreSeen q f.first f.columns found.0) at_table found.1, found.2),

@@ -1,5 +1,5 @@
 -- Rows without those that are deleted.
-use Rattle.std.proofs.Common.{◌≡◌, ℕ, zero, suc, ◌+◌, ◌≤◌, ◌++◌, Bool, true, false, not, cond, List, [], ◌∷◌, map, refl, sym, ap, ◌∙◌, arith, subst}
+use Rattle.std.proofs.Common.{◌≡◌, ℕ, zero, suc, ◌+◌, ◌-◌, ◌≤◌, ◌++◌, Bool, true, false, not, cond, List, [], ◌∷◌, map, refl, sym, ap, ◌∙◌, arith, subst}
 use Rattle.std.specs.Prelude.{count_by}
 use Rattle.std.specs.List.{All}
 use Rattle.std.specs.Ordering.{is_eq}
@@ -14,7 +14,7 @@ use Rattle.db_model.specs.State.{without, without_one}
 use Rattle.wanted_rows.specs.Wanted.{is_same, one_of, tally, Tries}
 use Rattle.wanted_rows.proofs.Counting.{same_exact, same_itself}
 use Rattle.wanted_rows.proofs.Whole.{bag_of_tally}
-use Rattle.store_query.specs.Lessening.{asked, IsLess, Keeps}
+use Rattle.store_query.specs.Lessening.{asked, times, AreGone, IsLess, Keeps}
 
 abbrev Rows : Type 0
 Rows = List (List Value)
@@ -86,22 +86,57 @@ none_needed need q (r ∷ out) none some =
     by true is more at = ap need (sym (same_exact (asked r) q is)) ∙ All-head (λ x. need (asked x) ≡ 0) r out none
     by false is more at = more (omega (arith, some, at))
 
-pub lessens_all : (gone rows left out : Rows) (first need : Asked → ℕ) → ((q : Asked) → first q ≡ tally q (map asked gone)) → left ≡ [] → Lessens first rows need left out → IsLess gone rows out
-lessens_all gone rows left out first need are is was = λ rest bag.
-    let over : SameBag (map asked rows) (map asked gone ++ map asked rest) =
-    subst (SameBag (map asked rows)) (map-append asked gone rest) (bag_map asked rows (gone ++ rest) bag) in
-    let same : (q : Asked) → tally q (map asked out) ≡ tally q (map asked rest) = λ q.
-    let sum : tally q (map asked rows) ≡ tally q (map asked gone) + tally q (map asked rest) =
-    over.counts (λ (a : Asked). is_same a q) ∙ count_append (λ (a : Asked). is_same a q) (map asked gone) (map asked rest) in
-    let empty : tally q (map asked left) ≡ 0 = ap (λ (xs : Rows). tally q (map asked xs)) is in
-    let spent : need q ≡ 0 = by q (need q) refl (omega (arith, was.counts q, sum, empty, are q)) in
-    omega (arith, was.counts q, sum, empty, spent, are q) in
-    let bags : SameBag (map asked out) (map asked rest) = bag_of_tally (map asked out) (map asked rest) same in
-    subst (λ (xs : Rows). SameBag xs rest) (row_of_asked out) (subst (SameBag (map (λ (a : Asked). a.row) (map asked out))) (row_of_asked rest) (bag_map (λ (a : Asked). a.row) (map asked out) (map asked rest) bags))
+pub lessens_all : (rows left out : Rows) (first need : Asked → ℕ) → left ≡ [] → Lessens first rows need left out → AreGone first rows out
+lessens_all rows left out first need is was = λ q. by q (need q) refl
   where
-    by : (q : Asked) (n : ℕ) → need q ≡ n → need q ≤ tally q (map asked out) → need q ≡ 0
-    by q zero is le = is
-    by q (suc n) is le = none_needed need q out was.none (omega (arith, is, le))
+    empty : (q : Asked) → tally q (map asked left) ≡ 0
+    empty q = ap (λ (xs : Rows). tally q (map asked xs)) is
+
+    by : (q : Asked) (n : ℕ) → need q ≡ n → times q out ≡ times q rows - first q
+    by q zero none = omega (arith, was.counts q, empty q, none)
+    by q (suc n) some = absent (times q out) refl
+      where
+        absent : (k : ℕ) → times q out ≡ k → times q out ≡ times q rows - first q
+        absent zero out_is = omega (arith, was.counts q, empty q, out_is)
+        absent (suc k) out_is = let none : need q ≡ 0 = none_needed need q out was.none (omega (arith, out_is)) in absurd (omega (arith, some, none))
+
+-- ---- rows by how often they stand somewhere
+
+pub bag_of_times : (xs ys : Rows) → ((q : Asked) → times q xs ≡ times q ys) → SameBag xs ys
+bag_of_times xs ys same =
+    let bags : SameBag (map asked xs) (map asked ys) = bag_of_tally (map asked xs) (map asked ys) same in
+    subst (λ (rows : Rows). SameBag rows ys) (row_of_asked xs) (subst (SameBag (map (λ (a : Asked). a.row) (map asked xs))) (row_of_asked ys) (bag_map (λ (a : Asked). a.row) (map asked xs) (map asked ys) bags))
+
+pub times_of_bag : (q : Asked) (xs ys : Rows) → SameBag xs ys → times q xs ≡ times q ys
+times_of_bag q xs ys bag = (bag_map asked xs ys bag).counts (λ (a : Asked). is_same a q)
+
+pub times_both : (q : Asked) (xs ys : Rows) → times q (xs ++ ys) ≡ times q xs + times q ys
+times_both q xs ys = ap (λ (found : List Asked). tally q found) (map-append asked xs ys) ∙ count_append (λ (a : Asked). is_same a q) (map asked xs) (map asked ys)
+
+times_cons : (q : Asked) (x : List Value) (xs : Rows) → times q (x ∷ xs) ≡ one_of (asked x) q + times q xs
+times_cons q x xs = count_cons (λ (a : Asked). is_same a q) (asked x) (map asked xs)
+
+-- where rows are the gone ones and some others, these are left
+pub less_rest : (gone rows less rest : Rows) → IsLess gone rows less → SameBag rows (gone ++ rest) → SameBag less rest
+less_rest gone rows less rest is bag = bag_of_times less rest (λ q. omega (arith, is q, times_of_bag q rows (gone ++ rest) bag, times_both q gone rest))
+
+-- what all of some rows are, each is that stands among them
+of_all : (P : List Value → Type 0) (ys : Rows) (x : List Value) → All P ys → 1 ≤ times (asked x) ys → P x
+of_all P [] x all some = absurd (omega (arith, some))
+of_all P (y ∷ ys) x all some = by (is_same (asked y) (asked x)) refl (of_all P ys x (All-tail P y ys all)) (times_cons (asked x) y ys)
+  where
+    by : (b : Bool) → is_same (asked y) (asked x) ≡ b → (1 ≤ times (asked x) ys → P x) → times (asked x) (y ∷ ys) ≡ cond (is_same (asked y) (asked x)) 1 0 + times (asked x) ys → P x
+    by true is more at = subst P (ap (λ (a : Asked). a.row) (same_exact (asked y) (asked x) is)) (All-head P y ys all)
+    by false is more at =
+        let none : one_if (is_same (asked y) (asked x)) ≡ 0 = ap one_if is in
+        more (omega (arith, some, at, none))
+
+pub all_by_times : (P : List Value → Type 0) (xs ys : Rows) → ((q : Asked) → times q xs ≤ times q ys) → All P ys → All P xs
+all_by_times P [] ys fewer all = All-nil P
+all_by_times P (x ∷ xs) ys fewer all =
+    let itself : one_if (is_same (asked x) (asked x)) ≡ 1 = ap one_if (same_itself (asked x)) in
+    All-cons P x xs (of_all P ys x all (omega (arith, fewer (asked x), times_cons (asked x) x xs, itself)))
+    (all_by_times P xs ys (λ q. omega (arith, fewer q, times_cons q x xs)) all)
 
 -- ---- the same in the words of a database
 
@@ -128,7 +163,11 @@ one_out g (row ∷ rows) some = by (like g row) refl (one_out g rows) (count_con
               omega (arith, count_cons p row rows, count_cons p g (row ∷ without_one g rows), count_cons p row (without_one g rows), count_cons p g (without_one g rows), bag.counts p);
         }
 
-pub without_less : (gone rows : Rows) → IsLess gone rows (without gone rows)
+-- where rows are the gone ones and some others, in whatever order, these are the others
+abbrev pub IsRest : Rows → Rows → Rows → Type 0
+IsRest gone rows less = (rest : Rows) → SameBag rows (gone ++ rest) → SameBag less rest
+
+pub without_less : (gone rows : Rows) → IsRest gone rows (without gone rows)
 without_less [] rows = λ rest bag. bag
 without_less (g ∷ gone) rows = λ rest bag.
     let own : like g g ≡ true = row_itself g in
@@ -137,6 +176,36 @@ without_less (g ∷ gone) rows = λ rest bag.
     let out = one_out g rows some in
     let behind : SameBag (without_one g rows) (gone ++ rest) = bag_cancel (g ∷ []) (without_one g rows) (gone ++ rest) (bag_trans (g ∷ without_one g rows) rows (g ∷ (gone ++ rest)) (bag_sym rows (g ∷ without_one g rows) out) bag) in
     without_less gone (without_one g rows) rest behind
+
+-- how often a row is left
+times_less_one : (q : Asked) (g : List Value) (rows : Rows) → times q (without_one g rows) ≡ times q rows - one_of (asked g) q
+times_less_one q g [] = omega arith
+times_less_one q g (row ∷ rows) = by (like g row) refl (times_less_one q g rows)
+  where
+    by : (b : Bool) → like g row ≡ b → times q (without_one g rows) ≡ times q rows - one_of (asked g) q → times q (cond b rows (row ∷ without_one g rows)) ≡ times q (row ∷ rows) - one_of (asked g) q
+    by true is more =
+        let same : one_of (asked row) q ≡ one_of (asked g) q = ap (λ (x : List Value). one_of (asked x) q) (row_same row g is) in
+        omega (arith, times_cons q row rows, same)
+    by false is more = ends (is_same (asked g) q) refl
+      where
+        ends : (b : Bool) → is_same (asked g) q ≡ b → times q (row ∷ without_one g rows) ≡ times q (row ∷ rows) - one_of (asked g) q
+        ends false other =
+            let none : one_of (asked g) q ≡ 0 = ap one_if other in
+            omega (arith, more, none, times_cons q row rows, times_cons q row (without_one g rows))
+        ends true same = apart (is_same (asked row) q) refl
+          where
+            apart : (b : Bool) → is_same (asked row) q ≡ b → times q (row ∷ without_one g rows) ≡ times q (row ∷ rows) - one_of (asked g) q
+            apart false other =
+                let none : one_of (asked row) q ≡ 0 = ap one_if other in
+                omega (arith, more, none, times_cons q row rows, times_cons q row (without_one g rows))
+            apart true too =
+                let equal : row ≡ g = ap (λ (a : Asked). a.row) (same_exact (asked row) q too ∙ sym (same_exact (asked g) q same)) in
+                let yes : like g row ≡ true = ap (λ (x : List Value). like g x) equal ∙ row_itself g in
+                absurd cc
+
+pub times_without : (gone rows : Rows) → IsLess gone rows (without gone rows)
+times_without [] rows = λ q. omega arith
+times_without (g ∷ gone) rows = λ q. omega (arith, times_without gone (without_one g rows) q, times_less_one q g rows, times_cons q g gone)
 
 -- ---- all of a bag
 

@@ -8,3 +8,4 @@ pub mod Fed
 pub mod Gathered
 pub mod ItemRows
 pub mod Seeing
+pub mod Counted

@@ -1,5 +1,5 @@
 -- Places of columns.
-use Rattle.std.proofs.Common.{◌≡◌, ℕ, suc, ◌+◌, ◌-◌, ◌<◌, ◌++◌, Bool, true, false, cond, List, [], ◌∷◌, length, map, filter, get_or, Option, Some, None, refl, sym, ap, ◌∙◌, arith, subst}
+use Rattle.std.proofs.Common.{◌≡◌, ℕ, suc, ◌+◌, ◌-◌, ◌^◌, ◌<◌, ◌++◌, Bool, true, false, cond, List, [], ◌∷◌, length, map, filter, get_or, Option, Some, None, refl, sym, ap, ◌∙◌, arith, subst}
 use Rattle.std.specs.Prelude.{◌==◌, ◌&&◌, ◌||◌, ◌⊎◌, is_some, nat_le, nat_lt}
 use Rattle.std.proofs.Common.{inl, inr}
 use Rattle.std.specs.List.{list_all, list_any, position, position_from, slice_get}
@@ -18,7 +18,7 @@ use Rattle.sql_bound.specs.declared.query.FromItem.{FromItem}
 use Rattle.sql_bound.specs.declared.query.BoundQuery.{BoundQuery}
 use Rattle.db_model.specs.Database.{has_columns}
 use Rattle.db_model.specs.Choice.{within_item}
-use Rattle.sql_bound.specs.Used.{used_columns}
+use Rattle.sql_bound.specs.Used.{is_used, used_columns}
 use Rattle.folder_model.specs.Projections.{ordinals, shape_of}
 use Rattle.query_cover.specs.Seen.{ArePlaces}
 use Rattle.store_query.specs.Placing.{ArePlacesOf, AreWithin, IsPlaceOf}
@@ -58,11 +58,12 @@ own_place : (c : ℕ) (ks : List ProjColumn) (place : Option ℕ) → StandsFrom
 own_place c ks None stands = tt
 own_place c ks (Some j) (n, at, is) = let same : n ≡ j = omega (arith, at) in subst (λ (x : ℕ). slice_get (ordinals_of ks) x ≡ Some c) same is
 
-pub place_first : (q : BoundQuery) (first : ℕ) (ks : List ProjColumn) (c : ℕ) (place : Option ℕ) → place ≡ position (λ k. k.ordinal == c) ks → IsPlaceOf q first (ordinals_of ks) c place
-place_first q first ks c place is =
+pub place_first : (q : BoundQuery) (first : ℕ) (ks : List ProjColumn) (c : ℕ) (place : Option ℕ) → (first + c < 2 ^ 64 → is_used q (first + c) ≡ true) → place ≡ position (λ k. k.ordinal == c) ks
+    → IsPlaceOf q first (ordinals_of ks) c place
+place_first q first ks c place only is =
     let same : position_from (λ k. k.ordinal == c) 0 ks ≡ place = sym (position_from-zero (λ (k : ProjColumn). k.ordinal == c) ks) ∙ sym is in
     subst (λ (o : Option ℕ). IsPlaceOf q first (ordinals_of ks) c o) same
-    (record { own = own_place c ks (position_from (λ k. k.ordinal == c) 0 ks) (first_stands c 0 ks); used = λ used has. first_found c 0 ks has })
+    (record { own = own_place c ks (position_from (λ k. k.ordinal == c) 0 ks) (first_stands c 0 ks); used = λ used has. first_found c 0 ks has; only = λ some fits. only fits })
 
 -- ---- the places of all columns
 

@@ -32,7 +32,7 @@ use Rattle.sql_bound.specs.Used.{blanked, is_used}
 use Rattle.query_cover.proofs.Placed.{placed_seen}
 use Rattle.store_query.specs.Lessening.{cleared, deletes_of, value_kept, IsLess}
 use Rattle.store_query.specs.Reading.{epoch_of, pending_of, rows_of, IsKeptEpoch}
-use Rattle.store_query.proofs.Lessens.{all_of_bag, without_less}
+use Rattle.store_query.proofs.Lessens.{all_of_bag, less_rest, without_less}
 use Rattle.store_query.proofs.Served.{all_at}
 
 abbrev Rows : Type 0
@@ -237,7 +237,8 @@ changed_seen q first columns ordinals places deletes shown rows live less more a
     subst (SameBag (map (placed places) shown))
     (map-append (placed places) (map on gone) (map on live) ∙ ap (λ (xs : Rows). xs ++ map (placed places) (map on live)) (sym (gone_cleared q first columns ordinals places deletes are)))
     (bag_map (placed places) shown (map on gone ++ map on live) shows) in
-    let here : SameBag less (map (placed places) (map on live)) = lessened (map (placed places) (map on live)) scans in
+    let here : SameBag less (map (placed places) (map on live)) =
+    less_rest (map (λ a. cleared places a.row) deletes) (map (placed places) shown) less (map (placed places) (map on live)) lessened scans in
     let there : SameBag (without gone rows) live = without_less gone rows live split in
     seen_bag q first columns (map (placed places) (map on live) ++ more) (live ++ more) (less ++ more) (without gone rows ++ more) seen
     (bag_append less more (map (placed places) (map on live)) more here (bag_refl more)) (bag_append (without gone rows) more live more there (bag_refl more))

@@ -1,8 +1,7 @@
 -- Rows without those that a session has deleted.
-use Rattle.std.specs.Prelude.{◌≡◌, ℕ, ◌++◌, if◌then◌else◌, Bool, List, [], ◌∷◌, map, Option, is_some, slice_index_or}
+use Rattle.std.specs.Prelude.{◌≡◌, ℕ, ◌-◌, ◌++◌, if◌then◌else◌, Bool, List, [], ◌∷◌, map, Option, is_some, slice_index_or}
 use Rattle.std.specs.List.{enumerate_from, slice_get}
 use Rattle.std.specs.Option.{option_map_or}
-use Rattle.common_laws.specs.Bags.{SameBag}
 use Rattle.col_value.specs.declared.row.Asked.{Asked}
 use Rattle.col_value.specs.declared.value.Value.{Value}
 use Rattle.col_value.specs.declared.value.Value.TheVariants as value
@@ -29,17 +28,21 @@ cleared places row = map (value_kept row) (enumerate_from 0 places)
 abbrev pub asked : List Value → Asked
 asked row = record { row = row; ins = 0 }
 
--- where rows are the gone ones and some others, in whatever order, these are the others
+-- how often a row stands among some
+abbrev pub times : Asked → List (List Value) → ℕ
+times a rows = tally a (map asked rows)
+
+-- these are the rows without the gone ones, as far as these are among them
 abbrev pub IsLess : List (List Value) → List (List Value) → List (List Value) → Type 0
-IsLess gone rows less = (rest : List (List Value)) → SameBag rows (gone ++ rest) → SameBag less rest
+IsLess gone rows less = (a : Asked) → times a less ≡ times a rows - times a gone
 
 -- a row that is still to be taken out is counted, and another one is kept
 abbrev pub Keeps : List Value → List (List Value) → List (List Value) → (Asked → ℕ) → (Asked → ℕ) → Type 0
 Keeps row out next need less = (taken : Bool) × Tries taken (asked row) need less × (next ≡ (if taken then out else out ++ row ∷ []))
 
--- where so many of each row are to be taken out, these are the others
+-- where so many of each row are to be taken out, these are left
 abbrev pub AreGone : (Asked → ℕ) → List (List Value) → List (List Value) → Type 0
-AreGone first rows less = (gone : List (List Value)) → ((q : Asked) → first q ≡ tally q (map asked gone)) → IsLess gone rows less
+AreGone first rows less = (a : Asked) → times a less ≡ times a rows - first a
 
 -- rows without the gone ones, and then the pending ones
 abbrev pub HasChanges : List (List Value) → List (List Value) → List (List Value) → List (List Value) → Type 0

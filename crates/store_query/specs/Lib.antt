@@ -4,3 +4,4 @@ pub mod Lessening
 pub mod Placing
 pub mod Reading
 pub mod Taking
+pub mod Counting

@@ -14,7 +14,8 @@ ghost use Rattle.query_cover.specs.Seen.{placed};
 ghost use Rattle.query_run.specs.Runs.{IsRunOf};
 ghost use Rattle.col_disk.specs.Faults.{IsUnblamed};
 ghost use Rattle.proj_store.specs.Reading.{BlamesRows};
-ghost use Rattle.exec_scan.specs.Scanning.{AreOwn};
+ghost use Rattle.exec_scan.specs.Counting.{SpendsUpto};
+ghost use Rattle.exec_scan.specs.Scanning.{AreOwn, start};
 ghost use Rattle.wanted_rows.specs.Wanted.{need_in, Tries};
 ghost use Rattle.store_query.specs.Feeding.{Feeds, TakesLess, TakesRows};
 ghost use Rattle.store_query.specs.Lessening.{asked};
@@ -28,8 +29,7 @@ use query_run::Run;
 use row_bounds::Bound;
 use sql_bound::BoundQuery;
 use std::alloc::{AllocError, Global};
-use std::marker::Brand;
-use std::sync::ledger::{Blank, Ledger};
+use std::sync::ledger::Ledger;
 use wanted_rows::Wants;
 use write_store::Inserted;
 
@@ -140,8 +140,9 @@ fn feed_batch(
 }
 
 /// The same with the rows of a projection that are visible at an epoch, made for the table's columns: for each of these `places` has its
-/// place in the projection, if it is needed. Rows that lie out of the bounds may be passed over. No more than a batch of them is held.
-pub fn feed_scan<D: Disk>(
+/// place in the projection, if it is needed. Rows that lie out of the bounds may be passed over. No more than a batch of them is held. Each block
+/// that is read is a step, of no more than a scan takes within these bounds.
+pub fn feed_scan<D: Disk, L: Ledger>(
     alloc: Global,
     query: &BoundQuery,
     store: &ProjStore,
@@ -151,6 +152,7 @@ pub fn feed_scan<D: Disk>(
     wants: Wants,
     run: &mut Run,
     disk: &mut D,
+    steps: &mut Steps<L>,
 ) -> Result<(), StoreFault>
     requires bounded { IsBoundedQuery query.now }
     requires own { AreOwn store.now.stored.entry places.items }
@@ -159,56 +161,15 @@ pub fn feed_scan<D: Disk>(
     ensures run { OnOk result (IsRunOf query.now run.new) }
     ensures unblamed { IfErr result (λ fault. (m : Contents) → D.holds disk.old ≡ Some m → (rows : List Stamped) → Stores m store.now.stored rows → IsUnblamed fault) }
     ensures blamed { IfErr result (BlamesRows store.now.stored.entry (D.holds disk.old)) }
-    ensures kept { D.holds disk.new ≡ D.holds disk.old }
-    ensures moved { Moved ⟦<D as Disk>⟧ NoName NoName disk.old disk.new }
-    ensures cause { HasCause StoreFault.Disk (D.faults disk.old) (D.faults disk.new) result }
-{
-    feed_by::<D, Brand>(
-        alloc,
-        query,
-        store,
-        epoch,
-        places,
-        bounds,
-        wants,
-        run,
-        disk,
-        Blank::new(1),
-    )
-}
-
-/// The same, counted over a blank.
-fn feed_by<D: Disk, L: Ledger>(
-    alloc: Global,
-    query: &BoundQuery,
-    store: &ProjStore,
-    epoch: u64,
-    places: Vec<Option<usize>>,
-    bounds: Vec<Bound>,
-    wants: Wants,
-    run: &mut Run,
-    disk: &mut D,
-    blank: Blank,
-) -> Result<(), StoreFault>
-    requires name { blank.name ≡ L.name }
-    requires parts { blank.parts ≡ L.parts }
-    requires some { 0 < L.parts }
-    requires bounded { IsBoundedQuery query.now }
-    requires own { AreOwn store.now.stored.entry places.items }
-    requires run { IsRunOf query.now run.old }
-    ensures fed { OnOk result ((m : Contents) → D.holds disk.old ≡ Some m → (rows : List Stamped) → Stores m store.now.stored rows → TakesLess query.now bounds.items (length places.items) (need_in wants) (map (placed places.items) (visible epoch rows)) run.old run.new) }
-    ensures run { OnOk result (IsRunOf query.now run.new) }
-    ensures unblamed { IfErr result (λ fault. (m : Contents) → D.holds disk.old ≡ Some m → (rows : List Stamped) → Stores m store.now.stored rows → IsUnblamed fault) }
-    ensures blamed { IfErr result (BlamesRows store.now.stored.entry (D.holds disk.old)) }
+    ensures steps { SpendsUpto (D.holds disk.old) store.now.stored (start epoch places.items bounds.items false) steps.old steps.new }
     ensures kept { D.holds disk.new ≡ D.holds disk.old }
     ensures moved { Moved ⟦<D as Disk>⟧ NoName NoName disk.old disk.new }
     ensures cause { HasCause StoreFault.Disk (D.faults disk.old) (D.faults disk.new) result }
 {
     let mut wants = wants;
-    let mut steps = Steps::<L>::new(blank);
     let mut scan = Scan::new(epoch, places, bounds, false);
     loop {
-        let batch = match scan.next(alloc, store, disk, &mut steps) {
+        let batch = match scan.next(alloc, store, disk, steps) {
             Ok(Some(batch)) => batch,
             Ok(None) => return Ok(()),
             Err(fault) => return Err(fault),

@@ -1,6 +1,6 @@
 //! Where the columns that a query uses stand in a projection.
 
-ghost use Rattle.std.specs.Prelude.{◌≡◌, ◌==◌, ◌+◌, true, length, map, position, IfOk};
+ghost use Rattle.std.specs.Prelude.{◌≡◌, ◌<◌, ◌==◌, ◌+◌, ◌^◌, true, length, map, position, IfOk};
 ghost use Rattle.sql_bound.specs.Used.{is_used};
 ghost use Rattle.store_query.specs.Placing.{ArePlacesOf, AreWithin, IsPlaceOf};
 
@@ -11,7 +11,8 @@ use std::alloc::{AllocError, Global};
 
 /// Whether the query may use the column at a place behind another; one past all numbers isn't looked for.
 fn may_be_used(query: &BoundQuery, first: usize, c: usize) -> bool
-    ensures { is_used query.now (first + c) ≡ true → result ≡ true }
+    ensures may { is_used query.now (first + c) ≡ true → result ≡ true }
+    ensures only { result ≡ true → first + c < 2 ^ 64 → is_used query.now (first + c) ≡ true }
 {
     match first.checked_add(c) {
         Some(column) => is_used(query, column),

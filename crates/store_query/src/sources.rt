@@ -1,6 +1,6 @@
 //! The rows of the FROM items.
 
-ghost use Rattle.std.specs.Prelude.{◌≡◌, ◌<◌, ◌⊎◌, ◌∷◌, true, List as Items, [], Some, drop, map, IfOk, IfErr, OnOk};
+ghost use Rattle.std.specs.Prelude.{◌≡◌, ◌<◌, ◌∷◌, [], true, Contains, List as Items, Some, drop, map, IfOk, IfErr, OnOk};
 ghost use Rattle.std.specs.List.{All, AllZip};
 ghost use Rattle.std.specs.Option.{IfSome};
 ghost use Rattle.common_laws.specs.Causes.{HasCause};
@@ -10,11 +10,14 @@ ghost use Rattle.col_value.specs.Order.{IsRow};
 ghost use Rattle.col_value.specs.declared.value.Value.{Value as Item};
 ghost use Rattle.sql_bound.specs.Outputs.{is_kept};
 ghost use Rattle.row_bounds.specs.Bounds.{within};
+ghost use Rattle.row_bounds.specs.Setting.{IsSet};
+ghost use Rattle.row_bounds.specs.declared.bound.Bound.{Bound as Within};
 ghost use Rattle.db_model.specs.Database.{Database};
 ghost use Rattle.query_laws.specs.Bounded.{IsBoundedQuery};
 ghost use Rattle.query_run.specs.Runs.{IsRunOf};
 ghost use Rattle.col_disk.specs.Faults.{IsUnblamed};
 ghost use Rattle.table_store.specs.Faults.{BlamesStored};
+ghost use Rattle.store_query.specs.Counting.{Counts};
 ghost use Rattle.store_query.specs.Feeding.{HasRead, TakesItem};
 ghost use Rattle.store_query.specs.Lessening.{cleared, deletes_of, HasChanges};
 ghost use Rattle.store_query.specs.Reading.{epoch_of, pending_of, IsOver, IsRead, Suffice};
@@ -26,7 +29,8 @@ use crate::lessening::{deletes_of, wants_of, without_deletes};
 use crate::pending::{add_rows, pending_of};
 use crate::places::places_of;
 use col_disk::{Disk, StoreFault};
-use col_value::{Asked, List, Row};
+use col_value::{List, Row};
+use common_laws::Steps;
 use plan_choice::choose;
 use proj_store::ProjStore;
 use query_run::Run;
@@ -34,6 +38,7 @@ use row_bounds::{Bound, bounds_from};
 use sql_bound::{BoundQuery, FromItem};
 use sql_tree::At;
 use std::alloc::{AllocError, Global};
+use std::sync::ledger::Ledger;
 use table_store::TableStore;
 use txn_core::Session;
 
@@ -92,27 +97,18 @@ fn with_changes(
     Ok(rows)
 }
 
-/// The bounds in which the rows of a FROM item have to lie. There are none where the session deletes rows of its table, since each of these
-/// has to come to be taken out.
-fn bounds_for(
-    alloc: Global,
-    query: &BoundQuery,
-    item: FromItem,
-    deletes: &[Asked],
-) -> Result<Vec<Bound>, AllocError>
+/// The bounds that the conditions set to the columns of a FROM item.
+fn bounds_for(alloc: Global, query: &BoundQuery, item: FromItem) -> Result<Vec<Bound>, AllocError>
     ensures own { IfOk result (λ v. All (λ b. b.column < item.columns) v.items) }
     ensures kept { IfOk result (λ v. (row : Items Item) → is_kept query.now.keep row ≡ true → within v.items (drop item.first row) ≡ true) }
-    ensures whole { IfOk result (λ v. (deletes.now ≡ []) ⊎ (v.items ≡ [])) }
+    ensures set { IfOk result (λ v. (b : Within) → IsSet query.now.keep item.first item.columns b → Contains v.items b) }
 {
-    if deletes.is_empty() {
-        return bounds_from(alloc, query.keep.as_slice(), item.first, item.columns);
-    }
-    Ok(Vec::new(alloc))
+    bounds_from(alloc, query.keep.as_slice(), item.first, item.columns)
 }
 
 /// The rows that a query reads of a FROM item's table: those of the chosen projection, but for some that lie out of the bounds of the
 /// conditions, with the session's changes.
-fn rows_of_item<D: Disk>(
+fn rows_of_item<D: Disk, L: Ledger>(
     alloc: Global,
     tables: &TableStore,
     changes: &Session,
@@ -120,11 +116,13 @@ fn rows_of_item<D: Disk>(
     query: &BoundQuery,
     item: FromItem,
     disk: &mut D,
+    steps: &mut Steps<L>,
 ) -> Result<Vec<Row>, StoreFault>
     ensures suffice { IfOk result (λ v. (m : Contents) → D.holds disk.old ≡ Some m → (d : Database) → IsRead m tables.now changes.now at d → Suffice at changes.now query.now d item v.items) }
     ensures valid { IfOk result (λ v. All IsRow v.items) }
     ensures unblamed { IfErr result (λ fault. (m : Contents) → D.holds disk.old ≡ Some m → (d : Database) → IsRead m tables.now changes.now at d → IsOver d.tables item → IsUnblamed fault) }
     ensures blamed { IfErr result (BlamesStored tables.now.stores (D.holds disk.old)) }
+    ensures steps { Counts (D.holds disk.old) tables.now query.now (item ∷ []) steps.old steps.new }
     ensures kept { D.holds disk.new ≡ D.holds disk.old }
     ensures moved { Moved ⟦<D as Disk>⟧ NoName NoName disk.old disk.new }
     ensures cause { HasCause StoreFault.Disk (D.faults disk.old) (D.faults disk.new) result }
@@ -141,13 +139,12 @@ fn rows_of_item<D: Disk>(
         Ok(scanned) => scanned,
         Err(AllocError) => return Err(StoreFault::Memory),
     };
-    let deletes = deletes_of(tables, changes, at, item);
-    let bounds = match bounds_for(alloc, query, item, deletes) {
+    let bounds = match bounds_for(alloc, query, item) {
         Ok(bounds) => bounds,
         Err(AllocError) => return Err(StoreFault::Memory),
     };
     let epoch = epoch_of(at, tables.last());
-    let rows = match scan_within(alloc, store, epoch, scanned, bounds, disk) {
+    let rows = match scan_within(alloc, store, epoch, scanned, bounds, disk, steps) {
         Ok(rows) => rows,
         Err(fault) => return Err(fault),
     };
@@ -160,7 +157,7 @@ fn rows_of_item<D: Disk>(
 /// Gives a run what a query reads of a FROM item's table, of which none but a batch is held: the rows of the chosen projection, but for those
 /// that lie out of the bounds of the conditions, as far as blocks of them can be passed over, and for those that the session deletes; and
 /// then its pending ones.
-fn feed_item<D: Disk>(
+fn feed_item<D: Disk, L: Ledger>(
     alloc: Global,
     tables: &TableStore,
     changes: &Session,
@@ -169,6 +166,7 @@ fn feed_item<D: Disk>(
     item: FromItem,
     run: &mut Run,
     disk: &mut D,
+    steps: &mut Steps<L>,
 ) -> Result<(), StoreFault>
     requires bounded { IsBoundedQuery query.now }
     requires run { IsRunOf query.now run.old }
@@ -176,6 +174,7 @@ fn feed_item<D: Disk>(
     ensures run { OnOk result (IsRunOf query.now run.new) }
     ensures unblamed { IfErr result (λ fault. (m : Contents) → D.holds disk.old ≡ Some m → (d : Database) → IsRead m tables.now changes.now at d → IsOver d.tables item → IsUnblamed fault) }
     ensures blamed { IfErr result (BlamesStored tables.now.stores (D.holds disk.old)) }
+    ensures steps { Counts (D.holds disk.old) tables.now query.now (item ∷ []) steps.old steps.new }
     ensures kept { D.holds disk.new ≡ D.holds disk.old }
     ensures moved { Moved ⟦<D as Disk>⟧ NoName NoName disk.old disk.new }
     ensures cause { HasCause StoreFault.Disk (D.faults disk.old) (D.faults disk.new) result }
@@ -193,12 +192,14 @@ fn feed_item<D: Disk>(
         Ok(wants) => wants,
         Err(AllocError) => return Err(StoreFault::Memory),
     };
-    let bounds = match bounds_for(alloc, query, item, deletes) {
+    let bounds = match bounds_for(alloc, query, item) {
         Ok(bounds) => bounds,
         Err(AllocError) => return Err(StoreFault::Memory),
     };
     let epoch = epoch_of(at, tables.last());
-    match feed_scan(alloc, query, store, epoch, places, bounds, wants, run, disk) {
+    match feed_scan(
+        alloc, query, store, epoch, places, bounds, wants, run, disk, steps,
+    ) {
         Ok(()) => {}
         Err(fault) => return Err(fault),
     }
@@ -209,7 +210,7 @@ fn feed_item<D: Disk>(
 }
 
 /// The rows that a query reads of each of these FROM items, but for some on which no tuple is kept.
-fn rows_of_items<D: Disk>(
+fn rows_of_items<D: Disk, L: Ledger>(
     alloc: Global,
     tables: &TableStore,
     changes: &Session,
@@ -217,18 +218,20 @@ fn rows_of_items<D: Disk>(
     query: &BoundQuery,
     items: &[FromItem],
     disk: &mut D,
+    steps: &mut Steps<L>,
 ) -> Result<Vec<List<Row>>, StoreFault>
     ensures suffice { IfOk result (λ v. (m : Contents) → D.holds disk.old ≡ Some m → (d : Database) → IsRead m tables.now changes.now at d → AllZip (Suffice at changes.now query.now d) items.now v.items) }
     ensures valid { IfOk result (λ v. All (All IsRow) v.items) }
     ensures unblamed { IfErr result (λ fault. (m : Contents) → D.holds disk.old ≡ Some m → (d : Database) → IsRead m tables.now changes.now at d → All (IsOver d.tables) items.now → IsUnblamed fault) }
     ensures blamed { IfErr result (BlamesStored tables.now.stores (D.holds disk.old)) }
+    ensures steps { Counts (D.holds disk.old) tables.now query.now items.now steps.old steps.new }
     ensures kept { D.holds disk.new ≡ D.holds disk.old }
     ensures moved { Moved ⟦<D as Disk>⟧ NoName NoName disk.old disk.new }
     ensures cause { HasCause StoreFault.Disk (D.faults disk.old) (D.faults disk.new) result }
 {
     let mut out = Vec::new(alloc);
     for item in items {
-        let rows = match rows_of_item(alloc, tables, changes, at, query, *item, disk) {
+        let rows = match rows_of_item(alloc, tables, changes, at, query, *item, disk, steps) {
             Ok(rows) => rows,
             Err(fault) => return Err(fault),
         };
@@ -242,7 +245,7 @@ fn rows_of_items<D: Disk>(
 
 /// A run of a query to which all that the query reads of its FROM items has come: the rows of the first one by one, when it holds those
 /// of the others.
-pub fn run_of<D: Disk>(
+pub fn run_of<D: Disk, L: Ledger>(
     alloc: Global,
     tables: &TableStore,
     changes: &Session,
@@ -251,17 +254,19 @@ pub fn run_of<D: Disk>(
     first: FromItem,
     others: &[FromItem],
     disk: &mut D,
+    steps: &mut Steps<L>,
 ) -> Result<Run, StoreFault>
     requires bounded { IsBoundedQuery query.now }
     ensures read { IfOk result (λ run. (m : Contents) → D.holds disk.old ≡ Some m → (d : Database) → IsRead m tables.now changes.now at d → All (IsOver d.tables) (first ∷ others.now) → HasRead at changes.now query.now d (first ∷ others.now) run) }
     ensures run { IfOk result (IsRunOf query.now) }
     ensures unblamed { IfErr result (λ fault. (m : Contents) → D.holds disk.old ≡ Some m → (d : Database) → IsRead m tables.now changes.now at d → All (IsOver d.tables) (first ∷ others.now) → IsUnblamed fault) }
     ensures blamed { IfErr result (BlamesStored tables.now.stores (D.holds disk.old)) }
+    ensures steps { Counts (D.holds disk.old) tables.now query.now (first ∷ others.now) steps.old steps.new }
     ensures kept { D.holds disk.new ≡ D.holds disk.old }
     ensures moved { Moved ⟦<D as Disk>⟧ NoName NoName disk.old disk.new }
     ensures cause { HasCause StoreFault.Disk (D.faults disk.old) (D.faults disk.new) result }
 {
-    let more = match rows_of_items(alloc, tables, changes, at, query, others, disk) {
+    let more = match rows_of_items(alloc, tables, changes, at, query, others, disk, steps) {
         Ok(more) => more,
         Err(fault) => return Err(fault),
     };
@@ -269,7 +274,9 @@ pub fn run_of<D: Disk>(
         Ok(run) => run,
         Err(AllocError) => return Err(StoreFault::Memory),
     };
-    match feed_item(alloc, tables, changes, at, query, first, &mut run, disk) {
+    match feed_item(
+        alloc, tables, changes, at, query, first, &mut run, disk, steps,
+    ) {
         Ok(()) => Ok(run),
         Err(fault) => Err(fault),
     }

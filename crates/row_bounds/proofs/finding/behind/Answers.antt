@@ -5,5 +5,5 @@ use Rattle.col_value.specs.declared.value.Value.{Value}
 use Rattle.row_bounds.proofs.Comparisons.{gt_on}
 use Rattle.row_bounds.proofs.finding.behind.Goals as goal
 
-pub returns-in-Text : goal.returns-in-Text
-returns-in-Text c = λ v e. ap (λ (x : Value). is_le (value_cmp x v)) (sym c.in-Text.is) ∙ gt_on v c.args.value e
+pub returns-in-Text-clause-near : goal.returns-in-Text-clause-near
+returns-in-Text-clause-near c = λ v e. ap (λ (x : Value). is_le (value_cmp x v)) (sym c.in-Text.is) ∙ gt_on v c.args.value e

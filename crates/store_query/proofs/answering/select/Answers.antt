@@ -7,9 +7,12 @@ use Rattle.query_cover.proofs.Permuted.{great_seen, not_great_seen, printed_seen
 use Rattle.store_query.specs.declared.fault.SelectFault.{SelectFault}
 use Rattle.store_query.specs.declared.fault.SelectFault.TheVariants as select
 use Rattle.col_value.specs.declared.value.Value.{Value}
+use Rattle.sql_bound.specs.declared.query.FromItem.{FromItem}
 use Rattle.sql_bound.specs.Outputs.{IsSumTooGreat}
 use Rattle.store_query.specs.Faults.{of_query, BlamesRead, IsUnblamed}
 use Rattle.store_query.specs.Reading.{source_rows}
+use Rattle.store_query.specs.Counting.{ReadsEach}
+use Rattle.store_query.proofs.Counted.{reads_none}
 use Rattle.store_query.proofs.Blames.{query_blames, read_blames}
 use Rattle.store_query.proofs.ItemRows.{nothing_read, run_suffices, select_unblamed}
 use Rattle.store_query.proofs.answering.select.Goals as goal
@@ -81,3 +84,21 @@ returns-in-Err-finish-clause-great g c = λ is d can.
     let (first, more, suffice, taken) = run_suffices g.D.Disk c.args.tables.now c.args.disk.now c.args.changes.now c.args.at q d (c.in-Some.first.now ∷ c.in-Some.others.now) c.in-Ok-run_of.run' own c.in-Ok-run_of.ensures.read can in
     great_seen q suffice.rows (source_rows c.args.at d c.args.changes.now q) suffice.seen
     (great_enough q (first ∷ more) suffice.rows suffice.enough (c.in-Err-finish.ensures.great (ap (λ (f : QueryFault). Err f) told) more first taken))
+
+pub returns-in-Ok-clause-steps : goal.returns-in-Ok-clause-steps
+returns-in-Ok-clause-steps g c = λ m told. reads_none m c.args.tables.now c.args.query.now c.args.query.now.sources c.args.steps.now c.args.steps.now refl
+
+pub returns-in-Err-clause-steps : goal.returns-in-Err-clause-steps
+returns-in-Err-clause-steps g c = λ m told. reads_none m c.args.tables.now c.args.query.now c.args.query.now.sources c.args.steps.now c.args.steps.now refl
+
+pub returns-in-Err-run_of-clause-steps : goal.returns-in-Err-run_of-clause-steps
+returns-in-Err-run_of-clause-steps g c = λ m told.
+    subst (λ (fs : List FromItem). ReadsEach m c.args.tables.now c.args.query.now fs c.args.steps.now c.run_of.new.steps) (sym c.in-Some.ensures.cases.0 ∙ c.as_slice.ensures) (c.run_of.ensures.steps m told)
+
+pub returns-in-Ok-finish-clause-steps : goal.returns-in-Ok-finish-clause-steps
+returns-in-Ok-finish-clause-steps g c = λ m told.
+    subst (λ (fs : List FromItem). ReadsEach m c.args.tables.now c.args.query.now fs c.args.steps.now c.run_of.new.steps) (sym c.in-Some.ensures.cases.0 ∙ c.as_slice.ensures) (c.run_of.ensures.steps m told)
+
+pub returns-in-Err-finish-clause-steps : goal.returns-in-Err-finish-clause-steps
+returns-in-Err-finish-clause-steps g c = λ m told.
+    subst (λ (fs : List FromItem). ReadsEach m c.args.tables.now c.args.query.now fs c.args.steps.now c.run_of.new.steps) (sym c.in-Some.ensures.cases.0 ∙ c.as_slice.ensures) (c.run_of.ensures.steps m told)

@@ -1,4 +1,27 @@
+use Rattle.std.proofs.Common.{◌≡◌, false, List, length}
+use Rattle.std.specs.Prelude.{Some}
+use Rattle.std.specs.List.{All}
+use Rattle.common_laws.specs.Maps.{Contents}
+use Rattle.col_disk.specs.Moved.{Moved, NoName}
+use Rattle.col_value.specs.Order.{IsRow}
+use Rattle.col_value.specs.declared.row.Stamped.{Stamped}
+use Rattle.stored_rows.specs.Stored.{Stores}
+use Rattle.exec_scan.specs.Scanning.{IsAtHand, IsScanOf, start, steps_left}
+use Rattle.store_query.proofs.Counted.{SpentUpto}
+use Rattle.store_query.proofs.Gathered.{Asks, Gathered}
 use Rattle.store_query.proofs.gathering.scan_within.Given as goal
 
-abbrev pub ghosts-scan_by : goal.ghosts-scan_by
-ghosts-scan_by g a = record { name = a.blank.name; parts = a.blank.parts }
+abbrev pub invariant-loop-batch : goal.invariant-loop-batch
+invariant-loop-batch g l = record {
+  gathered : (m : Contents) → g.D.Disk.holds l.fn.disk ≡ Some m → (rows : List Stamped) → Stores m l.store.stored rows → Gathered m l.store.stored l.epoch l.fn.places.items l.fn.bounds.items l.scan rows l.out.items;
+  scan_of : IsScanOf l.store.stored.entry l.scan;
+  at_hand : IsAtHand (g.D.Disk.holds l.disk) l.store.stored l.scan;
+  asks : Asks l.epoch l.fn.places.items l.fn.bounds.items l.scan;
+  valid : All IsRow l.out.items;
+  counted : (m : Contents) → g.D.Disk.holds l.fn.disk ≡ Some m → SpentUpto m l.store.stored l.fn.places.items (start l.epoch l.fn.places.items l.fn.bounds.items false) l.fn.steps l.scan l.steps;
+  kept : g.D.Disk.holds l.disk ≡ g.D.Disk.holds l.fn.disk;
+  moved : Moved g.D.Disk NoName NoName l.fn.disk l.disk;
+}
+
+abbrev pub decreases-loop-batch : goal.decreases-loop-batch
+decreases-loop-batch g l = steps_left l.store.stored.entry (length l.store.stored.unsaved) l.scan

@@ -18,6 +18,6 @@ loop-row-preserved c =
     }
 
 pub returns-clause-less : goal.returns-clause-less
-returns-clause-less c = λ gone are.
+returns-clause-less c =
     let none : c.loop-row.rest.items ≡ [] = search rules in
-    lessens_all gone c.args.rows.items c.loop-row.rest.items c.loop-row.out.items (need_in c.args.wants) (need_in c.loop-row.wants) are none c.loop-row.invariant.lessens
+    lessens_all c.args.rows.items c.loop-row.rest.items c.loop-row.out.items (need_in c.args.wants) (need_in c.loop-row.wants) none c.loop-row.invariant.lessens

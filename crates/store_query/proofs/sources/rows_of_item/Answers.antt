@@ -1,5 +1,8 @@
-use Rattle.std.proofs.Common.{◌≡◌, ◌∙◌, ◌⊎◌, ℕ, List, [], ap, map, length, subst}
+use Rattle.std.proofs.Common.{◌≡◌, ◌∙◌, ◌∷◌, false, ℕ, List, [], Some, ap, map, length, refl, subst}
 use Rattle.std.specs.Prelude.{Option}
+use Rattle.common_laws.specs.Maps.{Contents}
+use Rattle.exec_scan.specs.Counting.{SpendsUpto}
+use Rattle.exec_scan.specs.Scanning.{start}
 use Rattle.col_disk.proofs.Moving.{moved_none}
 use Rattle.col_value.specs.declared.row.Asked.{Asked}
 use Rattle.catalog_types.specs.declared.catalogue.ProjColumn.{ProjColumn}
@@ -12,6 +15,7 @@ use Rattle.store_query.specs.Feeding.{Passes}
 use Rattle.store_query.specs.Lessening.{cleared, deletes_of, HasChanges}
 use Rattle.store_query.specs.Placing.{ArePlacesOf}
 use Rattle.store_query.specs.Reading.{epoch_of, pending_of}
+use Rattle.store_query.proofs.Counted.{reads_none, reads_one}
 use Rattle.store_query.proofs.ItemRows.{item_suffices, item_unblamed, AreBounds, AreRows}
 use Rattle.store_query.proofs.sources.rows_of_item.Goals as goal
 
@@ -48,12 +52,7 @@ returns-in-Ok-with_changes-clause-suffice g c = λ m told d read.
     let copied : c.in-Ok-from_slice.scanned.items ≡ places = c.in-Ok-from_slice.ensures.items ∙ c.as_slice.ensures.value in
     let gone = λ (ps : List (Option ℕ)). map (λ (a : Asked). cleared ps a.row) (deletes_of c.args.at s.catalogue.tables c.args.changes.now f) in
     let within = c.in-Ok-bounds_for.bounds.items in
-    let bounds : AreBounds q f.first f.columns (deletes_of c.args.at s.catalogue.tables c.args.changes.now f) within =
-    record {
-      own = c.in-Ok-bounds_for.ensures.own;
-      kept = c.in-Ok-bounds_for.ensures.kept;
-      whole = subst (λ (ds : List Asked). (ds ≡ []) ⊎ (within ≡ [])) c.deletes_of-deletes.ensures c.in-Ok-bounds_for.ensures.whole;
-    } in
+    let bounds : AreBounds q f.first f.columns within = record { own = c.in-Ok-bounds_for.ensures.own; kept = c.in-Ok-bounds_for.ensures.kept } in
     let rows : AreRows s c.args.changes.now c.args.at f m p c.epoch_of-epoch.result places within c.in-Ok-with_changes.rows.items =
     record {
       scanned = c.in-Ok-scan_within.rows.items;
@@ -63,3 +62,54 @@ returns-in-Ok-with_changes-clause-suffice g c = λ m told d read.
           c.in-Ok-with_changes.ensures.changed;
     } in
     item_suffices m s c.args.changes.now c.args.at q f d p c.epoch_of-epoch.result places within c.in-Ok-with_changes.rows.items c.in-Some.ensures read are (c.epoch_of-epoch.ensures ∙ ap (epoch_of c.args.at) c.last.ensures) bounds rows
+
+pub returns-in_default-clause-steps : goal.returns-in_default-clause-steps
+returns-in_default-clause-steps g c = λ m told. reads_none m c.args.tables.now c.args.query.now (c.args.item ∷ []) c.args.steps.now c.args.steps.now refl
+
+pub returns-in-Err-clause-steps : goal.returns-in-Err-clause-steps
+returns-in-Err-clause-steps g c = λ m told. reads_none m c.args.tables.now c.args.query.now (c.args.item ∷ []) c.args.steps.now c.args.steps.now refl
+
+pub returns-in-Err-from_slice-clause-steps : goal.returns-in-Err-from_slice-clause-steps
+returns-in-Err-from_slice-clause-steps g c = λ m told. reads_none m c.args.tables.now c.args.query.now (c.args.item ∷ []) c.args.steps.now c.args.steps.now refl
+
+pub returns-in-Err-bounds_for-clause-steps : goal.returns-in-Err-bounds_for-clause-steps
+returns-in-Err-bounds_for-clause-steps g c = λ m told. reads_none m c.args.tables.now c.args.query.now (c.args.item ∷ []) c.args.steps.now c.args.steps.now refl
+
+pub returns-in-Err-scan_within-clause-steps : goal.returns-in-Err-scan_within-clause-steps
+returns-in-Err-scan_within-clause-steps g c = λ m told.
+    let f = c.args.item in
+    let q = c.args.query.now in
+    let p = c.in-Some.store.now.stored in
+    let places = c.in-Ok.places.items in
+    let columns : c.as_slice-columns.result.now ≡ p.entry.columns = c.as_slice-columns.ensures ∙ ap (λ (x : Projection). x.columns) c.entry.ensures.entry in
+    let are : ArePlacesOf q f.first f.columns (ordinals p.entry) places = subst (λ (ks : List ProjColumn). ArePlacesOf q f.first f.columns (map (λ k. k.ordinal) ks) places) columns c.in-Ok.ensures.places in
+    let copied : c.in-Ok-from_slice.scanned.items ≡ places = c.in-Ok-from_slice.ensures.items ∙ c.as_slice.ensures.value in
+    reads_one m c.args.tables.now q f p c.epoch_of-epoch.result places c.in-Ok-bounds_for.bounds.items c.args.steps.now c.scan_within.new.steps c.in-Some.ensures are c.in-Ok-bounds_for.ensures.set
+    (subst (λ (ps : List (Option ℕ)). SpendsUpto (Some m) p (start c.epoch_of-epoch.result ps c.in-Ok-bounds_for.bounds.items false) c.args.steps.now c.scan_within.new.steps) copied
+    (subst (λ (h : Option Contents). SpendsUpto h p (start c.epoch_of-epoch.result c.in-Ok-from_slice.scanned.items c.in-Ok-bounds_for.bounds.items false) c.args.steps.now c.scan_within.new.steps) told c.scan_within.ensures.steps))
+
+pub returns-in-Ok-with_changes-clause-steps : goal.returns-in-Ok-with_changes-clause-steps
+returns-in-Ok-with_changes-clause-steps g c = λ m told.
+    let f = c.args.item in
+    let q = c.args.query.now in
+    let p = c.in-Some.store.now.stored in
+    let places = c.in-Ok.places.items in
+    let columns : c.as_slice-columns.result.now ≡ p.entry.columns = c.as_slice-columns.ensures ∙ ap (λ (x : Projection). x.columns) c.entry.ensures.entry in
+    let are : ArePlacesOf q f.first f.columns (ordinals p.entry) places = subst (λ (ks : List ProjColumn). ArePlacesOf q f.first f.columns (map (λ k. k.ordinal) ks) places) columns c.in-Ok.ensures.places in
+    let copied : c.in-Ok-from_slice.scanned.items ≡ places = c.in-Ok-from_slice.ensures.items ∙ c.as_slice.ensures.value in
+    reads_one m c.args.tables.now q f p c.epoch_of-epoch.result places c.in-Ok-bounds_for.bounds.items c.args.steps.now c.scan_within.new.steps c.in-Some.ensures are c.in-Ok-bounds_for.ensures.set
+    (subst (λ (ps : List (Option ℕ)). SpendsUpto (Some m) p (start c.epoch_of-epoch.result ps c.in-Ok-bounds_for.bounds.items false) c.args.steps.now c.scan_within.new.steps) copied
+    (subst (λ (h : Option Contents). SpendsUpto h p (start c.epoch_of-epoch.result c.in-Ok-from_slice.scanned.items c.in-Ok-bounds_for.bounds.items false) c.args.steps.now c.scan_within.new.steps) told c.scan_within.ensures.steps))
+
+pub returns-clause-steps : goal.returns-clause-steps
+returns-clause-steps g c = λ m told.
+    let f = c.args.item in
+    let q = c.args.query.now in
+    let p = c.in-Some.store.now.stored in
+    let places = c.in-Ok.places.items in
+    let columns : c.as_slice-columns.result.now ≡ p.entry.columns = c.as_slice-columns.ensures ∙ ap (λ (x : Projection). x.columns) c.entry.ensures.entry in
+    let are : ArePlacesOf q f.first f.columns (ordinals p.entry) places = subst (λ (ks : List ProjColumn). ArePlacesOf q f.first f.columns (map (λ k. k.ordinal) ks) places) columns c.in-Ok.ensures.places in
+    let copied : c.in-Ok-from_slice.scanned.items ≡ places = c.in-Ok-from_slice.ensures.items ∙ c.as_slice.ensures.value in
+    reads_one m c.args.tables.now q f p c.epoch_of-epoch.result places c.in-Ok-bounds_for.bounds.items c.args.steps.now c.scan_within.new.steps c.in-Some.ensures are c.in-Ok-bounds_for.ensures.set
+    (subst (λ (ps : List (Option ℕ)). SpendsUpto (Some m) p (start c.epoch_of-epoch.result ps c.in-Ok-bounds_for.bounds.items false) c.args.steps.now c.scan_within.new.steps) copied
+    (subst (λ (h : Option Contents). SpendsUpto h p (start c.epoch_of-epoch.result c.in-Ok-from_slice.scanned.items c.in-Ok-bounds_for.bounds.items false) c.args.steps.now c.scan_within.new.steps) told c.scan_within.ensures.steps))

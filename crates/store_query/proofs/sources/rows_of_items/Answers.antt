@@ -1,4 +1,4 @@
-use Rattle.std.proofs.Common.{◌∙◌, [], List, get_or, refl, sym, subst}
+use Rattle.std.proofs.Common.{◌+◌, ◌∙◌, [], List, get_or, refl, sym, subst}
 use Rattle.std.specs.Prelude.{Option}
 use Rattle.std.specs.List.{All, AllZip}
 use Rattle.common_laws.specs.Maps.{Contents}
@@ -9,6 +9,7 @@ use Rattle.col_value.specs.declared.value.Value.{Value}
 use Rattle.col_value.specs.Order.{IsRow}
 use Rattle.exec_scan.proofs.Indexed.{zip_more}
 use Rattle.store_query.specs.Reading.{Suffice}
+use Rattle.store_query.proofs.Counted.{reads_more, reads_none, reads_upto}
 use Rattle.store_query.proofs.ItemRows.{blank}
 use Rattle.store_query.proofs.sources.rows_of_items.Goals as goal
 
@@ -16,6 +17,7 @@ pub loop-item-init : goal.loop-item-init
 loop-item-init g c = record {
   suffice = λ m told d read. subst (λ (xs : List (List (List Value))). AllZip (Suffice c.args.at c.args.changes.now c.args.query.now d) [] xs) (sym c.new-out.ensures.items) tt;
   valid = subst (λ (xs : List (List (List Value))). All (All IsRow) xs) (sym c.new-out.ensures.items) (All-nil (All IsRow));
+  counted = λ m told. reads_none m c.args.tables.now c.args.query.now [] c.args.steps.now c.args.steps.now refl;
   kept = refl;
   moved = moved_none g.D.Disk c.args.disk.now;
 }
@@ -39,6 +41,23 @@ loop-item-preserved g c =
           (c.in-Ok.ensures.suffice m (was.kept ∙ told) d read));
       valid = subst (λ (xs : List (List (List Value))). All (All IsRow) xs) (sym c.in-Ok-push.ensures.items)
           (All-push (All IsRow) c.loop-item.out.items c.new.result was.valid (subst (λ (xs : List (List Value)). All IsRow xs) (sym c.new.ensures) c.in-Ok.ensures.valid));
+      counted = λ m told. reads_more m c.args.tables.now c.args.query.now c.args.items.now c.loop-item.item-index blank c.args.steps.now c.loop-item.steps c.rows_of_item.new.steps c.loop-item-test.true (was.counted m told)
+          (c.rows_of_item.ensures.steps m (was.kept ∙ told));
       kept = c.rows_of_item.ensures.kept ∙ was.kept;
       moved = moved_join g.D.Disk was.moved c.rows_of_item.ensures.moved;
     }
+
+pub returns-in-Err-clause-steps : goal.returns-in-Err-clause-steps
+returns-in-Err-clause-steps g c = λ m told.
+    reads_upto m c.args.tables.now c.args.query.now c.args.items.now (c.loop-item.item-index + 1) c.args.steps.now c.rows_of_item.new.steps
+    (reads_more m c.args.tables.now c.args.query.now c.args.items.now c.loop-item.item-index blank c.args.steps.now c.loop-item.steps c.rows_of_item.new.steps c.loop-item-test.true (c.loop-item.invariant.counted m told)
+    (c.rows_of_item.ensures.steps m (c.loop-item.invariant.kept ∙ told)))
+
+pub returns-in-Err-push-clause-steps : goal.returns-in-Err-push-clause-steps
+returns-in-Err-push-clause-steps g c = λ m told.
+    reads_upto m c.args.tables.now c.args.query.now c.args.items.now (c.loop-item.item-index + 1) c.args.steps.now c.rows_of_item.new.steps
+    (reads_more m c.args.tables.now c.args.query.now c.args.items.now c.loop-item.item-index blank c.args.steps.now c.loop-item.steps c.rows_of_item.new.steps c.loop-item-test.true (c.loop-item.invariant.counted m told)
+    (c.rows_of_item.ensures.steps m (c.loop-item.invariant.kept ∙ told)))
+
+pub returns-clause-steps : goal.returns-clause-steps
+returns-clause-steps g c = λ m told. reads_upto m c.args.tables.now c.args.query.now c.args.items.now c.loop-item.item-index c.args.steps.now c.loop-item.steps (c.loop-item.invariant.counted m told)

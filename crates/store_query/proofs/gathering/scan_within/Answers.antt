@@ -1,4 +1,4 @@
-use Rattle.std.proofs.Common.{◌∙◌, List, refl, sym, subst}
+use Rattle.std.proofs.Common.{◌∙◌, false, List, refl, sym, subst, arith}
 use Rattle.std.specs.Prelude.{Option}
 use Rattle.std.specs.List.{All}
 use Rattle.std.proofs.lemmas.List.Elements.{All-nil}
@@ -8,17 +8,19 @@ use Rattle.col_value.specs.declared.value.Value.{Value}
 use Rattle.common_laws.specs.Maps.{Contents}
 use Rattle.proj_store.specs.Reading.{BlamesRows}
 use Rattle.exec_scan.specs.Batches.{Shown}
-use Rattle.exec_scan.specs.Scanning.{Gives, IsAtHand, IsScanOf, Place}
+use Rattle.exec_scan.specs.Scanning.{Gives, IsAtHand, IsScanOf, Place, start}
+use Rattle.store_query.proofs.Counted.{spent_more, spent_upto, SpentUpto}
 use Rattle.store_query.proofs.Gathered.{asks_on, asks_start, gathered_all, gathered_more, gathered_none}
-use Rattle.store_query.proofs.gathering.scan_by.Goals as goal
+use Rattle.store_query.proofs.gathering.scan_within.Goals as goal
 
 pub loop-batch-init : goal.loop-batch-init
 loop-batch-init g c = record {
   gathered = λ m told rows stores. gathered_none m c.args.store.now.stored c.args.epoch c.args.places.items c.args.bounds.items c.new-scan.result rows c.new-out.result.items c.new-scan.ensures c.new-out.ensures.items stores;
-  scan_of = subst (λ (s : Place). IsScanOf c.args.store.now.stored.entry s) (sym c.new-scan.ensures) (record { own = c.requires.own; opening = tt; closed = λ none. refl });
+  scan_of = subst (λ (s : Place). IsScanOf c.args.store.now.stored.entry s) (sym c.new-scan.ensures) (record { own = c.requires; opening = tt; closed = λ none. refl });
   at_hand = subst (λ (s : Place). IsAtHand (g.D.Disk.holds c.args.disk.now) c.args.store.now.stored s) (sym c.new-scan.ensures) tt;
   asks = asks_start c.args.epoch c.args.places.items c.args.bounds.items c.new-scan.result c.new-scan.ensures;
   valid = subst (λ (xs : List (List Value)). All IsRow xs) (sym c.new-out.ensures.items) (All-nil IsRow);
+  counted = λ m told. subst (λ (x : Place). SpentUpto m c.args.store.now.stored c.args.places.items (start c.args.epoch c.args.places.items c.args.bounds.items false) c.args.steps.now x c.args.steps.now) (sym c.new-scan.ensures) (λ indexes have. omega arith);
   kept = refl;
   moved = moved_none g.D.Disk c.args.disk.now;
 }
@@ -60,6 +62,23 @@ loop-batch-preserved g c =
       at_hand = c.in-Ok-Some.ensures.at_hand c.loop-batch.invariant.at_hand;
       asks = asks_on c.args.epoch c.args.places.items c.args.bounds.items c.loop-batch.scan c.next.new.self c.in-Ok-Some.ensures.same c.loop-batch.invariant.asks;
       valid = c.in-Ok.ensures.valid;
+      counted = λ m told. spent_more m (g.D.Disk.holds c.loop-batch.disk) p c.args.epoch c.args.places.items c.args.bounds.items (start c.args.epoch c.args.places.items c.args.bounds.items false) c.loop-batch.scan c.next.new.self c.args.steps.now c.loop-batch.steps c.next.new.steps
+          (c.loop-batch.invariant.kept ∙ told) c.loop-batch.invariant.asks c.loop-batch.invariant.at_hand c.in-Ok-Some.ensures.steps (c.loop-batch.invariant.counted m told);
       kept = c.next.ensures.kept ∙ c.loop-batch.invariant.kept;
       moved = moved_join g.D.Disk c.loop-batch.invariant.moved c.next.ensures.moved;
     }
+
+pub returns-in-Ok-None-clause-steps : goal.returns-in-Ok-None-clause-steps
+returns-in-Ok-None-clause-steps g c = λ m told at indexes have.
+    spent_upto m (g.D.Disk.holds c.loop-batch.disk) c.args.store.now.stored c.args.epoch c.args.places.items c.args.bounds.items (start c.args.epoch c.args.places.items c.args.bounds.items false) c.loop-batch.scan c.args.steps.now c.loop-batch.steps c.next.new.steps indexes
+    (c.loop-batch.invariant.kept ∙ told) c.loop-batch.invariant.asks c.loop-batch.invariant.at_hand c.next.ensures.at_most (c.loop-batch.invariant.counted m told) have
+
+pub returns-in-Err-clause-steps : goal.returns-in-Err-clause-steps
+returns-in-Err-clause-steps g c = λ m told at indexes have.
+    spent_upto m (g.D.Disk.holds c.loop-batch.disk) c.args.store.now.stored c.args.epoch c.args.places.items c.args.bounds.items (start c.args.epoch c.args.places.items c.args.bounds.items false) c.loop-batch.scan c.args.steps.now c.loop-batch.steps c.next.new.steps indexes
+    (c.loop-batch.invariant.kept ∙ told) c.loop-batch.invariant.asks c.loop-batch.invariant.at_hand c.next.ensures.at_most (c.loop-batch.invariant.counted m told) have
+
+pub returns-in-Err-add_batch-clause-steps : goal.returns-in-Err-add_batch-clause-steps
+returns-in-Err-add_batch-clause-steps g c = λ m told at indexes have.
+    spent_upto m (g.D.Disk.holds c.loop-batch.disk) c.args.store.now.stored c.args.epoch c.args.places.items c.args.bounds.items (start c.args.epoch c.args.places.items c.args.bounds.items false) c.loop-batch.scan c.args.steps.now c.loop-batch.steps c.next.new.steps indexes
+    (c.loop-batch.invariant.kept ∙ told) c.loop-batch.invariant.asks c.loop-batch.invariant.at_hand c.next.ensures.at_most (c.loop-batch.invariant.counted m told) have
