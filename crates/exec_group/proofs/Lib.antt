@@ -8,6 +8,7 @@ pub mod More
 pub mod Noted
 pub mod Numbered
 pub mod Pairing
+pub mod Rising
 pub mod Spans
 pub mod Together
 pub mod Totals

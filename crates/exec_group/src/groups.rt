@@ -16,6 +16,7 @@ use crate::GroupFault;
 use crate::argument::argument_of;
 use crate::held_keys::Keys;
 use crate::kept::Kept;
+use crate::method::GroupMethod;
 use block_codec::Block;
 use col_value::{List, Value, Wide};
 use expr_value::Worth;
@@ -84,15 +85,16 @@ impl Grouped {
 }
 
 impl Groups {
-    /// The groups over no row: none, or the one group of a query without GROUP BY.
-    pub fn new(alloc: Global, query: &BoundQuery) -> Result<Groups, AllocError>
+    /// The groups over no row: none, or the one group of a query without GROUP BY. By the method `Sorted` keys of one number are held as they
+    /// come, as long as each is greater than the one before it; a row of any other key is first held against the key of the row before it.
+    pub fn new(alloc: Global, query: &BoundQuery, method: GroupMethod) -> Result<Groups, AllocError>
         ensures { IfOk result (HoldsGroups query.now []) }
     {
         if query.keys.as_slice().is_empty() {
             return Groups::one(alloc, query.aggs.as_slice());
         }
         Ok(Groups {
-            keys: Keys::new(alloc, query.keys.as_slice().len()),
+            keys: Keys::new(alloc, query.keys.as_slice().len(), method),
             columns: columns_of(alloc, query.aggs.as_slice(), 0)?,
         })
     }
@@ -101,7 +103,7 @@ impl Groups {
     fn one(alloc: Global, aggs: &[Aggregate]) -> Result<Groups, AllocError>
         ensures { IfOk result (λ g. g ≡ one_group aggs.now) }
     {
-        let mut keys = Keys::new(alloc, 0);
+        let mut keys = Keys::new(alloc, 0, GroupMethod::Hash);
         keys.add(alloc, List::new(Vec::new(alloc)))?;
         let columns = columns_of(alloc, aggs, 1)?;
         Ok(Groups { keys, columns })

@@ -9,20 +9,22 @@ ghost use Rattle.exec_group.specs.Groups.{met_one, AreEntered};
 
 use crate::cells::key_at;
 use crate::codes::{Codes, codes_of_one, codes_of_two};
+use crate::met_numbers::MetNumbers;
+use crate::method::GroupMethod;
 use crate::number_keys::{
     enter_numbers, find_number, find_row_number, key_lane, number_of, put_number, rows_of,
 };
 use crate::runs::has_key_twice;
 use block_codec::Block;
 use col_value::{List, Row, Value};
-use row_keys::{KeyTable, NumberTable, key_of};
+use row_keys::{KeyTable, key_of};
 use std::alloc::{AllocError, Global};
 use std::marker::Model;
 
 /// How the keys are held: as numbers, where each is one number or NULL, or one by one.
 #[derive(Drop)]
 pub enum Form {
-    Numbers(NumberTable),
+    Numbers(MetNumbers),
     Rows(KeyTable),
 }
 
@@ -43,13 +45,13 @@ impl Model for Keys {
 }
 
 impl Keys {
-    /// No keys of so many columns; they take no memory.
-    pub fn new(alloc: Global, columns: usize) -> Keys
+    /// No keys of so many columns, which are found by this method where each is one number; they take no memory.
+    pub fn new(alloc: Global, columns: usize, method: GroupMethod) -> Keys
         ensures { result ≡ [] }
     {
         if columns == 1 {
             Keys {
-                form: Form::Numbers(NumberTable::new(alloc)),
+                form: Form::Numbers(MetNumbers::new(alloc, method)),
             }
         } else {
             Keys {

@@ -1,7 +1,8 @@
-//! Groups by hash, over rows that come one after another.
+//! Groups, over rows that come one after another.
 //!
 //! `Groups` takes row by row, or the rows at places of columns: first the group of each, then one aggregate after another, and none of
-//! them is made (`specs/Columns.antt`). Keys of one number are held and found as numbers (`specs/NumberKeys.antt`); a key of words
+//! them is made (`specs/Columns.antt`). Keys of one number are held and found as numbers (`specs/NumberKeys.antt`): by hash, or by `GroupMethod::Sorted`
+//! in a row, as long as each is greater than the one before it (`specs/Rising.antt`); other keys by hash. A key of words
 //! is looked up once for all rows in which these words stand (`specs/Codes.antt`); a sum takes the numbers of an expression as a lane, one
 //! operation for all rows after another. Of each group it holds the key and what each aggregate keeps, and
 //! of the rows nothing. What it gives back are the groups and the aggregates that `sql_bound` defines for all rows that it took, in the
@@ -19,6 +20,8 @@ mod groups;
 mod held_keys;
 mod kept;
 mod lanes;
+mod met_numbers;
+mod method;
 mod number_keys;
 mod numbers;
 mod runs;
@@ -29,3 +32,4 @@ pub use argument::argument_of;
 pub use cells::{row_at, worth_at};
 pub use fault::GroupFault;
 pub use groups::{Grouped, Groups};
+pub use method::GroupMethod;

@@ -10,9 +10,10 @@ ghost use Rattle.exec_group.specs.Groups.{met_one, AreEntered};
 ghost use Rattle.exec_group.specs.NumberKeys.{null_number, number_key, IsNoKey, IsNoNumber};
 
 use crate::lanes::column_numbers;
+use crate::met_numbers::MetNumbers;
 use block_codec::{Block, number_value};
 use col_value::{List, Row, Value};
-use row_keys::{KeyTable, NumberTable};
+use row_keys::KeyTable;
 use std::alloc::{AllocError, Global};
 
 /// The number that stands for a value: -2^63 for NULL.
@@ -39,7 +40,7 @@ pub fn number_of(key: &[Value]) -> Option<i64>
 }
 
 /// The place of a key among keys that are numbers.
-pub fn find_number(numbers: &NumberTable, key: &[Value]) -> Option<usize>
+pub fn find_number(numbers: &MetNumbers, key: &[Value]) -> Option<usize>
     ensures { result ≡ position (λ k. same_keys k key.now) (map number_key numbers.now) }
 {
     match number_of(key) {
@@ -71,7 +72,7 @@ fn row_number(keys: &[usize], row: &[Value]) -> Option<i64>
 }
 
 /// The place of a row's key among keys that are numbers.
-pub fn find_row_number(numbers: &NumberTable, keys: &[usize], row: &[Value]) -> Option<usize>
+pub fn find_row_number(numbers: &MetNumbers, keys: &[usize], row: &[Value]) -> Option<usize>
     ensures { result ≡ position (λ k. same_keys k (keys_of keys.now row.now)) (map number_key numbers.now) }
 {
     match row_number(keys, row) {
@@ -101,7 +102,7 @@ fn lane_number(lane: &[i64], place: usize) -> i64
 }
 
 /// The place of a number, which is put behind the others where it isn't there.
-fn enter_number(numbers: &mut NumberTable, alloc: Global, n: i64) -> Result<usize, AllocError>
+fn enter_number(numbers: &mut MetNumbers, alloc: Global, n: i64) -> Result<usize, AllocError>
     ensures met { OnOk result (map number_key numbers.new ≡ met_one (map number_key numbers.old) (number_key n)) }
     ensures there { IfOk result (λ g. position (λ k. same_keys k (number_key n)) (map number_key numbers.new) ≡ Some g) }
 {
@@ -117,7 +118,7 @@ fn enter_number(numbers: &mut NumberTable, alloc: Global, n: i64) -> Result<usiz
 
 /// A number with its place, as above, where another one's place may be known.
 fn enter_number_beside(
-    numbers: &mut NumberTable,
+    numbers: &mut MetNumbers,
     alloc: Global,
     n: i64,
     known: Option<(i64, usize)>,
@@ -137,7 +138,7 @@ fn enter_number_beside(
 
 /// The places of the numbers that a lane shows as the keys of the rows at places.
 pub fn enter_numbers(
-    numbers: &mut NumberTable,
+    numbers: &mut MetNumbers,
     alloc: Global,
     keys: &[usize],
     columns: &[Option<Block>],

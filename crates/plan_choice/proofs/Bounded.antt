@@ -1,5 +1,5 @@
 -- A query bounds a column where a member of its condition does.
-use Rattle.std.proofs.Common.{◌≡◌, ℕ, ◌+◌, ◌-◌, ◌≤◌, ◌<◌, ◌++◌, Bool, true, false, cond, List, [], ◌∷◌, map, filter, Option, Some, None, refl, sym, ap, ap₂, ◌∙◌, arith, subst}
+use Rattle.std.proofs.Common.{◌≡◌, ℕ, ◌+◌, ◌-◌, ◌++◌, Bool, true, false, cond, List, [], ◌∷◌, map, Option, Some, None, refl, sym, ap, ap₂, ◌∙◌, arith}
 use Rattle.std.specs.Prelude.{nat_le, nat_lt, ◌==◌, ◌&&◌, ◌||◌}
 use Rattle.std.specs.Option.{option_map_or}
 use Rattle.std.specs.List.{list_any, flat_map}
@@ -7,7 +7,6 @@ use Rattle.std.proofs.lemmas.Bool.Decides.{nat_tests}
 use Rattle.std.proofs.lemmas.List.Concat.{flat_map-cons}
 use Rattle.std.proofs.lemmas.List.Folds.{list_any-append}
 use Rattle.col_value.specs.declared.wide.Wide.{Wide}
-use Rattle.sql_tree.specs.declared.tree.Cmp.{Cmp}
 use Rattle.sql_bound.specs.declared.expr.Expr.{Expr}
 use Rattle.sql_bound.specs.declared.expr.BoundTerm.{BoundTerm}
 use Rattle.sql_bound.specs.declared.expr.Expr.TheViews.{out-Expr}
@@ -16,7 +15,7 @@ use Rattle.sql_bound.specs.declared.expr.Expr.TheFolds.{map-Expr, fold-BoundTerm
 use Rattle.sql_bound.specs.declared.query.FromItem.{FromItem}
 use Rattle.sql_bound.specs.declared.query.BoundQuery.{BoundQuery}
 use Rattle.catalog_types.specs.declared.catalogue.Projection.{Projection}
-use Rattle.db_model.specs.Choice.{Side, is_bounding, bound_by, compared_side, literal_side, side_step, side_term, side_of, bounded_columns, within_item, first_sorted, is_sorted_by_one}
+use Rattle.db_model.specs.Choice.{Side, is_bounding, bound_by, literal_side, side_step, side_term, side_of, bounded_columns, within_item, first_sorted, is_sorted_by_one}
 use Rattle.folder_model.specs.Projections.{shape_of}
 use Rattle.plan_choice.specs.Bounding.{is_at, bounds_at, bounds_in, bounds_column}
 use Rattle.plan_choice.specs.Choosing.{is_sorted_well}

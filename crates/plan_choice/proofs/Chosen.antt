@@ -1,6 +1,6 @@
 -- The choice.
-use Rattle.std.proofs.Common.{◌≡◌, ℕ, zero, suc, ◌<◌, ◌+◌, arith, get_or, drop, not, Bool, true, false, cond, List, [], ◌∷◌, length, map, filter, Option, Some, None, refl, sym, ap, ap₂, ◌∙◌, subst}
-use Rattle.std.specs.Prelude.{◌&&◌, ◌||◌, option_map, option_and_then}
+use Rattle.std.proofs.Common.{◌≡◌, ℕ, zero, suc, ◌<◌, ◌+◌, arith, get_or, drop, Bool, true, false, cond, List, [], ◌∷◌, length, map, filter, Option, Some, None, refl, sym, ap, ap₂, ◌∙◌, subst}
+use Rattle.std.specs.Prelude.{◌&&◌, option_map, option_and_then}
 use Rattle.std.specs.List.{slice_get}
 use Rattle.std.proofs.lemmas.List.{drop_more}
 use Rattle.std.proofs.lemmas.Option.{slice_get-map}
@@ -13,7 +13,7 @@ use Rattle.db_model.specs.Database.{Shape, has_columns}
 use Rattle.db_model.specs.Choice.{bounded_columns, within_item, is_sorted_by_one, first_sorted, narrowest, or_all, chosen_for}
 use Rattle.sql_bound.specs.Used.{used_columns}
 use Rattle.folder_model.specs.Projections.{shape_of}
-use Rattle.plan_choice.specs.Choosing.{serves, is_sorted_well, is_candidate, is_better, best_from}
+use Rattle.plan_choice.specs.Choosing.{serves, is_candidate, is_better, best_from}
 use Rattle.plan_choice.proofs.Covered.{query_has}
 use Rattle.plan_choice.proofs.Bounded.{sorted_well}
 use Rattle.plan_choice.proofs.Narrowest.{best_narrowest, some_narrowest}

@@ -1,5 +1,5 @@
 -- A projection has the columns that a query uses where it has those of each expression.
-use Rattle.std.proofs.Common.{◌≡◌, ℕ, ◌+◌, ◌-◌, ◌≤◌, ◌<◌, ◌++◌, Bool, true, false, cond, List, [], ◌∷◌, map, filter, Option, Some, None, refl, sym, ap, ap₂, ◌∙◌, arith, subst}
+use Rattle.std.proofs.Common.{◌≡◌, ℕ, ◌+◌, ◌-◌, ◌++◌, Bool, true, false, cond, List, [], ◌∷◌, map, filter, Option, Some, None, refl, sym, ap, ap₂, ◌∙◌, arith, subst}
 use Rattle.std.specs.Prelude.{nat_le, nat_lt, ◌==◌, ◌&&◌, ◌||◌}
 use Rattle.std.specs.Option.{option_map_or}
 use Rattle.std.specs.List.{list_all, list_any, flat_map}
@@ -20,7 +20,7 @@ use Rattle.sql_bound.specs.declared.query.Aggregate.{Aggregate}
 use Rattle.sql_bound.specs.declared.query.FromItem.{FromItem}
 use Rattle.sql_bound.specs.declared.query.BoundQuery.{BoundQuery}
 use Rattle.sql_bound.specs.declared.query.BoundWindow.{BoundWindow}
-use Rattle.db_model.specs.Database.{Shape, has_columns}
+use Rattle.db_model.specs.Database.{has_columns}
 use Rattle.db_model.specs.Choice.{within_item}
 use Rattle.sql_bound.specs.Used.{columns_step, columns_term, columns_of, columns_of_window, used_columns}
 use Rattle.folder_model.specs.Projections.{shape_of}

@@ -1,4 +1,6 @@
 pub mod Covered
 pub mod Bounded
 pub mod Narrowest
+pub mod Sorted
+pub mod Worked
 pub mod Chosen

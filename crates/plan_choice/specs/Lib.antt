@@ -1,3 +1,4 @@
 pub mod Covering
 pub mod Bounding
 pub mod Choosing
+pub mod Methods

@@ -11,7 +11,7 @@ use sql_tree::Cmp;
 
 /// What an expression is to a comparison: a number, a constant, or a column alone.
 #[derive(Clone, Copy)]
-struct Side {
+pub struct Side {
     number: bool,
     constant: bool,
     alone: Option<usize>,
@@ -29,7 +29,7 @@ impl Side {
     }
 
     /// Whether it is the column of this place of a FROM item.
-    fn is_at(&self, item: FromItem, c: usize) -> bool
+    pub fn is_at(&self, item: FromItem, c: usize) -> bool
         ensures { result ≡ is_at item c self.now.alone }
     {
         match self.alone {
@@ -52,7 +52,7 @@ fn literal(value: &Wide) -> Side
 }
 
 #[cycle(sides)]
-fn side_of(e: &Expr) -> Side
+pub fn side_of(e: &Expr) -> Side
     ensures { IsSide result (side_of e.now) }
 {
     match e {

@@ -19,14 +19,14 @@ fn serves(q: &BoundQuery, item: FromItem, p: &Projection) -> bool
 }
 
 /// The place of the table's column that stands at a place of the projection.
-fn ordinal_at(columns: &[ProjColumn], place: usize) -> Option<usize>
+pub fn ordinal_at(columns: &[ProjColumn], place: usize) -> Option<usize>
     ensures { result ≡ option_map (λ k. k.ordinal) (slice_get columns.now place) }
 {
     columns.get(place).map(|column| column.ordinal)
 }
 
 /// The table's column by which the projection is sorted first.
-fn first_sorted(p: &Projection) -> Option<usize>
+pub fn first_sorted(p: &Projection) -> Option<usize>
     ensures { result ≡ first_sorted (shape_of p.now) }
 {
     match p.sort.as_slice().get(0) {

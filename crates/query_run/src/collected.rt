@@ -16,7 +16,7 @@ use crate::past::barred_run;
 use crate::seen::{has_windows, seen_row};
 use block_codec::Block;
 use col_value::{Row, Value, WideRow};
-use exec_group::Groups;
+use exec_group::{GroupMethod, Groups};
 use expr_value::items_of;
 use query_order::order_rows;
 use sql_bound::BoundQuery;
@@ -37,15 +37,19 @@ pub struct Collected {
 }
 
 impl Collected {
-    /// What is collected of no tuple.
-    pub fn new(alloc: Global, query: &BoundQuery) -> Result<Collected, AllocError>
+    /// What is collected of no tuple, with groups that are found by this method.
+    pub fn new(
+        alloc: Global,
+        query: &BoundQuery,
+        method: GroupMethod,
+    ) -> Result<Collected, AllocError>
         ensures { IfOk result (HoldsOutput query.now []) }
     {
         Ok(Collected {
             rows: Vec::new(alloc),
             bar: None,
             seen: Vec::new(alloc),
-            groups: Groups::new(alloc, query)?,
+            groups: Groups::new(alloc, query, method)?,
             taken: 0,
         })
     }

@@ -16,6 +16,7 @@ mod feeding;
 mod gathering;
 mod laws;
 mod lessening;
+mod methods;
 mod pending;
 mod places;
 mod sources;

@@ -26,6 +26,7 @@ ghost use Rattle.store_query.specs.Taking.{IsTaken};
 use crate::feeding::{feed_rows, feed_scan};
 use crate::gathering::scan_within;
 use crate::lessening::{deletes_of, wants_of, without_deletes};
+use crate::methods::{group_of, join_of};
 use crate::pending::{add_rows, pending_of};
 use crate::places::places_of;
 use col_disk::{Disk, StoreFault};
@@ -270,7 +271,9 @@ pub fn run_of<D: Disk, L: Ledger>(
         Ok(more) => more,
         Err(fault) => return Err(fault),
     };
-    let mut run = match Run::new(alloc, query, more) {
+    let join = join_of(tables, query, first, others);
+    let group = group_of(tables, query, first);
+    let mut run = match Run::new(alloc, query, join, group, more) {
         Ok(run) => run,
         Err(AllocError) => return Err(StoreFault::Memory),
     };
