@@ -10,3 +10,5 @@ pub mod Purges
 pub mod Named
 pub mod Whole
 pub mod Gone
+pub mod UnderWay
+pub mod SameTables

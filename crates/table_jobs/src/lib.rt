@@ -7,7 +7,9 @@
 mod merging;
 mod purging;
 mod refreshing;
+mod working;
 
 pub use merging::merge;
 pub use purging::{has_gone, purge};
 pub use refreshing::refresh;
+pub use working::{Work, advance_merge, begin_merge, finish_merge};
