@@ -168,10 +168,10 @@ event_leaves disk state files s printed After sound event leaves = leaves_wider 
 abbrev pub ShortBy : {F : Type 0} → (F → StoreFault) → F → Type 0
 ShortBy {F} turn short = (f : F) → turn f ≡ store.Memory → f ≡ short
 
-abbrev fault_as : {X : Type 0} → StoreFault → Result X StoreFault
+abbrev pub fault_as : {X : Type 0} → StoreFault → Result X StoreFault
 fault_as f = Err f
 
-err_same : {X : Type 0} (e f : StoreFault) → fault_as {X = X} e ≡ fault_as {X = X} f → e ≡ f
+pub err_same : {X : Type 0} (e f : StoreFault) → fault_as {X = X} e ≡ fault_as {X = X} f → e ≡ f
 err_same e f is = cc
 
 pub event_answers : {D F : Type 0} (disk : Ghosts D) (short : F) (turn : F → StoreFault) {old new : D} (was is : Running) (did : Result (Unit {0}) F) (a : Answer) (state : State) (files : Files) (s : Statement) (printed : List ℕ) (After : State → Type 0)

@@ -57,9 +57,6 @@ use Rattle.store_step.proofs.Stepped.{steps_of}
 abbrev pub with_columns : ℕ × Table → ℕ × List Column
 with_columns e = (e.0, e.1.columns)
 
-decided : (m n : List ℕ) → bytes_eq m n ≡ true → m ≡ n
-decided m n is = (bytes_eq-Decides m n).0 is
-
 is_called : (name : List ℕ) (i : ℕ) (ts : List Table) (e : ℕ × Table) → find (λ (x : ℕ × Table). bytes_eq x.1.name name) (enumerate_from i ts) ≡ Some e → e.1.name ≡ name
 is_called name i [] e is = absurd (cc)
 is_called name i (t ∷ ts) e is = by (bytes_eq t.name name) refl (is_called name (i + 1) ts e) is
@@ -68,7 +65,7 @@ is_called name i (t ∷ ts) e is = by (bytes_eq t.name name) refl (is_called nam
     Rest = find (λ (x : ℕ × Table). bytes_eq x.1.name name) (enumerate_from (i + 1) ts)
 
     by : (b : Bool) → bytes_eq t.name name ≡ b → (Rest ≡ Some e → e.1.name ≡ name) → cond b (Some (i, t)) Rest ≡ Some e → e.1.name ≡ name
-    by true here more found = sym (ap (λ (x : ℕ × Table). x.1.name) (same_Some (i, t) e found)) ∙ decided t.name name here
+    by true here more found = sym (ap (λ (x : ℕ × Table). x.1.name) (same_Some (i, t) e found)) ∙ (bytes_eq-Decides t.name name).0 here
     by false other more found = more found
 
 pub called : (name : List ℕ) (tables : List Table) (e : ℕ × Table) → table_found name tables ≡ Some e → e.1.name ≡ name

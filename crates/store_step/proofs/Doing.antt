@@ -23,7 +23,6 @@ use Rattle.sql_tree.specs.declared.statement.NewProjection.{NewProjection}
 use Rattle.sql_tree.specs.declared.statement.Statement.{Statement}
 use Rattle.sql_bound.specs.declared.query.BoundQuery.{BoundQuery}
 use Rattle.sql_bound.specs.Outputs.{IsSumTooGreat}
-use Rattle.sql_binding.specs.Firsts.{first_of}
 use Rattle.db_model.specs.Answers.{commit_line, listing_text}
 use Rattle.db_model.specs.Database.{Table}
 use Rattle.db_model.specs.State.{State, own_changes, has_changes}
@@ -56,6 +55,7 @@ use Rattle.store_step.specs.declared.answer.Answer.{Answer}
 use Rattle.store_step.specs.Arms.{told, Answers, IsAnswer, MayLeave}
 use Rattle.col_disk.specs.Faults.{IsUnblamed as IsUnblamedStore}
 use Rattle.store_step.specs.Texts.{IsMade, IsMissed, Refused, Says}
+use Rattle.store_step.proofs.Held.{second_none}
 use Rattle.store_step.proofs.Moved.{unblamed_here}
 use Rattle.store_step.proofs.Answered.{from_good, refused_answer, says_answer, Event, ShortBy}
 
@@ -104,9 +104,6 @@ added_event state files a accepted sound made draw = record {
 }
 
 -- where the table of a name stands
-decided : (m n : List ℕ) → bytes_eq m n ≡ true → m ≡ n
-decided m n is = (bytes_eq-Decides m n).0 is
-
 found_at : (name : List ℕ) (i : ℕ) (ts : List kept.Table) (place : ℕ) → option_map (λ (e : ℕ × Table). e.0) (find (λ (e : ℕ × Table). bytes_eq e.1.name name) (enumerate_from i (map bare_table ts))) ≡ Some place
     → (k : ℕ) × (place ≡ i + k) × IsSomeAnd (slice_get ts k) (λ t. t.name ≡ name)
 found_at name i [] place is = absurd (cc)
@@ -120,7 +117,7 @@ found_at name i (t ∷ ts) place is = by (bytes_eq t.name name) refl (found_at n
         → (k : ℕ) × (place ≡ i + k) × IsSomeAnd (slice_get (t ∷ ts) k) (λ u. u.name ≡ name)
     by true here more at =
         let same : i ≡ place = cc in
-        (0, omega (arith, same), decided t.name name here)
+        (0, omega (arith, same), (bytes_eq-Decides t.name name).0 here)
     by false here more at = let (k, there, named) = more at in (suc k, omega (arith, there), named)
 
 pub stands_at : (name : List ℕ) (ts : List kept.Table) (place : ℕ) → table_place name (map bare_table ts) ≡ Some place → IsSomeAnd (slice_get ts place) (λ t. t.name ≡ name)
@@ -146,10 +143,6 @@ committed_event state files accepted sound made = record {
 }
 
 -- ---- SELECT
-
-second_none : {X : Type 0} (a b : Option X) → first_of a b ≡ None → b ≡ None
-second_none None b is = is
-second_none (Some x) b is = absurd (cc)
 
 -- a SELECT that isn't refused for what it says is asked in the state
 pub asked_in : (state : State) (at : At) (q : Query) (b : BoundQuery) → IsBoundIn state q b → select_refusal state at q ≡ None → IsAsked state at q b

@@ -42,7 +42,7 @@ first_none : {X : Type 0} (a b : Option X) → first_of a b ≡ None → a ≡ N
 first_none None b is = refl
 first_none (Some x) b is = absurd (cc)
 
-second_none : {X : Type 0} (a b : Option X) → first_of a b ≡ None → b ≡ None
+pub second_none : {X : Type 0} (a b : Option X) → first_of a b ≡ None → b ≡ None
 second_none None b is = is
 second_none (Some x) b is = absurd (cc)
 

@@ -1,5 +1,5 @@
 -- MAKE_AHM_NOW and SET_AHM_EPOCH.
-use Rattle.std.proofs.Common.{◌≡◌, ◌≤◌, ℕ, Bool, true, false, None, sym, ap, subst, arith}
+use Rattle.std.proofs.Common.{◌≤◌, ℕ, Bool, true, false, None, sym, ap, subst, arith}
 use Rattle.std.specs.Prelude.{codes}
 use Rattle.sql_tree.specs.declared.statement.Function.{Function}
 use Rattle.sql_tree.specs.declared.statement.Statement.{Statement}

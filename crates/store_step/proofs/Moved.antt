@@ -1,5 +1,5 @@
 -- What the steps of the mover and moveouts come to.
-use Rattle.std.proofs.Common.{◌≡◌, Bool, inl, inr, [], true, false, refl, ap}
+use Rattle.std.proofs.Common.{Bool, inl, inr, [], true, false, refl, ap}
 use Rattle.std.specs.Prelude.{None, Result, Ok, Err, codes}
 use Rattle.common_laws.specs.Maps.{Contents}
 use Rattle.col_disk.specs.Moved.{Leaves}
@@ -28,19 +28,13 @@ use Rattle.store_step.specs.Arms.{moved, stopped_or, told, Answers, IsAnswer, Ma
 use Rattle.col_disk.specs.Faults.{IsUnblamed as IsUnblamedStore}
 use Rattle.store_step.specs.Steps.{EndedAs, Ends, MoverStepped}
 use Rattle.store_step.specs.Texts.{Refused, Says}
-use Rattle.store_step.proofs.Answered.{from_good, good_closed, refused_answer, says_answer}
+use Rattle.store_step.proofs.Answered.{err_same, from_good, good_closed, refused_answer, says_answer}
 
 -- the two definitions of a fault that blames no file
 pub unblamed_here : (f : StoreFault) → disk_faults.IsUnblamed f → IsUnblamedStore f
 unblamed_here store.Disk is = tt
 unblamed_here (store.Damaged q) is = is
 unblamed_here store.Memory is = tt
-
-abbrev fault_as : {X : Type 0} → StoreFault → Result X StoreFault
-fault_as f = Err f
-
-err_same : {X : Type 0} (e f : StoreFault) → fault_as {X = X} e ≡ fault_as {X = X} f → e ≡ f
-err_same e f is = cc
 
 -- ---- a step of the mover
 

@@ -69,9 +69,6 @@ record StandsFrom (name : List ℕ) (i : ℕ) (ts : List Table) (e : Found) : Ty
   there : slice_get ts behind ≡ Some e.1
   named : e.1.name ≡ name
 
-decided : (m n : List ℕ) → bytes_eq m n ≡ true → m ≡ n
-decided m n is = (bytes_eq-Decides m n).0 is
-
 found_from : (name : List ℕ) (i : ℕ) (ts : List Table) (e : Found) → find (λ (f : Found). bytes_eq f.1.name name) (enumerate_from i ts) ≡ Some e → StandsFrom name i ts e
 found_from name i [] e is = absurd (cc)
 found_from name i (t ∷ ts) e is = by (bytes_eq t.name name) refl (found_from name (i + 1) ts e) is
@@ -82,7 +79,7 @@ found_from name i (t ∷ ts) e is = by (bytes_eq t.name name) refl (found_from n
     by : (b : Bool) → bytes_eq t.name name ≡ b → (Rest ≡ Some e → StandsFrom name (i + 1) ts e) → cond b (Some (i, t)) Rest ≡ Some e → StandsFrom name i (t ∷ ts) e
     by true here more at =
         let same : (i, t) ≡ e = same_Some (i, t) e at in
-        subst (StandsFrom name i (t ∷ ts)) same (record { behind = 0; place = omega arith; there = refl; named = decided t.name name here })
+        subst (StandsFrom name i (t ∷ ts)) same (record { behind = 0; place = omega arith; there = refl; named = (bytes_eq-Decides t.name name).0 here })
     by false here more at =
         let rest = more at in
         let far = rest.place in

@@ -1,6 +1,6 @@
 -- Statements that have no plan.
 use Rattle.std.proofs.Common.{◌≡◌}
-use Rattle.std.specs.Prelude.{Some, Result, Ok, Err, IfOk}
+use Rattle.std.specs.Prelude.{Some, Result, Ok, Err}
 use Rattle.col_disk.specs.declared.disk.Disk.{Ghosts}
 use Rattle.name_binder.specs.declared.fault.BindFault.{BindFault}
 use Rattle.name_binder.specs.Refusing.{RefusesBy}
@@ -13,7 +13,7 @@ use Rattle.statement_plan.specs.Planned.{early_refusal}
 use Rattle.store_core.specs.Running.{Running, IsState}
 use Rattle.store_step.specs.declared.answer.Answer.{Answer}
 use Rattle.store_step.specs.Arms.{Holds}
-use Rattle.store_step.specs.Texts.{IsUnplanned, Refused}
+use Rattle.store_step.specs.Texts.{IsUnplanned}
 use Rattle.store_step.proofs.Answered.{refused_holds}
 
 -- a statement that has no plan is refused, or memory was short

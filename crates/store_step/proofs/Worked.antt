@@ -1,5 +1,5 @@
 -- What the jobs of MERGEOUT, PURGE_TABLE and REFRESH come to.
-use Rattle.std.proofs.Common.{◌≡◌, ℕ, inl, inr, Bool, true, false, List, refl, sym, subst, ap}
+use Rattle.std.proofs.Common.{◌≡◌, ℕ, inl, inr, Bool, true, false, List, refl, ap}
 use Rattle.std.specs.Prelude.{Option, Some, None, Result, Ok, Err, codes}
 use Rattle.common_laws.specs.Maps.{Contents}
 use Rattle.col_disk.specs.declared.disk.Disk.{Ghosts}
@@ -17,17 +17,11 @@ use Rattle.db_model.specs.Refusals.{unknown_table_refusal, JobsRefuse, TableJobs
 use Rattle.db_model.specs.State.{State}
 use Rattle.store_core.specs.Cuts.{CutBeforeOrAfter, ReopensFrom}
 use Rattle.store_core.specs.Jobs.{is_of, AreDone, JobsOf, RaisesAllOf, RefreshesAllOf, RefreshesOne}
-use Rattle.store_core.specs.Running.{Running, IsState}
+use Rattle.store_core.specs.Running.{Running}
 use Rattle.store_step.specs.declared.answer.Answer.{Answer}
 use Rattle.store_step.specs.Arms.{stopped_or, Answers, IsAnswer, MayLeave, PartlyDone}
 use Rattle.store_step.specs.Texts.{Refused, Says}
-use Rattle.store_step.proofs.Answered.{refused_answer, says_answer}
-
-abbrev fault_as : {X : Type 0} → StoreFault → Result X StoreFault
-fault_as f = Err f
-
-err_same : {X : Type 0} (e f : StoreFault) → fault_as {X = X} e ≡ fault_as {X = X} f → e ≡ f
-err_same e f is = cc
+use Rattle.store_step.proofs.Answered.{err_same, refused_answer, says_answer}
 
 -- all jobs were done, or they stopped where the numbers are spent
 record Job (files : Files) (s : Statement) (state : State) (All : Bool → State → Type 0) (a stopped : Answer) : Type 0 where

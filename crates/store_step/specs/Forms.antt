@@ -9,3 +9,12 @@ is_served s = true
 abbrev pub is_copy : Statement → Bool
 is_copy (Statement.Copy table file) = true
 is_copy s = false
+
+-- the forms that make or drop a table or a projection, or add a column
+abbrev pub is_of_schema : Statement → Bool
+is_of_schema (Statement.CreateTable name columns) = true
+is_of_schema (Statement.CreateProjection p) = true
+is_of_schema (Statement.DropTable name) = true
+is_of_schema (Statement.DropProjection name) = true
+is_of_schema (Statement.AddColumn a) = true
+is_of_schema s = false

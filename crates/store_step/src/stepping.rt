@@ -13,7 +13,7 @@ ghost use Rattle.store_core.specs.Named.{NamesHeld};
 ghost use Rattle.store_core.specs.Running.{frame_of, IsState};
 ghost use Rattle.store_step.specs.Arms.{Answers};
 ghost use Rattle.store_step.specs.Faults.{NamesStepped};
-ghost use Rattle.store_step.specs.Forms.{is_copy};
+ghost use Rattle.store_step.specs.Forms.{is_copy, is_of_schema};
 ghost use Rattle.store_step.specs.Steps.{Steps};
 ghost use Rattle.store_step.specs.Texts.{HasRange};
 ghost use Rattle.store_step.specs.Works.{WhereDone, Works, WorksOf};
@@ -96,6 +96,43 @@ fn call_on<D: Disk>(
     }
 }
 
+/// Does what a statement does that makes or drops a table or a projection, or adds a column, and isn't refused for what it says.
+fn change_schema<D: Disk>(
+    alloc: Global,
+    store: &mut Store,
+    statement: Statement,
+    plan: Plan,
+    disk: &mut D,
+) -> Result<Answer, StoreFault>
+    requires schema { is_of_schema statement ≡ true }
+    requires planned { IsPlanned (frame_of store.old) statement plan }
+    ensures answers { (files : LoadFiles) (state : State) → IsState ⟦<D as Disk>⟧ store.old disk.old state
+        → Answers ⟦<D as Disk>⟧ files statement store.new disk.old disk.new result state }
+    ensures works { WhereDone ⟦<D as Disk>⟧ store.old disk.old result (Works statement store.old store.new) }
+    ensures named { IfErr result (NamesHeld ⟦<D as Disk>⟧ store.new disk.new) }
+    ensures cause { HasCause StoreFault.Disk (D.faults disk.old) (D.faults disk.new) result }
+{
+    frames_are_of_the_state::<D>();
+    match (statement, plan) {
+        (Statement::CreateTable(name, columns), _) => {
+            create_table(alloc, store, name, columns, disk)
+        }
+        (Statement::DropTable(name), Plan::DropTable(place)) => {
+            drop_table(alloc, store, name.as_slice(), place, disk)
+        }
+        (Statement::CreateProjection(projection), Plan::CreateProjection(place, shape)) => {
+            create_projection(alloc, store, projection, place, shape, disk)
+        }
+        (Statement::DropProjection(name), Plan::DropProjection(table, place)) => {
+            drop_projection(alloc, store, name.as_slice(), table, place, disk)
+        }
+        (Statement::AddColumn(add), Plan::AddColumn(place, default)) => {
+            add_column(alloc, store, &add, place, &default, disk)
+        }
+        _ => unreachable!(),
+    }
+}
+
 /// Does what a statement does that isn't refused for what it says and looks at no load file, and answers what it prints.
 fn perform<D: Disk>(
     alloc: Global,
@@ -116,21 +153,6 @@ fn perform<D: Disk>(
     every_image_reopens::<D>();
     frames_are_of_the_state::<D>();
     match (statement, plan) {
-        (Statement::CreateTable(name, columns), _) => {
-            create_table(alloc, store, name, columns, disk)
-        }
-        (Statement::DropTable(name), Plan::DropTable(place)) => {
-            drop_table(alloc, store, name.as_slice(), place, disk)
-        }
-        (Statement::CreateProjection(projection), Plan::CreateProjection(place, shape)) => {
-            create_projection(alloc, store, projection, place, shape, disk)
-        }
-        (Statement::DropProjection(name), Plan::DropProjection(table, place)) => {
-            drop_projection(alloc, store, name.as_slice(), table, place, disk)
-        }
-        (Statement::AddColumn(add), Plan::AddColumn(place, default)) => {
-            add_column(alloc, store, &add, place, &default, disk)
-        }
         (Statement::Insert(insert), Plan::Insert(rows)) => {
             in_memory(insert_rows::<D>(alloc, store, &insert, rows))
         }
@@ -154,7 +176,7 @@ fn perform<D: Disk>(
         (Statement::Call(function), Plan::Call) => call(alloc, store, &function, disk),
         (Statement::Session(number), _) => in_memory(use_session::<D>(alloc, store, number)),
         (Statement::Step, _) => step_mover(alloc, store, disk),
-        _ => unreachable!(),
+        (statement, plan) => change_schema(alloc, store, statement, plan, disk),
     }
 }
 

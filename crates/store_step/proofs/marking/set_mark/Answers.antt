@@ -1,4 +1,4 @@
-use Rattle.std.proofs.Common.{◌≡◌, ◌≤◌, subst, sym, rules, arith}
+use Rattle.std.proofs.Common.{◌≤◌, subst, sym, rules, arith}
 use Rattle.std.specs.Prelude.{codes, Result}
 use Rattle.col_disk.specs.declared.disk.DiskFault.TheVariants.{Memory}
 use Rattle.col_disk.specs.declared.disk.StoreFault.{StoreFault}

@@ -1,47 +1,11 @@
-use Rattle.std.proofs.Common.{◌≡◌, ℕ, List, rules, subst, sym}
+use Rattle.std.proofs.Common.{◌≡◌, rules}
 use Rattle.sql_tree.specs.declared.statement.Statement.{Statement}
-use Rattle.std.specs.Prelude.{None}
-use Rattle.db_model.specs.Refusals.{table_dropped_refusal}
 use Rattle.statement_plan.specs.Planned.{IsPlanned}
 use Rattle.statement_plan.specs.declared.plans.Plan.{Plan}
 use Rattle.store_step.proofs.Answered.{memory_answers, same_answers}
 use Rattle.store_step.proofs.Named.{memory_named}
 use Rattle.store_step.proofs.Works.{no_work, same_works}
 use Rattle.store_step.proofs.stepping.perform.Goals as goal
-
-pub returns-in-CreateTable-default-clause-answers : goal.returns-in-CreateTable-default-clause-answers
-returns-in-CreateTable-default-clause-answers g c = λ files state here.
-    let s = Statement.CreateTable c.in-CreateTable-default.name c.in-CreateTable-default.columns in
-    let is : c.args.statement ≡ s = search rules in
-    let all = c.frames_are_of_the_state.ensures.plan c.args.disk.now c.args.store.now state c.args.statement c.args.plan here c.requires.planned in
-    let planned : IsPlanned state s c.args.plan = rw c.in-CreateTable-default.is-0 at all in
-    same_answers g.D.Disk files c.args.statement s c.create_table.new.store c.create_table.result state is (c.create_table.ensures.answers files state here planned.accepted)
-
-pub returns-in-DropTable-DropTable-clause-answers : goal.returns-in-DropTable-DropTable-clause-answers
-returns-in-DropTable-DropTable-clause-answers g c = λ files state here.
-    let s = Statement.DropTable c.as_slice.result.now in
-    let is : c.args.statement ≡ s = search rules in
-    let all = c.frames_are_of_the_state.ensures.plan c.args.disk.now c.args.store.now state c.args.statement c.args.plan here c.requires.planned in
-    let planned : IsPlanned state (Statement.DropTable c.in-DropTable-DropTable.name) (Plan.DropTable c.in-DropTable-DropTable.place) = rw (c.in-DropTable-DropTable.is-0, c.in-DropTable-DropTable.is-1) at all in
-    same_answers g.D.Disk files c.args.statement s c.drop_table.new.store c.drop_table.result state is (c.drop_table.ensures.answers files state here (subst (λ (n : List ℕ). table_dropped_refusal state n ≡ None) (sym c.as_slice.ensures) planned.accepted))
-
-pub returns-in-CreateProjection-CreateProjection-clause-answers : goal.returns-in-CreateProjection-CreateProjection-clause-answers
-returns-in-CreateProjection-CreateProjection-clause-answers g c = λ files state here.
-    let s = Statement.CreateProjection c.in-CreateProjection-CreateProjection.projection in
-    let is : c.args.statement ≡ s = search rules in
-    same_answers g.D.Disk files c.args.statement s c.create_projection.new.store c.create_projection.result state is (c.create_projection.ensures.answers files state here)
-
-pub returns-in-DropProjection-DropProjection-clause-answers : goal.returns-in-DropProjection-DropProjection-clause-answers
-returns-in-DropProjection-DropProjection-clause-answers g c = λ files state here.
-    let s = Statement.DropProjection c.as_slice-in-DropProjection-DropProjection.result.now in
-    let is : c.args.statement ≡ s = search rules in
-    same_answers g.D.Disk files c.args.statement s c.drop_projection.new.store c.drop_projection.result state is (c.drop_projection.ensures.answers files state here)
-
-pub returns-in-AddColumn-AddColumn-clause-answers : goal.returns-in-AddColumn-AddColumn-clause-answers
-returns-in-AddColumn-AddColumn-clause-answers g c = λ files state here.
-    let s = Statement.AddColumn c.in-AddColumn-AddColumn.add in
-    let is : c.args.statement ≡ s = search rules in
-    same_answers g.D.Disk files c.args.statement s c.add_column.new.store c.add_column.result state is (c.add_column.ensures.answers files state here)
 
 pub returns-in-Insert-Insert-clause-answers : goal.returns-in-Insert-Insert-clause-answers
 returns-in-Insert-Insert-clause-answers g c = λ files state here.
@@ -139,21 +103,6 @@ returns-in-Explain-Explain-clause-named g c = memory_named g.D.Disk c.args.store
 pub returns-in-Session-default-clause-named : goal.returns-in-Session-default-clause-named
 returns-in-Session-default-clause-named g c = memory_named g.D.Disk c.use_session.new.store c.args.disk.now c.use_session.result c.in_memory-in-Session-default.result c.in_memory-in-Session-default.ensures
 
-pub returns-in-CreateTable-default-clause-works : goal.returns-in-CreateTable-default-clause-works
-returns-in-CreateTable-default-clause-works g c = no_work g.D.Disk c.args.store.now c.create_table.new.store c.args.disk.now c.args.statement (Statement.CreateTable c.in-CreateTable-default.name c.in-CreateTable-default.columns) c.create_table.result c.in-CreateTable-default.is-0 tt
-
-pub returns-in-DropTable-DropTable-clause-works : goal.returns-in-DropTable-DropTable-clause-works
-returns-in-DropTable-DropTable-clause-works g c = no_work g.D.Disk c.args.store.now c.drop_table.new.store c.args.disk.now c.args.statement (Statement.DropTable c.in-DropTable-DropTable.name) c.drop_table.result c.in-DropTable-DropTable.is-0 tt
-
-pub returns-in-CreateProjection-CreateProjection-clause-works : goal.returns-in-CreateProjection-CreateProjection-clause-works
-returns-in-CreateProjection-CreateProjection-clause-works g c = no_work g.D.Disk c.args.store.now c.create_projection.new.store c.args.disk.now c.args.statement (Statement.CreateProjection c.in-CreateProjection-CreateProjection.projection) c.create_projection.result c.in-CreateProjection-CreateProjection.is-0 tt
-
-pub returns-in-DropProjection-DropProjection-clause-works : goal.returns-in-DropProjection-DropProjection-clause-works
-returns-in-DropProjection-DropProjection-clause-works g c = no_work g.D.Disk c.args.store.now c.drop_projection.new.store c.args.disk.now c.args.statement (Statement.DropProjection c.in-DropProjection-DropProjection.name) c.drop_projection.result c.in-DropProjection-DropProjection.is-0 tt
-
-pub returns-in-AddColumn-AddColumn-clause-works : goal.returns-in-AddColumn-AddColumn-clause-works
-returns-in-AddColumn-AddColumn-clause-works g c = no_work g.D.Disk c.args.store.now c.add_column.new.store c.args.disk.now c.args.statement (Statement.AddColumn c.in-AddColumn-AddColumn.add) c.add_column.result c.in-AddColumn-AddColumn.is-0 tt
-
 pub returns-in-Insert-Insert-clause-works : goal.returns-in-Insert-Insert-clause-works
 returns-in-Insert-Insert-clause-works g c = no_work g.D.Disk c.args.store.now c.insert_rows.new.store c.args.disk.now c.args.statement (Statement.Insert c.in-Insert-Insert.insert) c.in_memory.result c.in-Insert-Insert.is-0 tt
 
@@ -192,3 +141,7 @@ returns-in-Call-CallOn-clause-works g c =
     let s = Statement.Call c.in-Call-CallOn.function in
     let is : c.args.statement ≡ s = search rules in
     same_works g.D.Disk c.args.store.now c.call_on.new.store c.args.disk.now c.args.statement s c.call_on.result is c.call_on.ensures.works
+
+pub returns-in_default-clause-answers : goal.returns-in_default-clause-answers
+returns-in_default-clause-answers g c = λ files state here.
+    same_answers g.D.Disk files c.args.statement _ c.change_schema.new.store c.change_schema.result state (search rules) (c.change_schema.ensures.answers files state here)
