@@ -17,7 +17,7 @@ use Rattle.folder_model.specs.Reopening.{Reopens}
 use Rattle.store_commit.specs.Making.{ReopensToEither}
 use Rattle.table_store.proofs.Standing.{reads_only}
 use Rattle.store_core.specs.Events.{BeforeOrAfter, Does}
-use Rattle.store_core.specs.Running.{Running, IsState}
+use Rattle.store_core.specs.Running.{unworked, IsState, Running}
 use Rattle.store_core.specs.Sessions.{with_own}
 use Rattle.catch_model.specs.Added.{has_change}
 use Rattle.catch_model.specs.Refused.{is_gap, NoEpoch}
@@ -97,7 +97,7 @@ comes_committed disk old new mark n start b was is good sound le some pended doe
 
 -- where the commit failed
 pub comes_failed : {D : Type 0} (disk : Ghosts D) (old new : D) → Drops disk → (mark n : ℕ) (start b : Database) (was left is : Running) (f : StoreFault) → last_good start ≡ start.last → IsSoundDatabase b → mark ≤ n → has_change b (n + 1) ≡ true → IsPended disk mark start b n b.tables was old
-    → ((state : State) → IsState disk was old state → Does disk store.Memory was left old new (commit_failed f) state (λ after. after ≡ changes_committed state)) → ((state : State) → IsState disk was old state → IsUnblamed f) → is ≡ with_own [] was
+    → ((state : State) → IsState disk was old state → Does disk store.Memory was left old new (commit_failed f) state (λ after. after ≡ changes_committed state)) → ((state : State) → IsState disk was old state → IsUnblamed f) → is ≡ with_own [] (unworked was)
     → Comes disk mark start b n (n + 1) is old new (replay_failed (behind_fault f))
 comes_failed {D} disk old new drops mark n start b was left is f good sound le some pended does unblamed same = record {
   done = tt;
@@ -118,10 +118,10 @@ comes_failed {D} disk old new drops mark n start b was left is f good sound le s
     Short : LinkFault → Type 0
     Short g = IsErrOf (replay_failed g) link.Memory → (k : ℕ) × (n ≤ k) × (k ≤ n + 1) × (t : State) × IsState disk is new t × IsAt mark start b k t
 
-    by : (g : StoreFault) → (IsErrOf (commit_failed g) store.Memory → IsState disk was new pended.state) → Short (behind_fault g)
+    by : (g : StoreFault) → (IsErrOf (commit_failed g) store.Memory → IsState disk (unworked was) new pended.state) → Short (behind_fault g)
     by store.Disk undone wants = absurd (cc)
     by (store.Damaged q) undone wants = absurd (cc)
-    by store.Memory undone wants = (n, omega arith, omega arith, changes_dropped pended.state, subst (λ (r : Running). IsState disk r new (changes_dropped pended.state)) (sym same) (drops new was pended.state (undone refl)), pended.pends.at)
+    by store.Memory undone wants = (n, omega arith, omega arith, changes_dropped pended.state, subst (λ (r : Running). IsState disk r new (changes_dropped pended.state)) (sym same) (drops new (unworked was) pended.state (undone refl)), pended.pends.at)
 
     blamed : (g : StoreFault) → IsUnblamed g → IsShortBehind (behind_fault g)
     blamed store.Disk ok = tt

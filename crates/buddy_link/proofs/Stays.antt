@@ -17,13 +17,14 @@ use Rattle.folder_model.proofs.Committing.{stands_moved}
 use Rattle.db_model.specs.Database.{Table, table_named}
 use Rattle.db_model.specs.State.{State}
 use Rattle.store_core.specs.Running.{Running, IsState}
+use Rattle.store_core.proofs.Doing.{work_kept}
 use Rattle.catch_model.specs.Caught.{columns_of, later_mark}
 use Rattle.catch_schemas.specs.Schemas.{columns_in, AreAscending}
 use Rattle.buddy_link.specs.Linking.{mark_between}
 
 -- reading alone leaves the store the same state
-pub state_stays : {D : Type 0} (disk : Ghosts D) (old new : D) (r : Running) (s : State) → Moved disk NoName NoName old new → IsState disk r old s → IsState disk r new s
-state_stays disk old new r s moved here = record {
+pub state_stays : {D : Type 0} (disk : Ghosts D) (old new : D) (r : Running) (s : State) → Moved disk NoName NoName old new → disk.holds new ≡ disk.holds old → IsState disk r old s → IsState disk r new s
+state_stays disk old new r s moved kept here = record {
   database = stands_moved disk {W = NoName} {R = NoName} {old = old} {new = new} r.seen.catalogue r.seen.stores s.database here.database (λ q no. absurd no) (λ q no. absurd no) moved;
   sessions = here.sessions;
   current = here.current;
@@ -31,6 +32,7 @@ state_stays disk old new r s moved here = record {
   next = here.next;
   busy = here.busy;
   parts = here.parts;
+  work = work_kept disk r.mover.work old new kept here.work;
   sound = here.sound;
 }
 

@@ -395,6 +395,14 @@ next_scan p e ps w st i b c o opened t shape ks same are lt below opening is =
       closed = λ none. absurd (cc);
     }
 
+-- behind the last block of a container none is at hand
+pub done_scan : (p : Projection) (e : ℕ) (ps : List (Option ℕ)) (w : List Bound) (st : Bool) (i b : ℕ) (o n : Option Opening) (t : ℕ) → n ≡ None → IsScanOf p (at_place e ps w st i b o t) → IsScanOf p (at_place e ps w st (i + 1) 0 n t)
+done_scan p e ps w st i b o n t none is = record {
+  own = is.own;
+  opening = subst (λ (x : Option Opening). IfSome x (λ y. IsSomeAnd (slice_get p.containers (i + 1)) (λ k. IsOpening k.rows ps y × (0 ≤ blocks k.rows)))) (sym none) tt;
+  closed = λ closed. refl;
+}
+
 pub opening_here : (p shape : Projection) (ks : List Container) (i : ℕ) (ps qs : List (Option ℕ)) (opened : Opening) → shape ≡ p → ks ≡ shape.containers → qs ≡ ps → IsSomeAnd (slice_get p.containers i) (λ k. IsOpening k.rows ps opened)
     → IsOpening (get_or ks i blank).rows qs opened
 opening_here p shape ks i ps qs opened same are are_ps opening =

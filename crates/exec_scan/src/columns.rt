@@ -21,7 +21,7 @@ use block_codec::Block;
 use catalog_types::{Container, Projection};
 use col_disk::{Disk, StoreFault};
 use container_blocks::{Steps, block};
-use pos_index::PosIndex;
+use proj_store::SharedIndex;
 use row_bounds::Bound;
 use std::alloc::{AllocError, Global};
 use std::sync::ledger::Ledger;
@@ -44,7 +44,7 @@ fn read_column<D: Disk, L: Ledger>(
     entry: &Container,
     shape: &Projection,
     place: Option<usize>,
-    index: &Option<PosIndex>,
+    index: &Option<SharedIndex>,
     k: usize,
     steps: &mut Steps<L>,
 ) -> Result<Option<Block>, StoreFault>
@@ -62,7 +62,16 @@ fn read_column<D: Disk, L: Ledger>(
     ensures cause { HasCause StoreFault.Disk (D.faults disk.old) (D.faults disk.new) result }
 {
     match (place, index) {
-        (Some(place), Some(at)) => match block(alloc, disk, entry, at, shape, place, k, steps) {
+        (Some(place), Some(at)) => match block(
+            alloc,
+            disk,
+            entry,
+            at.get(),
+            shape,
+            place,
+            k,
+            steps,
+        ) {
             Ok(values) => Ok(Some(values)),
             Err(fault) => Err(fault),
         },
@@ -77,7 +86,7 @@ fn fill_column<D: Disk, L: Ledger>(
     entry: &Container,
     shape: &Projection,
     places: &[Option<usize>],
-    indexes: &[Option<PosIndex>],
+    indexes: &[Option<SharedIndex>],
     k: usize,
     column: usize,
     columns: &mut [Option<Block>],
@@ -128,7 +137,7 @@ fn narrow_by<D: Disk, L: Ledger>(
     entry: &Container,
     shape: &Projection,
     places: &[Option<usize>],
-    indexes: &[Option<PosIndex>],
+    indexes: &[Option<SharedIndex>],
     k: usize,
     bound: &Bound,
     columns: &mut [Option<Block>],
@@ -175,7 +184,7 @@ fn narrow<D: Disk, L: Ledger>(
     entry: &Container,
     shape: &Projection,
     places: &[Option<usize>],
-    indexes: &[Option<PosIndex>],
+    indexes: &[Option<SharedIndex>],
     k: usize,
     bounds: &[Bound],
     columns: &mut [Option<Block>],
@@ -221,7 +230,7 @@ fn fill_columns<D: Disk, L: Ledger>(
     entry: &Container,
     shape: &Projection,
     places: &[Option<usize>],
-    indexes: &[Option<PosIndex>],
+    indexes: &[Option<SharedIndex>],
     k: usize,
     columns: &mut [Option<Block>],
     steps: &mut Steps<L>,
@@ -260,7 +269,7 @@ fn fill_alive<D: Disk, L: Ledger>(
     entry: &Container,
     shape: &Projection,
     places: &[Option<usize>],
-    indexes: &[Option<PosIndex>],
+    indexes: &[Option<SharedIndex>],
     k: usize,
     columns: &mut [Option<Block>],
     alive: &[bool],
@@ -301,7 +310,7 @@ pub fn columns_alive<D: Disk, L: Ledger>(
     entry: &Container,
     shape: &Projection,
     places: &[Option<usize>],
-    indexes: &[Option<PosIndex>],
+    indexes: &[Option<SharedIndex>],
     k: usize,
     bounds: &[Bound],
     alive: &mut [bool],

@@ -15,18 +15,16 @@ ghost use Rattle.exec_scan.specs.Scanning.{AreOwn};
 
 use catalog_types::{Container, Projection};
 use col_disk::{Disk, StoreFault};
-use container_blocks::index;
 use del_vector::Mark;
-use pos_index::PosIndex;
-use proj_store::deletes_of;
+use proj_store::{Indexes, SharedIndex, deletes_of};
 use std::alloc::{AllocError, Global};
 use std::marker::Model;
 
 /// The indexes of the columns of a container that are needed, that of its epochs, and the delete epochs of its rows.
 #[derive(Drop)]
 pub struct Opened {
-    pub indexes: Vec<Option<PosIndex>>,
-    pub epochs: PosIndex,
+    pub indexes: Vec<Option<SharedIndex>>,
+    pub epochs: SharedIndex,
     pub deletes: Vec<Option<u64>>,
 }
 
@@ -42,10 +40,11 @@ impl Model for Opened {
 fn index_at<D: Disk>(
     alloc: Global,
     disk: &mut D,
+    known: &Indexes,
     entry: &Container,
     shape: &Projection,
     place: Option<usize>,
-) -> Result<Option<PosIndex>, StoreFault>
+) -> Result<Option<SharedIndex>, StoreFault>
     requires numbers { IsReadable shape.now.columns entry.now }
     requires own { IfSome place (λ i. i < length shape.now.columns) }
     ensures needed { IfOk result (IsNeeded entry.now.rows place) }
@@ -56,7 +55,7 @@ fn index_at<D: Disk>(
     ensures cause { HasCause StoreFault.Disk (D.faults disk.old) (D.faults disk.new) result }
 {
     match place {
-        Some(place) => match index(alloc, disk, entry, shape, place) {
+        Some(place) => match known.index(alloc, disk, entry, shape, place) {
             Ok(at) => Ok(Some(at)),
             Err(fault) => Err(fault),
         },
@@ -68,10 +67,11 @@ fn index_at<D: Disk>(
 fn indexes_of<D: Disk>(
     alloc: Global,
     disk: &mut D,
+    known: &Indexes,
     entry: &Container,
     shape: &Projection,
     places: &[Option<usize>],
-) -> Result<Vec<Option<PosIndex>>, StoreFault>
+) -> Result<Vec<Option<SharedIndex>>, StoreFault>
     requires numbers { IsReadable shape.now.columns entry.now }
     requires own { AreOwn shape.now places.now }
     ensures needed { IfOk result (λ v. AllZip (IsNeeded entry.now.rows) places.now v.items) }
@@ -83,7 +83,7 @@ fn indexes_of<D: Disk>(
 {
     let mut out = Vec::new(alloc);
     for place in places {
-        let at = match index_at(alloc, disk, entry, shape, *place) {
+        let at = match index_at(alloc, disk, known, entry, shape, *place) {
             Ok(at) => at,
             Err(fault) => return Err(fault),
         };
@@ -99,6 +99,7 @@ fn indexes_of<D: Disk>(
 pub fn open<D: Disk>(
     alloc: Global,
     disk: &mut D,
+    known: &Indexes,
     entry: &Container,
     shape: &Projection,
     held: &[Mark],
@@ -115,11 +116,11 @@ pub fn open<D: Disk>(
     ensures moved { Moved ⟦<D as Disk>⟧ NoName NoName disk.old disk.new }
     ensures cause { HasCause StoreFault.Disk (D.faults disk.old) (D.faults disk.new) result }
 {
-    let indexes = match indexes_of(alloc, disk, entry, shape, places) {
+    let indexes = match indexes_of(alloc, disk, known, entry, shape, places) {
         Ok(indexes) => indexes,
         Err(fault) => return Err(fault),
     };
-    let epochs = match index(alloc, disk, entry, shape, shape.columns.as_slice().len()) {
+    let epochs = match known.index(alloc, disk, entry, shape, shape.columns.as_slice().len()) {
         Ok(epochs) => epochs,
         Err(fault) => return Err(fault),
     };

@@ -4,16 +4,16 @@ ghost use Rattle.std.specs.Prelude.{◌≡◌, ◌≤◌, ◌<◌, ℕ, IsTrue, 
 ghost use Rattle.exec_scan.specs.Passing.{IsPassed, Misses, is_missed, is_passed};
 
 use crate::opened::Opened;
-use pos_index::PosIndex;
+use proj_store::SharedIndex;
 use row_bounds::Bound;
 
 /// Whether the index of its column says that no value of a block lies in a bound.
-fn misses(bound: &Bound, indexes: &[Option<PosIndex>], block: usize) -> bool
+fn misses(bound: &Bound, indexes: &[Option<SharedIndex>], block: usize) -> bool
     ensures missed { IsTrue result → Misses indexes.now block bound.now }
     ensures told { result ≡ is_missed indexes.now block bound.now }
 {
     match indexes.get(bound.column) {
-        Some(Some(at)) => match at.entries.as_slice().get(block) {
+        Some(Some(at)) => match at.get().entries.as_slice().get(block) {
             Some(entry) => bound.misses(&entry.least, &entry.greatest),
             None => false,
         },
@@ -22,7 +22,7 @@ fn misses(bound: &Bound, indexes: &[Option<PosIndex>], block: usize) -> bool
 }
 
 /// Whether a block can be passed over.
-fn is_passed(bounds: &[Bound], indexes: &[Option<PosIndex>], block: usize) -> bool
+fn is_passed(bounds: &[Bound], indexes: &[Option<SharedIndex>], block: usize) -> bool
     ensures passed { IsTrue result → IsPassed bounds.now indexes.now block }
     ensures told { result ≡ is_passed bounds.now indexes.now block }
 {
@@ -35,7 +35,12 @@ fn is_passed(bounds: &[Bound], indexes: &[Option<PosIndex>], block: usize) -> bo
 }
 
 /// The first block from `first` on that can't be passed over, or `count` where no block before that is one.
-fn first_needed(bounds: &[Bound], indexes: &[Option<PosIndex>], first: usize, count: usize) -> usize
+fn first_needed(
+    bounds: &[Bound],
+    indexes: &[Option<SharedIndex>],
+    first: usize,
+    count: usize,
+) -> usize
     ensures first { result < count → first ≤ result }
     ensures passed { (block : ℕ) → first ≤ block → block < result → IsPassed bounds.now indexes.now block }
     ensures needed { result < count → is_passed bounds.now indexes.now result ≡ false }

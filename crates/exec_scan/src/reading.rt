@@ -98,7 +98,7 @@ pub fn read_block<D: Disk, L: Ledger>(
         disk,
         entry,
         shape,
-        &opened.epochs,
+        opened.epochs.get(),
         k,
         epoch,
         stamps,

@@ -12,7 +12,7 @@ ghost use Rattle.exec_scan.specs.Reading.{RulesOut, Stays};
 
 use block_codec::{Block, lane_day, lane_number};
 use col_value::Value;
-use pos_index::PosIndex;
+use proj_store::SharedIndex;
 use row_bounds::Bound;
 
 /// Whether a number is less than a least value.
@@ -50,9 +50,9 @@ fn lies_out(bound: &Bound, value: &Value) -> bool
 }
 
 /// Whether all values of block k lie in a bound, as the index of their column says. A hint, which decides no answer.
-pub fn covers(bound: &Bound, index: &Option<PosIndex>, k: usize) -> bool {
+pub fn covers(bound: &Bound, index: &Option<SharedIndex>, k: usize) -> bool {
     match index {
-        Some(at) => match at.entries.as_slice().get(k) {
+        Some(at) => match at.get().entries.as_slice().get(k) {
             Some(entry) => !lies_out(bound, &entry.least) && !lies_out(bound, &entry.greatest),
             None => false,
         },

@@ -147,6 +147,7 @@ fn at_hand<D: Disk>(
             open(
                 alloc,
                 disk,
+                store.indexes(),
                 entry,
                 shape,
                 store.vector(container),

@@ -1,3 +1,4 @@
+mod Indexed
 pub mod Epochs
 pub mod Zips
 pub mod SavedRows

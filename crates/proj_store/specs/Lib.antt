@@ -5,3 +5,4 @@ pub mod Marking
 pub mod Blocks
 pub mod Candidates
 pub mod Widening
+pub mod Kept

@@ -9,6 +9,9 @@
 //! which an index says so. Of the other blocks those rows are looked up that may be wanted by each of their values (`AreCandidates` of
 //! `specs/Candidates.antt`), until nothing is wanted any more; one that is the next in the order of what is wanted isn't even made.
 //!
+//! The indexes that a scan reads are kept beside the bytes of their files (`Indexes`): a file's bytes are read each time, and parsed where they
+//! aren't the ones that are kept, so that what is kept is the index of the file whatever happened to it.
+//!
 //! A column that joins the others writes no row (`with_column` of `specs/Widening.antt`): `prepare_column` makes the entry's columns and
 //! the rows in memory with its default beside those that are there, and `apply_column` puts them in their place.
 #![tactic(auto)]
@@ -18,6 +21,7 @@ mod blocks;
 mod candidates;
 mod copies;
 mod deletes;
+mod indexes;
 mod kept;
 mod laws;
 mod loading;
@@ -30,6 +34,7 @@ mod store;
 mod widening;
 
 pub use deletes::deletes_of;
+pub use indexes::{Indexes, SharedIndex};
 pub use laws::{
     later_marks_stay_above, rows_may_come_before_marks, valid_entries_load,
     vectors_are_those_of_the_disk, wanted_rows_are_deleted,

@@ -17,6 +17,7 @@ mod columns;
 mod deletes;
 
 use crate::copies::{add_copies, visible_rows};
+use crate::indexes::Indexes;
 use crate::kept::Kept;
 use crate::loading::load_each;
 use crate::saved::saved_rows;
@@ -30,12 +31,13 @@ use std::alloc::{AllocError, Global};
 use std::marker::Model;
 use write_store::{Held, WriteStore};
 
-/// A projection: its entry in the catalogue, what is kept of each container, and the rows that aren't on disk.
+/// A projection: its entry in the catalogue, what is kept of each container, the rows that aren't on disk, and the indexes that were read.
 #[derive(Drop)]
 pub struct ProjStore {
     entry: Projection,
     kept: Vec<Kept>,
     unsaved: WriteStore,
+    indexes: Indexes,
 }
 
 impl Model for ProjStore {
@@ -104,6 +106,7 @@ impl ProjStore {
             entry,
             kept,
             unsaved,
+            indexes: Indexes::none(alloc),
         })
     }
 
@@ -117,6 +120,7 @@ impl ProjStore {
             entry,
             kept: Vec::new(alloc),
             unsaved: WriteStore::new(alloc),
+            indexes: Indexes::none(alloc),
         }
     }
 
@@ -126,6 +130,11 @@ impl ProjStore {
         ensures sound { IsSound self.now.stored.entry self.now.stored.beside }
     {
         &self.entry
+    }
+
+    /// The indexes of its files that were read. It takes no memory.
+    pub fn indexes(&self) -> &Indexes {
+        &self.indexes
     }
 
     /// The rows that aren't on disk. It takes no memory.

@@ -53,11 +53,11 @@ added_at a table column default state at column_is default_is =
     ∙ ap (λ (v : Value). widened_at table column v d) default_is
 
 pub addition_does : {D F : Type 0} (disk : Ghosts D) (short : F) {old new : D} (was is : Seen) (sessions : List (List Changes)) (current : ℕ) (mover after : Mover) (now : Running) (table : ℕ) (a : AddColumn) (column : Column) (default : Value) (result : Result (Unit {0}) F) (state : State)
-    → running was sessions current mover ≡ now → IsState disk now old state → IsSound (column_added a state) → table_place a.table state.database.tables ≡ Some table → a.column ≡ column → default_value a ≡ default → after.asked ≡ mover.asked → after.busy ≡ 0
+    → running was sessions current mover ≡ now → IsState disk now old state → IsSound (column_added a state) → table_place a.table state.database.tables ≡ Some table → a.column ≡ column → default_value a ≡ default → after.asked ≡ mover.asked → after.busy ≡ 0 → after.work ≡ None
     → ((d : Database) → Stands disk was old d → IsSoundDatabase (widened_at table column default d) → Makes disk short was is old new result d (widened_at table column default d))
     → OnOk result (DrawsOne was.catalogue is.catalogue)
     → Does disk short now (running is sessions current after) old new result state (IsDrawn state (column_added a state))
-addition_does disk short {old} {new} was is sessions current mover after now table a column default result state view here sound at column_is default_is waits idle makes draws =
+addition_does disk short {old} {new} was is sessions current mover after now table a column default result state view here sound at column_is default_is waits idle free makes draws =
     let own = viewed disk old (running was sessions current mover) now state view here in
     let d = state.database in
     let made : (column_added a state).database ≡ widened_at table column default d = added_at a table column default state at column_is default_is in
@@ -65,4 +65,4 @@ addition_does disk short {old} {new} was is sessions current mover after now tab
     (drawn_does disk short was is sessions sessions current mover after result state (column_added a state) state.parts own
     (subst (λ (e : Database). Makes disk short was is old new result d e) (sym made) (makes d own.database (subst IsSoundDatabase made sound.database)))
     (grown_by_one result state was is own.next own.parts draws)
-    (record { sessions = own.sessions; current = own.current; asked = own.asked ∙ sym waits; busy = sym idle; sound = renumbered (column_added a state) sound }))
+    (record { sessions = own.sessions; current = own.current; asked = own.asked ∙ sym waits; busy = sym idle; free = free; sound = renumbered (column_added a state) sound }))

@@ -27,6 +27,7 @@ use Rattle.table_store.specs.Draining.{all_caught_up, DrawsMany}
 use Rattle.table_store.specs.Drawing.{FewContainers}
 use Rattle.table_store.proofs.Counted.{no_length, none_left, rest_moved}
 use Rattle.table_store.proofs.Standing.{reads_only}
+use Rattle.store_core.proofs.Doing.{no_work}
 use Rattle.store_core.specs.Cuts.{ReopensFrom}
 use Rattle.store_core.specs.Moving.{MovesAllOf, ReopensMoved}
 use Rattle.store_core.specs.Running.{running, IsState, Mover, Running}
@@ -189,10 +190,10 @@ any_moved state sound room = by (length (behind state.database)) refl
             )
 
 -- all were moved out
-pub moved_done : {D : Type 0} (disk : Ghosts D) {old new : D} (was is : Seen) (sessions : List (List Changes)) (current : ℕ) (mover : Mover) (state : State) → IsState disk (running was sessions current mover) old (given_up state) → are_spent state ≡ false
+pub moved_done : {D : Type 0} (disk : Ghosts D) {old new : D} (was is : Seen) (sessions : List (List Changes)) (current : ℕ) (mover : Mover) (state : State) → IsState disk (running was sessions current mover) old (given_up state) → mover.work ≡ None → are_spent state ≡ false
     → length (all_projections was.catalogue.tables) ≤ 16384 → Makes disk fault.Memory was is old new (Ok tt) state.database (all_caught_up state.database) → DrawsMany (length (behind state.database)) was.catalogue is.catalogue
     → MovesAllOf disk (running is sessions current mover) old new none_ok state
-moved_done {D} disk {old} {new} was is sessions current mover state here room fit makes draws =
+moved_done {D} disk {old} {new} was is sessions current mover state here free room fit makes draws =
     let any = any_moved state here.sound.database room in
     record {
       done = by (length (behind state.database)) refl;
@@ -218,6 +219,7 @@ moved_done {D} disk {old} {new} was is sessions current mover state here room fi
       next = next;
       busy = busy ∙ here.busy;
       parts = few;
+      work = no_work disk mover.work new free;
       sound = all_moved false state after moves (busy_state (given_up state) state.busy sound);
     }
 
@@ -289,9 +291,9 @@ moved_spent {D} disk {now} was sessions current mover state some here spent some
         record { jobs = subst (λ (k : ℕ). MovesOut k (given_up state) b (given_up state)) (sym count) (inl (spent, on, refl)); drawn = record { from = omega arith; to = omega arith; parts = omega arith } }
 
 -- it failed
-pub moved_fails : {D : Type 0} (disk : Ghosts D) {old new : D} (was : Seen) (sessions : List (List Changes)) (current : ℕ) (mover : Mover) (state : State) (f : StoreFault) → IsState disk (running was sessions current mover) old (given_up state) → are_spent state ≡ false
+pub moved_fails : {D : Type 0} (disk : Ghosts D) {old new : D} (was : Seen) (sessions : List (List Changes)) (current : ℕ) (mover : Mover) (state : State) (f : StoreFault) → IsState disk (running was sessions current mover) old (given_up state) → mover.work ≡ None → are_spent state ≡ false
     → Makes disk fault.Memory was was old new (unit_fault f) state.database (all_caught_up state.database) → IsUnblamed f → MovesAllOf disk (running was sessions current mover) old new (failed f) state
-moved_fails {D} disk {old} {new} was sessions current mover state f here room makes unblamed =
+moved_fails {D} disk {old} {new} was sessions current mover state f here free room makes unblamed =
     let any = any_moved state here.sound.database room in
     record {
       done = tt;
@@ -306,6 +308,7 @@ moved_fails {D} disk {old} {new} was sessions current mover state f here room ma
           next = here.next;
           busy = here.busy;
           parts = here.parts;
+          work = no_work disk mover.work new free;
           sound = here.sound;
         },
       );

@@ -1,5 +1,5 @@
 -- What an event of the tables makes of a running store.
-use Rattle.std.proofs.Common.{◌≡◌, ◌+◌, ◌*◌, ◌≤◌, inl, inr, ℕ, List, refl, arith}
+use Rattle.std.proofs.Common.{◌≡◌, ◌+◌, ◌*◌, ◌≤◌, inl, inr, ℕ, List, Option, Some, None, refl, sym, ◌∙◌, subst, arith}
 use Rattle.std.specs.Prelude.{Result, Ok, Err, OnOk}
 use Rattle.common_laws.specs.Maps.{Contents}
 use Rattle.col_disk.specs.declared.disk.Disk.{Ghosts}
@@ -12,7 +12,8 @@ use Rattle.store_commit.specs.Seen.{Seen, Stands}
 use Rattle.store_commit.specs.Making.{ReopensToEither, Makes}
 use Rattle.table_store.specs.Drawing.{FewContainers, DrawsOne}
 use Rattle.alike_laws.specs.Reordered.{AreAlikeSessions}
-use Rattle.store_core.specs.Running.{Running, running, IsState, Mover}
+use Rattle.table_jobs.specs.Working.{Working}
+use Rattle.store_core.specs.Running.{running, unworked, HasWork, IsState, Mover, Running}
 use Rattle.store_core.specs.Events.{BeforeOrAfter, Does}
 
 -- a state with other numbers of the storage
@@ -32,7 +33,16 @@ pub record Beside (made : State) (others : List (List Changes)) (own : ℕ) (mov
   pub current : made.current ≡ own
   pub asked : made.asked ≡ mover.asked
   pub busy : made.busy ≡ mover.busy
+  pub free : mover.work ≡ None
   pub sound : (next parts : ℕ) → IsSound (numbered made next parts)
+
+pub no_work : {D : Type 0} (disk : Ghosts D) (work : Option Working) (now : D) → work ≡ None → HasWork disk work now
+no_work disk work now none = subst (λ (o : Option Working). HasWork disk o now) (sym none) tt
+
+-- what is written stays while the files do
+pub work_kept : {D : Type 0} (disk : Ghosts D) (work : Option Working) (old new : D) → disk.holds new ≡ disk.holds old → HasWork disk work old → HasWork disk work new
+work_kept disk None old new same has = tt
+work_kept disk (Some w) old new same has = λ m told. has m (sym same ∙ told)
 
 made_state : {D : Type 0} (disk : Ghosts D) (now : D) (is : Seen) (others : List (List Changes)) (current : ℕ) (mover : Mover) (state made : State) (parts : ℕ) → Stands disk is now made.database → Grown state is parts → Beside made others current mover
     → (after : State) × IsDrawn state made after × IsState disk (running is others current mover) now after
@@ -47,6 +57,7 @@ made_state disk now is others current mover state made parts stands grown beside
     next = refl;
     busy = beside.busy;
     parts = grown.few;
+    work = no_work disk mover.work now beside.free;
     sound = beside.sound is.catalogue.next parts;
   },
 )
@@ -56,8 +67,8 @@ done_of : {D F : Type 0} (disk : Ghosts D) (now : D) (is : Seen) (others : List 
 done_of disk now is others current mover (Ok u) state made parts stands grown beside = made_state disk now is others current mover state made parts stands grown beside
 done_of disk now is others current mover (Err f) state made parts stands grown beside = tt
 
--- the state as it was
-pub still : {D : Type 0} (disk : Ghosts D) (r : Running) (old new : D) (state : State) → IsState disk r old state → Stands disk r.seen new state.database → IsState disk r new state
+-- the state as it was, but for the work
+pub still : {D : Type 0} (disk : Ghosts D) (r : Running) (old new : D) (state : State) → IsState disk r old state → Stands disk r.seen new state.database → IsState disk (unworked r) new state
 still disk r old new state here stands = record {
   database = stands;
   sessions = here.sessions;
@@ -66,8 +77,12 @@ still disk r old new state here stands = record {
   next = here.next;
   busy = here.busy;
   parts = here.parts;
+  work = tt;
   sound = here.sound;
 }
+
+pub without_work : {D : Type 0} (disk : Ghosts D) (r : Running) (now : D) (state : State) → IsState disk r now state → IsState disk (unworked r) now state
+without_work disk r now state here = still disk r now now state here here.database
 
 pub drawn_does : {D F : Type 0} (disk : Ghosts D) (short : F) {old new : D} (was is : Seen) (sessions others : List (List Changes)) (current : ℕ) (mover after : Mover) (result : Result (Unit {0}) F) (state made : State) (parts : ℕ)
     → IsState disk (running was sessions current mover) old state → Makes disk short was is old new result state.database made.database → OnOk result (Grown state is parts) → Beside made others current after

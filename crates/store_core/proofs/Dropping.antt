@@ -89,5 +89,6 @@ all_dropped_stands disk r now state here = record {
   next = here.next;
   busy = here.busy;
   parts = here.parts;
+  work = here.work;
   sound = dropped_sound state here.sound;
 }

@@ -1,5 +1,5 @@
 -- The events of the tables, over a running store.
-use Rattle.std.proofs.Common.{◌≡◌, ◌+◌, ◌-◌, ℕ, List, [], filter, sym, ◌∙◌, ap, subst, arith}
+use Rattle.std.proofs.Common.{◌≡◌, ◌+◌, ◌-◌, ℕ, List, [], None, filter, sym, ◌∙◌, ap, subst, arith}
 use Rattle.std.specs.Prelude.{Result, OnOk, not, slice_set, IsSomeAnd}
 use Rattle.std.specs.List.{slice_get, slice_index_or}
 use Rattle.std.proofs.lemmas.Result.{on_ok_weaker}
@@ -17,7 +17,7 @@ use Rattle.table_store.specs.Creating.{created, dropped}
 use Rattle.table_store.specs.Drawing.{FewContainers, Draws, DrawsOne}
 use Rattle.alike_laws.specs.Reordered.{AreAlikeSessions}
 use Rattle.alike_laws.proofs.Changes.{changes_at, others_alike, set_alike}
-use Rattle.store_core.specs.Running.{Running, running, IsState, Mover}
+use Rattle.store_core.specs.Running.{Running, running, IsState, Mover, work_dropped}
 use Rattle.store_core.specs.Events.{Does}
 use Rattle.store_core.proofs.Doing.{numbered, Grown, drawn_does, grown_one}
 
@@ -50,16 +50,16 @@ grown_some result state was is next few draws = on_ok_weaker result (λ some. on
 
 -- ---- CREATE TABLE
 
-pub create_does : {D F : Type 0} (disk : Ghosts D) (short : F) {old new : D} (was is : Seen) (sessions : List (List Changes)) (current : ℕ) (mover : Mover) (now : Running) (name : List ℕ) (columns : List Column) (result : Result (Unit {0}) F) (state : State)
-    → running was sessions current mover ≡ now → IsState disk now old state → IsSound (table_created name columns state)
+pub create_does : {D F : Type 0} (disk : Ghosts D) (short : F) {old new : D} (was is : Seen) (sessions : List (List Changes)) (current : ℕ) (mover after : Mover) (now : Running) (name : List ℕ) (columns : List Column) (result : Result (Unit {0}) F) (state : State)
+    → running was sessions current mover ≡ now → IsState disk now old state → after ≡ work_dropped mover → IsSound (table_created name columns state)
     → ((d : Database) → Stands disk was old d → IsSoundDatabase (created name columns d) → Makes disk short was is old new result d (created name columns d)) → OnOk result (DrawsOne was.catalogue is.catalogue)
-    → Does disk short now (running is sessions current mover) old new result state (IsDrawn state (table_created name columns state))
-create_does disk short {old} {new} was is sessions current mover now name columns result state view here sound makes draws =
+    → Does disk short now (running is sessions current after) old new result state (IsDrawn state (table_created name columns state))
+create_does disk short {old} {new} was is sessions current mover after now name columns result state view here given sound makes draws =
     let own = viewed disk old (running was sessions current mover) now state view here in
-    subst (λ (r : Running). Does disk short r (running is sessions current mover) old new result state (IsDrawn state (table_created name columns state))) view
-    (drawn_does disk short was is sessions sessions current mover mover result state (table_created name columns state) state.parts own (makes state.database own.database sound.database)
+    subst (λ (r : Running). Does disk short r (running is sessions current after) old new result state (IsDrawn state (table_created name columns state))) view
+    (drawn_does disk short was is sessions sessions current mover after result state (table_created name columns state) state.parts own (makes state.database own.database sound.database)
     (grown_by_one result state was is own.next own.parts draws)
-    (record { sessions = own.sessions; current = own.current; asked = own.asked; busy = own.busy; sound = renumbered (table_created name columns state) sound }))
+    (record { sessions = own.sessions; current = own.current; asked = own.asked ∙ sym (ap (λ (m : Mover). m.asked) given); busy = own.busy ∙ sym (ap (λ (m : Mover). m.busy) given); free = ap (λ (m : Mover). m.work) given; sound = renumbered (table_created name columns state) sound }))
 
 -- ---- DROP TABLE
 
@@ -72,10 +72,10 @@ without_own name sessions current = slice_set sessions (current - 1) (own_others
 pub drop_does : {D F : Type 0} (disk : Ghosts D) (short : F) {old new : D} (was is : Seen) (sessions others : List (List Changes)) (current : ℕ) (mover after : Mover) (now : Running) (table : ℕ) (name : List ℕ) (result : Result (Unit {0}) F) (state : State)
     → running was sessions current mover ≡ now → others ≡ without_own name sessions current → IsState disk now old state → IsSound (table_dropped name state)
     → IsSomeAnd (slice_get now.seen.catalogue.tables table) (λ t. t.name ≡ name)
-    → after.asked ≡ filter (λ n. not (is_of_table name state.database.tables n)) mover.asked → after.busy ≡ 0
+    → after.asked ≡ filter (λ n. not (is_of_table name state.database.tables n)) mover.asked → after.busy ≡ 0 → after.work ≡ None
     → ((d : Database) (n : List ℕ) → Stands disk was old d → IsSomeAnd (slice_get was.catalogue.tables table) (λ t. t.name ≡ n) → Makes disk short was is old new result d (dropped n d)) → OnOk result (DrawsOne was.catalogue is.catalogue)
     → Does disk short now (running is others current after) old new result state (IsDrawn state (table_dropped name state))
-drop_does disk short {old} {new} was is sessions others current mover after now table name result state view left here sound there waits idle makes draws =
+drop_does disk short {old} {new} was is sessions others current mover after now table name result state view left here sound there waits idle free makes draws =
     let own = viewed disk old (running was sessions current mover) now state view here in
     subst (λ (r : Running). Does disk short r (running is others current after) old new result state (IsDrawn state (table_dropped name state))) view
     (drawn_does disk short was is sessions others current mover after result state (table_dropped name state) state.parts own
@@ -90,6 +90,7 @@ drop_does disk short {old} {new} was is sessions others current mover after now 
       current = own.current;
       asked = ap (filter (λ n. not (is_of_table name state.database.tables n))) own.asked ∙ sym waits;
       busy = sym idle;
+      free = free;
       sound = renumbered (table_dropped name state) sound;
     }))
 
@@ -98,12 +99,12 @@ drop_does disk short {old} {new} was is sessions others current mover after now 
 abbrev pub moved_state : ℕ → ℕ → State → State
 moved_state i j state = record state { database = moved_at i j state.database }
 
-pub move_does : {D F : Type 0} (disk : Ghosts D) (short : F) {old new : D} (was is : Seen) (sessions : List (List Changes)) (current : ℕ) (mover : Mover) (now : Running) (i j : ℕ) (result : Result (Unit {0}) F) (state : State)
-    → running was sessions current mover ≡ now → IsState disk now old state → IsSound (moved_state i j state) → ((d : Database) → Stands disk was old d → Makes disk short was is old new result d (moved_at i j d)) → OnOk result (Draws was.catalogue is.catalogue)
-    → Does disk short now (running is sessions current mover) old new result state (IsDrawn state (moved_state i j state))
-move_does disk short {old} {new} was is sessions current mover now i j result state view here sound makes draws =
+pub move_does : {D F : Type 0} (disk : Ghosts D) (short : F) {old new : D} (was is : Seen) (sessions : List (List Changes)) (current : ℕ) (mover after : Mover) (now : Running) (i j : ℕ) (result : Result (Unit {0}) F) (state : State)
+    → running was sessions current mover ≡ now → IsState disk now old state → after ≡ work_dropped mover → IsSound (moved_state i j state) → ((d : Database) → Stands disk was old d → Makes disk short was is old new result d (moved_at i j d)) → OnOk result (Draws was.catalogue is.catalogue)
+    → Does disk short now (running is sessions current after) old new result state (IsDrawn state (moved_state i j state))
+move_does disk short {old} {new} was is sessions current mover after now i j result state view here given sound makes draws =
     let own = viewed disk old (running was sessions current mover) now state view here in
-    subst (λ (r : Running). Does disk short r (running is sessions current mover) old new result state (IsDrawn state (moved_state i j state))) view
-    (drawn_does disk short was is sessions sessions current mover mover result state (moved_state i j state) (state.parts + 2) own (makes state.database own.database)
+    subst (λ (r : Running). Does disk short r (running is sessions current after) old new result state (IsDrawn state (moved_state i j state))) view
+    (drawn_does disk short was is sessions sessions current mover after result state (moved_state i j state) (state.parts + 2) own (makes state.database own.database)
     (grown_some result state was is own.next own.parts draws)
-    (record { sessions = own.sessions; current = own.current; asked = own.asked; busy = own.busy; sound = renumbered (moved_state i j state) sound }))
+    (record { sessions = own.sessions; current = own.current; asked = own.asked ∙ sym (ap (λ (m : Mover). m.asked) given); busy = own.busy ∙ sym (ap (λ (m : Mover). m.busy) given); free = ap (λ (m : Mover). m.work) given; sound = renumbered (moved_state i j state) sound }))

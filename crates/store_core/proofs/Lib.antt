@@ -26,9 +26,9 @@ pub mod Purging
 pub mod Refreshing
 pub mod Found
 pub mod Stepping
+pub mod WorkSteps
 pub mod LeastNames
 pub mod Named
 pub mod Purged
 pub mod Shown
-pub mod SameTables
 pub mod Rooted

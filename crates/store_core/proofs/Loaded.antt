@@ -18,7 +18,7 @@ use Rattle.table_store.specs.Held.{at_epoch}
 use Rattle.table_store.proofs.Standing.{reads_only}
 use Rattle.store_core.specs.Events.{BeforeOrAfter, Does}
 use Rattle.store_core.specs.Running.{Running, running, IsState, Mover}
-use Rattle.store_core.proofs.Doing.{still}
+use Rattle.store_core.proofs.Doing.{still, without_work}
 use Rattle.store_core.proofs.Sessions.{commit_at, done_so, idle_at, own_at, own_view, pending_stands, put_at, short_of}
 
 -- the sessions, with rows more pending in the current one
@@ -54,15 +54,15 @@ unfilled disk {old} {new} was sessions others current mover is result state name
 -- a COPY that closes an epoch
 pub load_at : {D : Type 0} (disk : Ghosts D) {old new : D} (was is : Seen) (sessions others : List (List Changes)) (current : ℕ) (mover : Mover) (now : Running) (result : Result (Unit {0}) StoreFault) (state : State) (name : List ℕ) (rows : List (List Value)) (changes : List Changes) (n : ℕ)
     → running was sessions current mover ≡ now → changes ≡ with_rows name rows (own_at sessions current) → has_changes changes ≡ true → IsState disk now old state
-    → IsSound (rows_pending name rows state) → IsSound (rows_loaded name rows state) → others ≡ put_at [] sessions current
+    → IsSound (rows_pending name rows state) → IsSound (rows_loaded name rows state) → others ≡ put_at [] sessions current → disk.holds new ≡ disk.holds old
     → ((d : Database) → Stands disk was old d → IsSoundSession d changes → has_changes changes ≡ true → IsSoundDatabase (committed changes d) → Makes disk fault.Memory was is old new result d (committed changes d))
     → OnOk result (is.catalogue ≡ at_epoch n was.catalogue) → Does disk fault.Memory now (running is others current mover) old new result state (λ after. after ≡ rows_loaded name rows state)
-load_at {D} disk {old} {new} was is sessions others current mover now result state name rows changes n view mine has here pending sound left makes catalogue =
+load_at {D} disk {old} {new} was is sessions others current mover now result state name rows changes n view mine has here pending sound left files makes catalogue =
     subst (λ (r : Running). Does disk fault.Memory r (running is others current mover) old new result state (λ after. after ≡ rows_loaded name rows state)) view
     (unfilled disk was sessions (filled name rows sessions current) current mover (running is others current mover) result state name rows own
     (commit_at disk was is (filled name rows sessions current) others current mover (running was (filled name rows sessions current) current mover) result (rows_pending name rows state) changes n refl
     (mine ∙ sym (own_filled name rows sessions current there)) has (pending_stands disk (running was sessions current mover) old state name rows own pending) sound
-    (left ∙ sym (put_twice (with_rows name rows (own_at sessions current)) [] sessions current)) makes catalogue))
+    (left ∙ sym (put_twice (with_rows name rows (own_at sessions current)) [] sessions current)) files makes catalogue))
   where
     own : IsState disk (running was sessions current mover) old state
     own = own_view disk old (running was sessions current mover) now state view here
@@ -89,10 +89,10 @@ load_idle {D} disk old was sessions others current mover now state name rows cha
     there = is_there disk was sessions current mover old state own
 
 -- memory was short before anything was done
-pub load_short : {D : Type 0} (disk : Ghosts D) (old : D) (now : Running) (state : State) (After : State → Type 0) → IsState disk now old state → Does disk fault.Memory now now old old short_of state After
-load_short disk old now state After here = record {
+pub load_short : {D : Type 0} (disk : Ghosts D) (old : D) (now : Running) {is : Running} (state : State) (After : State → Type 0) → IsState disk now old state → Does disk fault.Memory now is old old short_of state After
+load_short disk old now {is} state After here = record {
   done = tt;
-  undone = λ wants. here;
+  undone = λ wants. without_work disk now old state here;
   any_moment = leaves_wider disk (λ x reopens. either x reopens) quiet.any_moment;
 }
   where

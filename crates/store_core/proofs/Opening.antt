@@ -13,6 +13,7 @@ use Rattle.db_laws.proofs.Sounds.{opened_sound}
 use Rattle.store_commit.specs.Seen.{Seen, Stands}
 use Rattle.alike_laws.specs.Reordered.{AreAlikeSessions}
 use Rattle.alike_laws.proofs.Changes.{sessions_themselves}
+use Rattle.store_core.proofs.Doing.{no_work}
 use Rattle.store_core.specs.Running.{idle_mover, running, IsState, Mover}
 use Rattle.store_opening.specs.Opening.{IsOpenedOf, IsStartOf}
 
@@ -76,6 +77,7 @@ opened_is disk now s sessions mover m d idle none stands opened =
         next = refl;
         busy = sym (ap (λ (x : Mover). x.busy) none);
         parts = few;
+        work = no_work disk mover.work now (ap (λ (x : Mover). x.work) none);
         sound = opened_sound s.catalogue.next parts d stands.sound;
       },
     )

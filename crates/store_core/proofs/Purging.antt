@@ -22,7 +22,7 @@ use Rattle.stored_rows.specs.Stored.{Projected}
 use Rattle.table_store.specs.Drawing.{FewContainers}
 use Rattle.store_core.specs.Events.{Does}
 use Rattle.store_core.specs.Jobs.{is_of, RaisesAllOf, RisesAt}
-use Rattle.store_core.specs.Running.{Running, IsState}
+use Rattle.store_core.specs.Running.{Running, IsState, unworked}
 use Rattle.store_core.proofs.Anew.{all_at, anew_few, anew_steps, changed_at, few_from, few_later, few_more, few_on, is_some_and, mapped_some, some_and, FewFrom, IsAnew}
 use Rattle.store_core.proofs.Chain.{still_itself}
 use Rattle.table_store.proofs.Counted.{StandsAt}
@@ -160,7 +160,7 @@ purging_stops disk name start i place r spent most p spent_is all_spent =
     let below = p.below in raised_part disk (is_of name start) (NamedAt name start i) start p.jobs r spent (few_sixteen p.jobs start.parts (omega (arith, below, most))) p.chain spent_is all_spent
 
 pub purging_fails : {D : Type 0} (disk : Ghosts D) {old now new : D} (name : List ℕ) (start : State) (i place : ℕ) (was is : Running) (spent : Bool) (f : StoreFault) → Purging disk name start i place was old now → spent ≡ nat_le 1152921504606846976 was.seen.catalogue.next → spent ≡ false
-    → ((state : State) → IsState disk was now state → Does disk fault.Memory was is now new (unit_fault f) state (RisesAt i place state)) → ((state : State) → IsState disk was now state → IsUnblamed f) → is ≡ was → RaisesAllOf disk (is_of name start) is old new (failed f) start
+    → ((state : State) → IsState disk was now state → Does disk fault.Memory was is now new (unit_fault f) state (RisesAt i place state)) → ((state : State) → IsState disk was now state → IsUnblamed f) → is ≡ unworked was → RaisesAllOf disk (is_of name start) is old new (failed f) start
 purging_fails disk {old} {now} {new} name start i place was is spent f p spent_is free does unblamed same =
     worked_fails disk (RaisesOne (is_of name start)) (RisesAt i place) (RaisesAll (is_of name start) start) (KeptRaised (NamedAt name start i) start) (LeftRaised start) start p.jobs was is spent f p.chain spent_is free
     (purged_turns disk was now name start p.jobs i place) (raised_leaving (is_of name start) (NamedAt name start i) start) does unblamed same

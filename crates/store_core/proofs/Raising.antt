@@ -31,7 +31,7 @@ use Rattle.table_store.specs.Moving.{IsFreshAt}
 use Rattle.store_core.specs.Cuts.{ReopensFrom}
 use Rattle.store_core.specs.Events.{BeforeOrAfter, Does}
 use Rattle.store_core.specs.Jobs.{RisesAt, RaisesAllOf}
-use Rattle.store_core.specs.Running.{Running, running, IsState, Mover}
+use Rattle.store_core.specs.Running.{Running, running, IsState, Mover, work_dropped, unworked}
 use Rattle.store_core.proofs.Anew.{all_at, some_and, is_some_and, anew_few, anew_steps, few_at, few_more, grown_anew, merged_anew, merged_fewer, most_of, most_parts, parts_of, IsAnew, IsMerged}
 use Rattle.store_core.proofs.Chain.{reopens_still, still_itself, Still}
 use Rattle.store_core.proofs.Doing.{drawn_does}
@@ -121,20 +121,20 @@ does_wider {D} disk short {old} {new} was is result state A B wider does = recor
 abbrev risen_to : ℕ → ℕ → ℕ → State → State
 risen_to epoch i j state = record state { database = reached_at epoch i j state.database }
 
-pub rise_does : {D F : Type 0} (disk : Ghosts D) (short : F) {old new : D} (was is : Seen) (sessions : List (List Changes)) (current : ℕ) (mover : Mover) (now : Running) (i j more : ℕ) (result : Result (Unit {0}) F) (state : State)
-    → running was sessions current mover ≡ now → IsState disk now old state → more ≤ 2 → ((d : Database) → Stands disk was old d → MakesRise disk short was is old new result d i j) → OnOk result (IsAnew i j more was.catalogue is.catalogue)
-    → Does disk short now (running is sessions current mover) old new result state (RisesAt i j state)
-rise_does disk short {old} {new} was is sessions current mover now i j more result state view here most makes draws =
+pub rise_does : {D F : Type 0} (disk : Ghosts D) (short : F) {old new : D} (was is : Seen) (sessions : List (List Changes)) (current : ℕ) (mover after : Mover) (now : Running) (i j more : ℕ) (result : Result (Unit {0}) F) (state : State)
+    → running was sessions current mover ≡ now → IsState disk now old state → after ≡ work_dropped mover → more ≤ 2 → ((d : Database) → Stands disk was old d → MakesRise disk short was is old new result d i j) → OnOk result (IsAnew i j more was.catalogue is.catalogue)
+    → Does disk short now (running is sessions current after) old new result state (RisesAt i j state)
+rise_does disk short {old} {new} was is sessions current mover after now i j more result state view here given most makes draws =
     let own = viewed disk old (running was sessions current mover) now state view here in
     let one = makes state.database own.database in
     let (s, at, may) = risen_at state.database one.epoch i j one.rises in
     let made = risen_to one.epoch i j state in
     let sound : IsSound made = risen_state state made.database (risen state.database one.epoch i j s own.sound.database at may) own.sound in
-    subst (λ (r : Running). Does disk short r (running is sessions current mover) old new result state (RisesAt i j state)) view
-    (does_wider disk short (running was sessions current mover) (running is sessions current mover) result state (IsDrawn state made) (RisesAt i j state) (λ after drawn. record { epoch = one.epoch; rises = one.rises; drawn = drawn })
-    (drawn_does disk short was is sessions sessions current mover mover result state made (state.parts + 2) own one.makes
+    subst (λ (r : Running). Does disk short r (running is sessions current after) old new result state (RisesAt i j state)) view
+    (does_wider disk short (running was sessions current mover) (running is sessions current after) result state (IsDrawn state made) (RisesAt i j state) (λ after drawn. record { epoch = one.epoch; rises = one.rises; drawn = drawn })
+    (drawn_does disk short was is sessions sessions current mover after result state made (state.parts + 2) own one.makes
     (grown_anew result i j more state was is most own.next own.parts draws)
-    (record { sessions = own.sessions; current = own.current; asked = own.asked; busy = own.busy; sound = renumbered made sound })))
+    (record { sessions = own.sessions; current = own.current; asked = own.asked ∙ sym (ap (λ (m : Mover). m.asked) given); busy = own.busy ∙ sym (ap (λ (m : Mover). m.busy) given); free = ap (λ (m : Mover). m.work) given; sound = renumbered made sound })))
 
 pub on_merged : {F : Type 0} (result : Result (Unit {0}) F) (i j : ℕ) (old new : Catalogue) → OnOk result (IsMerged i j old new) → OnOk result (IsAnew i j 0 old new)
 on_merged result i j old new merged = on_ok_weaker result (λ one. merged_anew i j old new one) merged
@@ -242,7 +242,7 @@ pub merging_short : {D : Type 0} (disk : Ghosts D) {old now : D} (start : State)
 merging_short disk start r m = worked_short disk (RaisesOne any_shape) (RaisesAll any_shape start) (KeptRaised AnyNames start) (LeftRaised start) start m.jobs r m.chain
 
 pub merging_fails : {D : Type 0} (disk : Ghosts D) {old now new : D} (start : State) (i j : ℕ) (was is : Running) (spent : Bool) (f : StoreFault) → Merging disk start was old now → spent ≡ nat_le 1152921504606846976 was.seen.catalogue.next → spent ≡ false
-    → ((state : State) → IsState disk was now state → Does disk fault.Memory was is now new (unit_fault f) state (RisesAt i j state)) → ((state : State) → IsState disk was now state → IsUnblamed f) → is ≡ was → RaisesAllOf disk any_shape is old new (failed f) start
+    → ((state : State) → IsState disk was now state → Does disk fault.Memory was is now new (unit_fault f) state (RisesAt i j state)) → ((state : State) → IsState disk was now state → IsUnblamed f) → is ≡ unworked was → RaisesAllOf disk any_shape is old new (failed f) start
 merging_fails disk {old} {now} {new} start i j was is spent f m spent_is free does unblamed same =
     worked_fails disk (RaisesOne any_shape) (RisesAt i j) (RaisesAll any_shape start) (KeptRaised AnyNames start) (LeftRaised start) start m.jobs was is spent f m.chain spent_is free
     (merged_turns disk was now start m.jobs i j) (raised_leaving any_shape AnyNames start) does unblamed same

@@ -34,7 +34,7 @@ use Rattle.table_store.specs.Drawing.{FewContainers}
 use Rattle.store_core.specs.Cuts.{ReopensFrom}
 use Rattle.store_core.specs.Events.{Does}
 use Rattle.store_core.specs.Jobs.{stale_place, AreDone, RefreshesAllOf, RefreshesAt, RefreshesOne}
-use Rattle.store_core.specs.Running.{Running, running, IsState, Mover, mover_of}
+use Rattle.store_core.specs.Running.{Running, running, IsState, Mover, mover_of, unworked}
 use Rattle.store_core.proofs.Anew.{all_at, anew_few, anew_steps, changed_at, few_more, grown_anew, is_some_and, same_projection, some_and, of_projection, IsAnew}
 use Rattle.table_jobs.specs.Jobs.{OfProjection}
 use Rattle.store_core.proofs.Doing.{drawn_does}
@@ -194,6 +194,7 @@ refresh_does disk short {old} {new} was is sessions current mover after now i j 
       current = own.current;
       asked = ap (filter (is_not_named s.name)) own.asked ∙ sym (ap (λ (m : Mover). m.asked) same);
       busy = own.busy ∙ sym (ap (λ (m : Mover). m.busy) same);
+      free = ap (λ (m : Mover). m.work) same;
       sound = renumbered made sound;
     })))
 
@@ -384,7 +385,7 @@ refreshing_stops disk {old} {now} name start i j jobs r spent m spent_is all_spe
     before a b e one two = omega (arith, one, two)
 
 pub refreshing_fails : {D : Type 0} (disk : Ghosts D) {old now new : D} (name : List ℕ) (start : State) (i j jobs : ℕ) (was is : Running) (spent : Bool) (f : StoreFault) → Refreshing disk name start i jobs was old now → spent ≡ nat_le 1152921504606846976 was.seen.catalogue.next → spent ≡ false
-    → stale_place i was.seen.catalogue.tables ≡ Some j → ((state : State) → IsState disk was now state → Does disk fault.Memory was is now new (unit_fault f) state (RefreshesAt i j state)) → ((state : State) → IsState disk was now state → IsUnblamed f) → is ≡ was
+    → stale_place i was.seen.catalogue.tables ≡ Some j → ((state : State) → IsState disk was now state → Does disk fault.Memory was is now new (unit_fault f) state (RefreshesAt i j state)) → ((state : State) → IsState disk was now state → IsUnblamed f) → is ≡ unworked was
     → RefreshesAllOf disk name is old new (failed f) start
 refreshing_fails disk {old} {now} {new} name start i j jobs was is spent f m spent_is free place does unblamed same =
     worked_fails disk (RefreshesOne name) (RefreshesAt i j) (RefreshesAll name start) (KeptRefreshed name start i) (LeftRefreshed name start) start jobs was is spent f m.chain spent_is free

@@ -1,5 +1,5 @@
 -- A file that a fault named is one that the root lists, where that has the store's tables.
-use Rattle.std.proofs.Common.{◌≡◌, ◌∙◌, ◌<◌, ℕ, zero, suc, IsTrue, List, [], ◌∷◌, length, get_or, map, sym, ap, subst, refl, arith}
+use Rattle.std.proofs.Common.{◌≡◌, ◌∙◌, ℕ, zero, suc, List, [], ◌∷◌, map, sym, ap, subst, refl, arith}
 use Rattle.std.specs.Prelude.{Some}
 use Rattle.std.specs.List.{Any}
 use Rattle.common_laws.specs.Maps.{Contents}

@@ -28,7 +28,7 @@ use Rattle.alike_laws.specs.Reordered.{AreAlikeSessions}
 use Rattle.alike_laws.proofs.Changes.{Alike, changes_at, changes_turned, has_alike, rows_alike, set_alike}
 use Rattle.alike_laws.proofs.Committed.{committed_alike}
 use Rattle.alike_laws.proofs.Sound.{session_alike}
-use Rattle.store_core.proofs.Doing.{still}
+use Rattle.store_core.proofs.Doing.{still, work_kept}
 use Rattle.store_core.proofs.Reordered.{makes_reordered}
 
 abbrev pub own_at : List (List Changes) → ℕ → List Changes
@@ -60,6 +60,7 @@ changed disk r now state own mine same here sound = record {
   next = here.next;
   busy = here.busy;
   parts = here.parts;
+  work = here.work;
   sound = sound;
 }
 
@@ -79,6 +80,7 @@ current_stands disk r now state n here sound = record {
   next = here.next;
   busy = here.busy;
   parts = here.parts;
+  work = here.work;
   sound = sound;
 }
 
@@ -88,10 +90,10 @@ current_stands disk r now state n here sound = record {
 commits : (state : State) (b : Bool) → has_changes (own_changes state) ≡ b → changes_committed state ≡ with_changes [] (cond b (record state { database = committed (own_changes state) state.database }) state)
 commits state b is = ap (λ (x : Bool). with_changes [] (cond x (record state { database = committed (own_changes state) state.database }) state)) is
 
-closed : {D : Type 0} (disk : Ghosts D) (now : D) (was is : Seen) (sessions : List (List Changes)) (current : ℕ) (mover : Mover) (old : D) (state : State) (n : ℕ) → IsState disk (running was sessions current mover) old state → is.catalogue ≡ at_epoch n was.catalogue
+closed : {D : Type 0} (disk : Ghosts D) (now : D) (was is : Seen) (sessions : List (List Changes)) (current : ℕ) (mover : Mover) (old : D) (state : State) (n : ℕ) → IsState disk (running was sessions current mover) old state → is.catalogue ≡ at_epoch n was.catalogue → disk.holds now ≡ disk.holds old
     → Stands disk is now (committed (own_changes state) state.database) → IsSound (with_changes [] (record state { database = committed (own_changes state) state.database }))
     → IsState disk (running is (put_at [] sessions current) current mover) now (with_changes [] (record state { database = committed (own_changes state) state.database }))
-closed disk now was is sessions current mover old state n here catalogue stands sound = record {
+closed disk now was is sessions current mover old state n here catalogue files stands sound = record {
   database = stands;
   sessions = put_alike sessions state.sessions current state.current [] [] here.sessions here.current tt;
   current = here.current;
@@ -99,15 +101,16 @@ closed disk now was is sessions current mover old state n here catalogue stands 
   next = here.next ∙ sym (ap (λ (c : Catalogue). c.next) catalogue);
   busy = here.busy;
   parts = subst (λ (c : Catalogue). FewContainers state.parts c) (sym catalogue) here.parts;
+  work = work_kept disk mover.work old now files here.work;
   sound = sound;
 }
 
 -- one that closes an epoch, done or not
 pub commit_does : {D : Type 0} (disk : Ghosts D) {old new : D} (was is : Seen) (sessions : List (List Changes)) (current : ℕ) (mover : Mover) (result : Result (Unit {0}) StoreFault) (state : State) (n : ℕ)
-    → IsState disk (running was sessions current mover) old state → has_changes (own_changes state) ≡ true
+    → IsState disk (running was sessions current mover) old state → has_changes (own_changes state) ≡ true → disk.holds new ≡ disk.holds old
     → Makes disk fault.Memory was is old new result state.database (committed (own_changes state) state.database) → OnOk result (is.catalogue ≡ at_epoch n was.catalogue) → IsSound (changes_committed state)
     → Does disk fault.Memory (running was sessions current mover) (running is (put_at [] sessions current) current mover) old new result state (λ after. after ≡ changes_committed state)
-commit_does {D} disk {old} {new} was is sessions current mover result state n here has makes catalogue sound = record {
+commit_does {D} disk {old} {new} was is sessions current mover result state n here has files makes catalogue sound = record {
   done = by result makes.done catalogue;
   undone = λ wants. still disk (running was sessions current mover) old new state here (makes.undone wants);
   any_moment = leaves_wider disk (λ x reopens. either x reopens) makes.any_moment;
@@ -121,7 +124,7 @@ commit_does {D} disk {old} {new} was is sessions current mover result state n he
 
     by : (r : Result (Unit {0}) StoreFault) → OnOk r (Stands disk is new (committed (own_changes state) state.database)) → OnOk r (is.catalogue ≡ at_epoch n was.catalogue)
         → OnOk r ((after : State) × (after ≡ changes_committed state) × IsState disk (running is (put_at [] sessions current) current mover) new after)
-    by (Ok u) stands same = (whole, sym is_whole, closed disk new was is sessions current mover old state n here same stands (subst IsSound is_whole sound))
+    by (Ok u) stands same = (whole, sym is_whole, closed disk new was is sessions current mover old state n here same files stands (subst IsSound is_whole sound))
     by (Err f) stands same = tt
 
     either : (x : Contents) → ReopensToEither state.database (committed (own_changes state) state.database) x → BeforeOrAfter state (λ after. after ≡ changes_committed state) x
@@ -160,13 +163,13 @@ pub own_view : {D : Type 0} (disk : Ghosts D) (old : D) (r now : Running) (state
 own_view disk old r now state view here = subst (λ (x : Running). IsState disk x old state) (sym view) here
 
 pub commit_at : {D : Type 0} (disk : Ghosts D) {old new : D} (was is : Seen) (sessions others : List (List Changes)) (current : ℕ) (mover : Mover) (now : Running) (result : Result (Unit {0}) StoreFault) (state : State) (changes : List Changes) (n : ℕ)
-    → running was sessions current mover ≡ now → changes ≡ own_at sessions current → has_changes changes ≡ true → IsState disk now old state → IsSound (changes_committed state) → others ≡ put_at [] sessions current
+    → running was sessions current mover ≡ now → changes ≡ own_at sessions current → has_changes changes ≡ true → IsState disk now old state → IsSound (changes_committed state) → others ≡ put_at [] sessions current → disk.holds new ≡ disk.holds old
     → ((d : Database) → Stands disk was old d → IsSoundSession d changes → has_changes changes ≡ true → IsSoundDatabase (committed changes d) → Makes disk fault.Memory was is old new result d (committed changes d))
     → OnOk result (is.catalogue ≡ at_epoch n was.catalogue) → Does disk fault.Memory now (running is others current mover) old new result state (λ after. after ≡ changes_committed state)
-commit_at {D} disk {old} {new} was is sessions others current mover now result state changes n view mine has here sound left makes catalogue =
+commit_at {D} disk {old} {new} was is sessions others current mover now result state changes n view mine has here sound left files makes catalogue =
     subst (λ (r : Running). Does disk fault.Memory r (running is others current mover) old new result state (λ after. after ≡ changes_committed state)) view
     (subst (λ (ss : List (List Changes)). Does disk fault.Memory (running was sessions current mover) (running is ss current mover) old new result state (λ after. after ≡ changes_committed state)) (sym left)
-    (commit_does disk was is sessions current mover result state n own (sym (has_alike changes (own_changes state) alike) ∙ has) made catalogue sound))
+    (commit_does disk was is sessions current mover result state n own (sym (has_alike changes (own_changes state) alike) ∙ has) files made catalogue sound))
   where
     own : IsState disk (running was sessions current mover) old state
     own = own_view disk old (running was sessions current mover) now state view here

@@ -41,10 +41,10 @@ use Rattle.table_store.specs.declared.shaping.NewProjection.{NewProjection}
 use Rattle.table_store.specs.Drawing.{DrawsOne}
 use Rattle.table_store.specs.Held.{at_epoch}
 use Rattle.table_store.specs.Shaping.{RetainsNone, new_shape, shaped_at, shaped_in}
-use Rattle.store_core.specs.Running.{Running, running, IsState, Mover}
+use Rattle.store_core.specs.Running.{Running, running, IsState, Mover, work_dropped}
 use Rattle.store_core.specs.Events.{BeforeOrAfter, Does}
 use Rattle.store_core.specs.Shaping.{is_fresh, part_of}
-use Rattle.store_core.proofs.Doing.{drawn_does}
+use Rattle.store_core.proofs.Doing.{drawn_does, without_work}
 use Rattle.store_core.proofs.Events.{renumbered, viewed, grown_by_one}
 
 -- ---- the rows that a table retains
@@ -224,22 +224,22 @@ shapes_are disk old was state table p q shape stands decides named columns sort 
 abbrev with_tables_of : Database → List Table → Database
 with_tables_of d ts = record d { tables = ts }
 
-pub shape_does : {D F : Type 0} (disk : Ghosts D) (short : F) {old new : D} (was is : Seen) (sessions : List (List Changes)) (current : ℕ) (mover : Mover) (now : Running) (table : ℕ) (p : asked.NewProjection) (q : NewProjection) (shape : ProjectionShape) (result : Result (Unit {0}) F) (state : State)
-    → running was sessions current mover ≡ now → IsState disk now old state → IsSound (projection_created p state) → Decides was was.catalogue.ahm table q.fresh → p.name ≡ q.name → q.columns ≡ map part_of shape.columns → q.sort ≡ shape.sort
+pub shape_does : {D F : Type 0} (disk : Ghosts D) (short : F) {old new : D} (was is : Seen) (sessions : List (List Changes)) (current : ℕ) (mover after : Mover) (now : Running) (table : ℕ) (p : asked.NewProjection) (q : NewProjection) (shape : ProjectionShape) (result : Result (Unit {0}) F) (state : State)
+    → running was sessions current mover ≡ now → IsState disk now old state → after ≡ work_dropped mover → IsSound (projection_created p state) → Decides was was.catalogue.ahm table q.fresh → p.name ≡ q.name → q.columns ≡ map part_of shape.columns → q.sort ≡ shape.sort
     → IsProjectionOf state p table shape
     → ((d : Database) → Stands disk was old d → (q.fresh ≡ true → RetainsNone table d) → IsSoundDatabase (shaped_at table (new_shape q was.catalogue.last) d) → Makes disk short was is old new result d (shaped_at table (new_shape q was.catalogue.last) d))
     → OnOk result (DrawsOne was.catalogue is.catalogue)
-    → Does disk short now (running is sessions current mover) old new result state (IsDrawn state (projection_created p state))
-shape_does disk short {old} {new} was is sessions current mover now table p q shape result state view here sound decides named columns sort of makes draws =
+    → Does disk short now (running is sessions current after) old new result state (IsDrawn state (projection_created p state))
+shape_does disk short {old} {new} was is sessions current mover after now table p q shape result state view here given sound decides named columns sort of makes draws =
     let own = viewed disk old (running was sessions current mover) now state view here in
     let d = state.database in
     let shapes = shapes_are disk old was state table p q shape own.database decides named columns sort of in
     let made : (projection_created p state).database ≡ shaped_at table (new_shape q was.catalogue.last) d = ap (with_tables_of d) shapes.same in
-    subst (λ (r : Running). Does disk short r (running is sessions current mover) old new result state (IsDrawn state (projection_created p state))) view
-    (drawn_does disk short was is sessions sessions current mover mover result state (projection_created p state) state.parts own
+    subst (λ (r : Running). Does disk short r (running is sessions current after) old new result state (IsDrawn state (projection_created p state))) view
+    (drawn_does disk short was is sessions sessions current mover after result state (projection_created p state) state.parts own
     (subst (λ (e : Database). Makes disk short was is old new result d e) (sym made) (makes d own.database shapes.none (subst IsSoundDatabase made sound.database)))
     (grown_by_one result state was is own.next own.parts draws)
-    (record { sessions = own.sessions; current = own.current; asked = own.asked; busy = own.busy; sound = renumbered (projection_created p state) sound }))
+    (record { sessions = own.sessions; current = own.current; asked = own.asked ∙ sym (ap (λ (m : Mover). m.asked) given); busy = own.busy ∙ sym (ap (λ (m : Mover). m.busy) given); free = ap (λ (m : Mover). m.work) given; sound = renumbered (projection_created p state) sound }))
 
 -- ---- the projections, one after the other
 
@@ -299,10 +299,10 @@ abbrev pub new_of : List ℕ → List ProjColumn → List ℕ → Bool → NewPr
 new_of name columns sort fresh = record { name = name; columns = columns; sort = sort; fresh = fresh }
 
 -- where memory was short before anything was done
-pub nothing_done : {D : Type 0} (disk : Ghosts D) (old : D) (now : Running) (state : State) (After : State → Type 0) → IsState disk now old state → Does {R = Unit {0}} disk Memory now now old old (Err Memory) state After
-nothing_done disk old now state After here = record {
+pub nothing_done : {D : Type 0} (disk : Ghosts D) (old : D) (now : Running) {is : Running} (state : State) (After : State → Type 0) → IsState disk now old state → Does {R = Unit {0}} disk Memory now is old old (Err Memory) state After
+nothing_done disk old now {is} state After here = record {
   done = tt;
-  undone = λ short. here;
+  undone = λ short. without_work disk now old state here;
   any_moment = leaves_wider disk (λ x reopens. by x reopens) (made_nothing disk now.seen now.seen Memory state.database state.database here.database).any_moment;
 }
   where

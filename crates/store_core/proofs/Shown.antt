@@ -1,7 +1,7 @@
 -- What the folder of a running store shows of the work of MERGEOUT and PURGE_TABLE.
-use Rattle.std.proofs.Common.{◌≡◌, ◌==◌, ◌+◌, ◌<◌, ◌++◌, ℕ, zero, suc, Bool, true, false, cond, List, [], ◌∷◌, length, map, get_or, find, nat_lt, refl, sym, ◌∙◌, ap, subst, inl, inr, arith}
+use Rattle.std.proofs.Common.{◌≡◌, ◌==◌, ◌+◌, ◌<◌, ◌++◌, ℕ, zero, suc, Bool, true, false, cond, List, [], ◌∷◌, map, find, nat_lt, refl, sym, ◌∙◌, ap, subst, inl, inr, arith}
 use Rattle.std.proofs.lemmas.Bool.Decides.{nat_tests}
-use Rattle.std.specs.Prelude.{◌⊎◌, Option, Some, None, IfSome, IsSomeAnd}
+use Rattle.std.specs.Prelude.{Option, Some, None, IfSome, IsSomeAnd}
 use Rattle.std.specs.Bool.{OnTrue}
 use Rattle.std.specs.List.{All, Any, slice_get}
 use Rattle.std.specs.Option.{option_map, option_map_or}
@@ -40,7 +40,7 @@ use Rattle.table_jobs.specs.Purging.{AreLate, IsKeptWhole}
 use Rattle.table_store.specs.Moving.{IsFreshAt}
 use Rattle.store_core.specs.Jobs.{ArePurged}
 use Rattle.store_core.specs.Running.{IsState, Running}
-use Rattle.store_core.specs.Shown.{HoldsRetained, IsPurgedIn, ShowsMerged, ShowsPurged, tables_in}
+use Rattle.store_core.specs.Shown.{HoldsRetained, IsPurgedIn, ShowsMerged, ShowsPurged}
 use Rattle.store_core.specs.Stepping.{NoneIsDue}
 use Rattle.store_core.proofs.Purging.{named_there}
 

@@ -38,9 +38,10 @@ use Rattle.stored_rows.specs.Stored.{Projected}
 use Rattle.table_jobs.specs.Jobs.{DrawsAnew, HasReached, OfProjection}
 use Rattle.table_store.proofs.Drawn.{columns_most}
 use Rattle.table_store.proofs.Standing.{reads_only}
+use Rattle.store_core.proofs.Doing.{without_work}
 use Rattle.store_core.specs.Events.{BeforeOrAfter, Does, MovesFirstOf}
 use Rattle.store_core.specs.Jobs.{RefreshesAt, RisesAt}
-use Rattle.store_core.specs.Running.{job_dropped, mover_of, running, IsState, Mover, Running}
+use Rattle.store_core.specs.Running.{job_dropped, mover_of, running, IsState, Mover, Running, unworked}
 use Rattle.store_core.specs.Waiting.{has_name}
 use Rattle.store_core.specs.Stepping.{all_stale, stale_in, with_asked, with_mover, Begins, BeginsAt, FinishesJob, InstallsJob, IsStaleNamed, MoverStepsOf, RefreshesNamed}
 use Rattle.store_core.proofs.Anew.{all_at, of_projection, same_projection, some_and}
@@ -59,6 +60,7 @@ gave_up disk r now state here = record {
   next = here.next;
   busy = refl;
   parts = here.parts;
+  work = tt;
   sound = busy_state state 0 here.sound;
 }
 
@@ -103,6 +105,7 @@ asked_stands disk r now state here sound = record {
   next = here.next;
   busy = here.busy;
   parts = here.parts;
+  work = tt;
   sound = sound;
 }
 
@@ -134,8 +137,8 @@ nothing_due disk r now state here = record {
   any_moment = still_leaves disk r now state (InstallsJob state) here;
 }
 
-pub short_job : {D : Type 0} (disk : Ghosts D) (r : Running) (now : D) (state : State) (After : State → Type 0) → IsState disk r now state → Does disk fault.Memory r r now now short_of state After
-short_job disk r now state After here = record { done = tt; undone = λ wants. here; any_moment = still_leaves disk r now state After here }
+pub short_job : {D : Type 0} (disk : Ghosts D) (r : Running) {is : Running} (now : D) (state : State) (After : State → Type 0) → IsState disk r now state → Does disk fault.Memory r is now now short_of state After
+short_job disk r {is} now state After here = record { done = tt; undone = λ wants. without_work disk r now state here; any_moment = still_leaves disk r now state After here }
 
 -- ---- what a job is for
 
@@ -292,17 +295,17 @@ finish_steps old new free last finishes =
     stepped_unless old new free (subst (λ (n : ℕ). StepsOn (nat_lt 0 n) old new) (sym last) (subst (λ (n : ℕ). GoesOn (n == 1) old new) (sym last) finishes))
 
 pub last_step : {D : Type 0} (disk : Ghosts D) {old new : D} (was is : Running) (result : Result (Unit {0}) StoreFault) (state : State) → are_spent state ≡ false → state.busy ≡ 1 → IfErr result IsUnblamed → Does disk fault.Memory was is old new result state (FinishesJob state)
-    → OnErr result (is ≡ was) → MoverStepsOf disk is old new result state
+    → OnErr result (is ≡ unworked was) → MoverStepsOf disk is old new result state
 last_step {D} disk {old} {new} was is result state free last unblamed does same =
     let wide = does_wider disk fault.Memory was is result state (FinishesJob state) (MoverSteps state) (λ after finishes. finish_steps state after free last finishes) does in
     record { done = wide.done; undone = as_before result same wide.undone; unblamed = unblamed; any_moment = wide.any_moment }
   where
-    as_before : (r : Result (Unit {0}) StoreFault) → OnErr r (is ≡ was) → (IsErrOf r fault.Memory → IsState disk was new state) → IsErrOf r fault.Memory → IsState disk is new state
+    as_before : (r : Result (Unit {0}) StoreFault) → OnErr r (is ≡ unworked was) → (IsErrOf r fault.Memory → IsState disk (unworked was) new state) → IsErrOf r fault.Memory → IsState disk is new state
     as_before (Ok u) kept undone wants = absurd (cc)
     as_before (Err f) kept undone wants = subst (λ (r : Running). IsState disk r new state) (sym kept) (undone wants)
 
 -- one before it
-on_step : (old : State) → are_spent old ≡ false → 1 < old.busy → MoverSteps old (record old { busy = old.busy - 1 })
+pub on_step : (old : State) → are_spent old ≡ false → 1 < old.busy → MoverSteps old (record old { busy = old.busy - 1 })
 on_step old free more =
     let some : nat_lt 0 old.busy ≡ true = grind (arith, nat_tests, more) in
     let other : (old.busy == 1) ≡ false = not_one (old.busy == 1) refl in
@@ -312,30 +315,6 @@ on_step old free more =
     not_one : (b : Bool) → (old.busy == 1) ≡ b → b ≡ false
     not_one true is = let one = (Decides-eqb old.busy 1).0 is in absurd (omega (arith, more, one))
     not_one false is = refl
-
-pub goes_on : {D : Type 0} (disk : Ghosts D) (was is : Running) (now : D) (state : State) → IsState disk was now state → are_spent state ≡ false → 1 < was.mover.busy → is ≡ with_mover (mover_of was.mover.asked (was.mover.busy - 1) was.mover.refreshing) was
-    → MoverStepsOf disk is now now stood state
-goes_on {D} disk was is now state here free more same = record {
-  done = (after, on_step state free (subst (λ (n : ℕ). 1 < n) (sym here.busy) more), subst (λ (r : Running). IsState disk r now after) (sym same) there);
-  undone = λ none. absurd (cc);
-  unblamed = tt;
-  any_moment = still_leaves disk was now state (MoverSteps state) here;
-}
-  where
-    after : State
-    after = record state { busy = state.busy - 1 }
-
-    there : IsState disk (with_mover (mover_of was.mover.asked (was.mover.busy - 1) was.mover.refreshing) was) now after
-    there = record {
-      database = here.database;
-      sessions = here.sessions;
-      current = here.current;
-      asked = here.asked;
-      next = here.next;
-      busy = ap (λ (n : ℕ). n - 1) here.busy;
-      parts = here.parts;
-      sound = busy_state state (state.busy - 1) here.sound;
-    }
 
 -- ---- no job is in flight
 
@@ -371,7 +350,7 @@ move_step disk was is true state on free idle moves =
     }
 move_step disk was is false state on free idle moves = absurd (cc)
 
-pub move_failed : {D : Type 0} (disk : Ghosts D) {old new : D} (was is : Running) (f : StoreFault) (state : State) → are_spent state ≡ false → state.busy ≡ 0 → IsUnblamed f → MovesFirstOf disk fault.Memory was is old new (untold f) state → is ≡ was
+pub move_failed : {D : Type 0} (disk : Ghosts D) {old new : D} (was is : Running) (f : StoreFault) (state : State) → are_spent state ≡ false → state.busy ≡ 0 → IsUnblamed f → MovesFirstOf disk fault.Memory was is old new (untold f) state → is ≡ unworked was
     → MoverStepsOf disk is old new (failed f) state
 move_failed disk {old} {new} was is f state free idle unblamed moves same = record {
   done = tt;
@@ -402,6 +381,7 @@ begun disk was is now state here free idle none (inr (steps, refreshing, least, 
         next = here.next;
         busy = refl;
         parts = here.parts;
+        work = tt;
         sound = busy_state state steps here.sound;
       }),
     )

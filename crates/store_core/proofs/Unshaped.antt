@@ -109,10 +109,10 @@ abbrev with_tables_of : Database → List Table → Database
 with_tables_of d ts = record d { tables = ts }
 
 pub unshape_does : {D F : Type 0} (disk : Ghosts D) (short : F) {old new : D} (was is : Seen) (sessions : List (List Changes)) (current : ℕ) (mover after : Mover) (now : Running) (table place : ℕ) (name : List ℕ) (result : Result (Unit {0}) F) (state : State)
-    → running was sessions current mover ≡ now → IsState disk now old state → IsSound (projection_dropped name state) → projection_places name state.database.tables ≡ Some (table, place) → after.asked ≡ filter (is_not_named name) mover.asked → after.busy ≡ 0
+    → running was sessions current mover ≡ now → IsState disk now old state → IsSound (projection_dropped name state) → projection_places name state.database.tables ≡ Some (table, place) → after.asked ≡ filter (is_not_named name) mover.asked → after.busy ≡ 0 → after.work ≡ None
     → ((d : Database) → Stands disk was old d → IsSoundDatabase (unshaped_at table place d) → Makes disk short was is old new result d (unshaped_at table place d)) → OnOk result (DrawsOne was.catalogue is.catalogue)
     → Does disk short now (running is sessions current after) old new result state (IsDrawn state (projection_dropped name state))
-unshape_does disk short {old} {new} was is sessions current mover after now table place name result state view here sound there waits idle makes draws =
+unshape_does disk short {old} {new} was is sessions current mover after now table place name result state view here sound there waits idle free makes draws =
     let own = viewed disk old (running was sessions current mover) now state view here in
     let d = state.database in
     let made : (projection_dropped name state).database ≡ unshaped_at table place d = ap (with_tables_of d) (unshapes d name table place own.sound.database there) in
@@ -120,4 +120,4 @@ unshape_does disk short {old} {new} was is sessions current mover after now tabl
     (drawn_does disk short was is sessions sessions current mover after result state (projection_dropped name state) state.parts own
     (subst (λ (e : Database). Makes disk short was is old new result d e) (sym made) (makes d own.database (subst IsSoundDatabase made sound.database)))
     (grown_by_one result state was is own.next own.parts draws)
-    (record { sessions = own.sessions; current = own.current; asked = ap (filter (is_not_named name)) own.asked ∙ sym waits; busy = sym idle; sound = renumbered (projection_dropped name state) sound }))
+    (record { sessions = own.sessions; current = own.current; asked = ap (filter (is_not_named name)) own.asked ∙ sym waits; busy = sym idle; free = free; sound = renumbered (projection_dropped name state) sound }))

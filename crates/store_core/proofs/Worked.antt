@@ -18,7 +18,7 @@ use Rattle.table_store.specs.Drawing.{FewContainers}
 use Rattle.table_store.proofs.Standing.{reads_only}
 use Rattle.store_core.specs.Events.{BeforeOrAfter, Does, ReopensTo}
 use Rattle.store_core.specs.Jobs.{JobsOf}
-use Rattle.store_core.specs.Running.{Running, IsState}
+use Rattle.store_core.specs.Running.{Running, IsState, unworked}
 use Rattle.store_core.proofs.Events.{renumbered}
 
 -- ---- a chain of jobs
@@ -149,6 +149,7 @@ worked_more {D} disk Job At Kept Leave {old} {now} {new} start jobs was is spent
         next = there.next;
         busy = there.busy;
         parts = few;
+        work = there.work;
         sound = renumbered after there.sound after.next (start.parts + 2);
       };
       done = chained Job jobs (given_up start) mid made chain.done room job;
@@ -203,7 +204,7 @@ worked_short disk Job All Kept Leave start jobs r chain = record { done = tt; un
 -- a job failed
 pub worked_fails : {D : Type 0} (disk : Ghosts D) (Job At : State → State → Type 0) (All : Bool → State → Type 0) (Kept : ℕ → State → Type 0) (Leave : Contents → Type 0) {old now new : D} (start : State) (jobs : ℕ) (was is : Running) (spent : Bool) (f : StoreFault)
     → WorkedTo disk Job Kept Leave start jobs was old now → spent ≡ nat_le 1152921504606846976 was.seen.catalogue.next → spent ≡ false → Turns disk was now Job At Kept jobs → Leaving Job Kept Leave start
-    → ((state : State) → IsState disk was now state → Does disk fault.Memory was is now new (unit_fault f) state (At state)) → ((state : State) → IsState disk was now state → IsUnblamed f) → is ≡ was → JobsOf disk Job All Leave is old new (failed f) start
+    → ((state : State) → IsState disk was now state → Does disk fault.Memory was is now new (unit_fault f) state (At state)) → ((state : State) → IsState disk was now state → IsUnblamed f) → is ≡ unworked was → JobsOf disk Job All Leave is old new (failed f) start
 worked_fails disk Job At All Kept Leave {old} {now} {new} start jobs was is spent f chain spent_is free turns leaving does unblamed same =
     let first = does chain.mid chain.here in
     let room : are_spent chain.mid ≡ false = spent_same disk was now chain.mid spent chain.here spent_is ∙ free in

@@ -4,13 +4,14 @@ use Rattle.std.specs.List.{All, flat_map}
 use Rattle.std.specs.Cmp.Lexicographic.{slice_cmp}
 use Rattle.std.specs.Ordering.{is_lt, nat_cmp}
 use Rattle.col_disk.specs.Faults.{IsUnblamed}
-use Rattle.col_disk.specs.Moved.{Leaves}
+use Rattle.col_disk.specs.Moved.{Either, Leaves, Moved, Named, NoName}
 use Rattle.col_disk.specs.declared.disk.Disk.{Ghosts}
 use Rattle.col_disk.specs.declared.disk.StoreFault.{StoreFault}
 use Rattle.col_disk.specs.declared.disk.StoreFault.TheVariants.{Memory}
 use Rattle.catalog_types.specs.declared.catalogue.Catalogue.{Catalogue}
 use Rattle.catalog_types.specs.declared.catalogue.Projection.{Projection}
 use Rattle.catalog_types.specs.declared.catalogue.Table as kept
+use Rattle.ros_container.specs.Files.{body_of, index_of}
 use Rattle.db_model.specs.Events.{is_not_named}
 use Rattle.db_model.specs.Mover.{given_up, Installs, MoverSteps}
 use Rattle.db_model.specs.Numbers.{IsDrawn}
@@ -20,7 +21,7 @@ use Rattle.mover_policy.specs.Merging.{IsDue, IsNext}
 use Rattle.mover_policy.specs.declared.first.Place.{Place}
 use Rattle.mover_policy.specs.declared.merging.Merge.{Merge}
 use Rattle.table_jobs.specs.Jobs.{DrawsAnew, DrawsMerged, HasReached, OfProjection}
-use Rattle.store_core.specs.Events.{BeforeOrAfter}
+use Rattle.store_core.specs.Events.{BeforeOrAfter, ReopensTo}
 use Rattle.store_core.specs.Running.{job_dropped, mover_of, IsState, Mover, Running}
 
 -- the names of those projections that aren't up to date
@@ -128,6 +129,15 @@ InstallsJob old new = (made : State) × Installs old made × IsDrawn old made ne
 -- its last step
 abbrev pub FinishesJob : State → State → Type 0
 FinishesJob old new = (made : State) × Installs (given_up old) made × IsDrawn old made new
+
+-- at most the files of one column are written, with numbers from the next free one on
+abbrev pub WritesOneColumn : {D : Type 0} → Ghosts D → Running → D → D → Type 0
+WritesOneColumn disk was old new = (column : ℕ) × Moved disk (Either (Named (body_of was.seen.catalogue.next column)) (Named (index_of was.seen.catalogue.next column))) NoName old new
+
+-- Files of a merge are written that nothing lists: the store is the state as before, and so is whatever a crash leaves.
+pub record WorksOver {D : Type 0} (disk : Ghosts D) (is : Running) (old new : D) (result : Result (Unit {0}) StoreFault) (state : State) : Type 0 where
+  pub done : OnOk result (IsState disk is new state)
+  pub any_moment : Leaves disk (ReopensTo state) old new
 
 -- A step of the mover over a state. Where memory was short the store is the state as before.
 pub record MoverStepsOf {D : Type 0} (disk : Ghosts D) (is : Running) (old new : D) (result : Result (Unit {0}) StoreFault) (state : State) : Type 0 where

@@ -25,7 +25,7 @@ ghost use Rattle.table_store.specs.Moving.{IsFreshAt};
 ghost use Rattle.folder_model.specs.Reopening.{Reopens};
 ghost use Rattle.store_opening.specs.Opening.{BlamesOpening, IsLeftAlone, IsOpening, IsStartOf, IsStill, WhereBlamed};
 ghost use Rattle.store_core.specs.Named.{NamesHeld, NamesRead};
-ghost use Rattle.store_core.specs.Running.{IsState, frame_of};
+ghost use Rattle.store_core.specs.Running.{unworked, IsState, frame_of};
 ghost use Rattle.store_core.specs.Stepping.{is_behind};
 ghost use Rattle.store_core.specs.Waiting.{has_name};
 ghost use Rattle.store_core.specs.Sessions.{with_current, with_own, with_pending};
@@ -167,11 +167,12 @@ impl Store {
     ) -> Result<(), DiskFault>
         ensures does { (state : State) → IsState ⟦<D as Disk>⟧ self.old disk.old state → table_created_refusal state name columns ≡ None
             → Does ⟦<D as Disk>⟧ Memory self.old self.new disk.old disk.new result state (IsDrawn state (table_created name columns state)) }
-        ensures same { OnErr result (self.new ≡ self.old) }
+        ensures same { OnErr result (self.new ≡ unworked self.old) }
         ensures cause { HasCause DiskFault.Failed (D.faults disk.old) (D.faults disk.new) result }
     {
         a_new_table_is_sound();
         an_event_may_draw();
+        self.mover.drop_work();
         self.tables.create_table(alloc, name, columns, disk)
     }
 
@@ -186,11 +187,12 @@ impl Store {
         requires { IsSomeAnd (slice_get self.old.seen.catalogue.tables table) (λ t. t.name ≡ name.now) }
         ensures does { (state : State) → IsState ⟦<D as Disk>⟧ self.old disk.old state → table_dropped_refusal state name.now ≡ None
             → Does ⟦<D as Disk>⟧ Memory self.old self.new disk.old disk.new result state (IsDrawn state (table_dropped name.now state)) }
-        ensures same { OnErr result (self.new ≡ self.old) }
+        ensures same { OnErr result (self.new ≡ unworked self.old) }
         ensures cause { HasCause DiskFault.Failed (D.faults disk.old) (D.faults disk.new) result }
     {
         tables_may_be_dropped();
         an_event_may_draw();
+        self.mover.drop_work();
         let asked = match self.asked_beside(alloc, table) {
             Ok(asked) => asked,
             Err(AllocError) => return Err(DiskFault::Memory),
@@ -231,7 +233,7 @@ impl Store {
         ensures unblamed { IfErr result (λ fault. (state : State) → IsState ⟦<D as Disk>⟧ self.old disk.old state → IsUnblamedStore fault) }
         ensures blamed { IfErr result (BlamesStored self.old.seen.stores (D.holds disk.old)) }
         ensures named { IfErr result (NamesHeld ⟦<D as Disk>⟧ self.new disk.new) }
-        ensures same { OnErr result (self.new ≡ self.old) }
+        ensures same { OnErr result (self.new ≡ unworked self.old) }
         ensures cause { HasCause StoreFault.Disk (D.faults disk.old) (D.faults disk.new) result }
     {
         commits_of_a_session_are_sound();
@@ -244,6 +246,7 @@ impl Store {
             Ok(()) => Ok(()),
             Err(fault) => {
                 self.txns.put(self.current, changes);
+                self.mover.drop_work();
                 Err(fault)
             }
         }
@@ -281,10 +284,11 @@ impl Store {
         ensures unblamed { IfErr result (λ fault. (state : State) → IsState ⟦<D as Disk>⟧ self.old disk.old state → IsUnblamedStore fault) }
         ensures blamed { IfErr result (λ fault. (m : Contents) → D.holds disk.new ≡ Some m → BlamesVectorsAt self.old.seen.stores table place m fault) }
         ensures named { IfErr result (NamesHeld ⟦<D as Disk>⟧ self.new disk.new) }
-        ensures same { OnErr result (self.new ≡ self.old) }
+        ensures same { OnErr result (self.new ≡ unworked self.old) }
         ensures cause { HasCause StoreFault.Disk (D.faults disk.old) (D.faults disk.new) result }
     {
         an_event_may_draw();
+        self.mover.drop_work();
         self.tables.move_out(alloc, table, place, disk)
     }
 
@@ -297,7 +301,7 @@ impl Store {
         ensures unblamed { IfErr result (λ fault. (state : State) → IsState ⟦<D as Disk>⟧ self.old disk.old state → IsUnblamedStore fault) }
         ensures blamed { IfErr result (λ fault. (m : Contents) → D.holds disk.new ≡ Some m → BlamesVectors self.old.seen.stores m fault) }
         ensures named { IfErr result (NamesHeld ⟦<D as Disk>⟧ self.new disk.new) }
-        ensures same { OnErr result (self.new ≡ self.old) }
+        ensures same { OnErr result (self.new ≡ unworked self.old) }
         ensures cause { HasCause StoreFault.Disk (D.faults disk.old) (D.faults disk.new) result }
     {
         let at = match first_behind(self.tables.root().tables.as_slice(), self.tables.last()) {

@@ -19,7 +19,7 @@ use Rattle.db_model.specs.Leaving.{RefusedLeaves, RefusedCallLeaves}
 use Rattle.db_model.specs.Step.{RefusesForm}
 use Rattle.db_laws.proofs.Goods.{IsGood, good_itself, good_least}
 use Rattle.folder_model.specs.Reopening.{Reopens}
-use Rattle.store_core.specs.Running.{Running, IsState}
+use Rattle.store_core.specs.Running.{unworked, IsState, Running}
 use Rattle.store_core.specs.Cuts.{ReopensFrom, CutBeforeOrAfter}
 use Rattle.store_core.specs.Events.{BeforeOrAfter, Does}
 use Rattle.store_step.specs.declared.answer.Answer.{Answer}
@@ -175,7 +175,7 @@ pub err_same : {X : Type 0} (e f : StoreFault) → fault_as {X = X} e ≡ fault_
 err_same e f is = cc
 
 pub event_answers : {D F : Type 0} (disk : Ghosts D) (short : F) (turn : F → StoreFault) {old new : D} (was is : Running) (did : Result (Unit {0}) F) (a : Answer) (state : State) (files : Files) (s : Statement) (printed : List ℕ) (After : State → Type 0)
-    → IsState disk was old state → Says printed a → Event state files s printed After → ShortBy turn short → IfErr did (λ f. IsUnblamedStore (turn f)) → OnErr did (is ≡ was) → Does disk short was is old new did state After
+    → IsState disk was old state → Says printed a → Event state files s printed After → ShortBy turn short → IfErr did (λ f. IsUnblamedStore (turn f)) → OnErr did (is ≡ unworked was) → Does disk short was is old new did state After
     → Answers disk files s is old new (told turn a did) state
 event_answers disk short turn {old} {new} was is (Ok u) a state files s printed After here says event wants unblamed same does =
     let (after, made, there) = does.done in

@@ -44,6 +44,7 @@ use Rattle.col_disk.specs.Faults as disk_faults
 use Rattle.store_core.specs.Seen.{Stands}
 use Rattle.store_core.specs.Asking.{IsAsked}
 use Rattle.alike_laws.proofs.Changes.{has_alike}
+use Rattle.store_core.proofs.Doing.{work_kept}
 use Rattle.store_core.proofs.Sessions.{own_alike}
 use Rattle.store_core.specs.Running.{Running, IsState}
 use Rattle.store_core.specs.Sessions.{own_of}
@@ -214,9 +215,9 @@ store_cause a (Err store.Disk) before now cause = record { later = cause.later; 
 store_cause a (Err (store.Damaged q)) before now cause = record { later = cause.later; failed = λ is. absurd (cc) }
 store_cause a (Err store.Memory) before now cause = record { later = cause.later; failed = λ is. absurd (cc) }
 
--- the store is the state on, over a disk on which it stands on for the database
-pub stays_state : {D : Type 0} (disk : Ghosts D) (r : Running) (old new : D) (state : State) → IsState disk r old state → Stands disk r.seen new state.database → IsState disk r new state
-stays_state disk r old new state here stands = record {
+-- the store is the state on, over a disk with the same files on which it stands on for the database
+pub stays_state : {D : Type 0} (disk : Ghosts D) (r : Running) (old new : D) (state : State) → IsState disk r old state → Stands disk r.seen new state.database → disk.holds new ≡ disk.holds old → IsState disk r new state
+stays_state disk r old new state here stands kept = record {
   database = stands;
   sessions = here.sessions;
   current = here.current;
@@ -224,5 +225,6 @@ stays_state disk r old new state here stands = record {
   next = here.next;
   busy = here.busy;
   parts = here.parts;
+  work = work_kept disk r.mover.work old new kept here.work;
   sound = here.sound;
 }

@@ -10,7 +10,7 @@ ghost use Rattle.db_model.specs.Numbers.{IsDrawn};
 ghost use Rattle.db_model.specs.Refusals.{column_added_refusal};
 ghost use Rattle.db_model.specs.State.{State};
 ghost use Rattle.statement_plan.specs.Places.{table_place};
-ghost use Rattle.store_core.specs.Running.{IsState};
+ghost use Rattle.store_core.specs.Running.{unworked, IsState};
 ghost use Rattle.store_core.specs.Events.{Does};
 
 use super::Store;
@@ -33,11 +33,12 @@ impl Store {
         requires { table < length self.old.seen.catalogue.tables }
         ensures does { (state : State) (a : AddColumn) → IsState ⟦<D as Disk>⟧ self.old disk.old state → column_added_refusal state a ≡ None → table_place a.table state.database.tables ≡ Some table → a.column ≡ column.now → default_value a ≡ default.now
             → Does ⟦<D as Disk>⟧ Memory self.old self.new disk.old disk.new result state (IsDrawn state (column_added a state)) }
-        ensures same { OnErr result (self.new ≡ self.old) }
+        ensures same { OnErr result (self.new ≡ unworked self.old) }
         ensures cause { HasCause DiskFault.Failed (D.faults disk.old) (D.faults disk.new) result }
     {
         a_new_column_is_sound();
         an_event_may_draw();
+        self.mover.drop_work();
         match self.tables.add_column(alloc, table, column, default, disk) {
             Ok(()) => {}
             Err(fault) => return Err(fault),

@@ -18,7 +18,7 @@ ghost use Rattle.table_store.specs.Moving.{IsFreshAt};
 ghost use Rattle.store_core.specs.Jobs.{ArePurged, is_of, stale_place, RaisesAllOf, RefreshesAllOf, RefreshesAt, RisesAt};
 ghost use Rattle.store_core.specs.Events.{Does};
 ghost use Rattle.store_core.specs.Named.{NamesHeld};
-ghost use Rattle.store_core.specs.Running.{IsState};
+ghost use Rattle.store_core.specs.Running.{unworked, IsState};
 ghost use Rattle.store_core.specs.Stepping.{NoneIsDue};
 
 use super::Store;
@@ -119,10 +119,11 @@ impl Store {
         ensures unblamed { IfErr result (λ fault. (state : State) → IsState ⟦<D as Disk>⟧ self.old disk.old state → IsUnblamedStore fault) }
         ensures blamed { IfErr result (λ fault. OfProjection next.at.table next.at.place self.old.seen.catalogue (BlamesMerge (D.holds disk.old) fault)) }
         ensures named { IfErr result (NamesHeld ⟦<D as Disk>⟧ self.new disk.new) }
-        ensures same { OnErr result (self.new ≡ self.old) }
+        ensures same { OnErr result (self.new ≡ unworked self.old) }
         ensures cause { HasCause StoreFault.Disk (D.faults disk.old) (D.faults disk.new) result }
     {
         risen_states_are_sound();
+        self.mover.drop_work();
         merge(
             alloc,
             &mut self.tables,
@@ -150,10 +151,11 @@ impl Store {
         ensures whole { OnOk result ((state : State) → IsState ⟦<D as Disk>⟧ self.old disk.old state → IsKeptWholeAt self.new.seen.catalogue.ahm table place self.new.seen.stores) }
         ensures others { OnOk result (OthersStay table place self.old.seen.stores self.new.seen.stores) }
         ensures mark { OnOk result (self.new.seen.catalogue.ahm ≡ self.old.seen.catalogue.ahm) }
-        ensures same { OnErr result (self.new ≡ self.old) }
+        ensures same { OnErr result (self.new ≡ unworked self.old) }
         ensures cause { HasCause StoreFault.Disk (D.faults disk.old) (D.faults disk.new) result }
     {
         risen_states_are_sound();
+        self.mover.drop_work();
         purge(alloc, &mut self.tables, table, place, disk)
     }
 
@@ -172,10 +174,11 @@ impl Store {
         ensures asked { OnOk result (OfProjection table place self.old.seen.catalogue (λ p. self.new.mover.asked ≡ filter (is_not_named p.name) self.old.mover.asked)) }
         ensures unblamed { IfErr result (λ fault. (state : State) → IsState ⟦<D as Disk>⟧ self.old disk.old state → IsUnblamedStore fault) }
         ensures named { IfErr result (NamesHeld ⟦<D as Disk>⟧ self.new disk.new) }
-        ensures same { OnErr result (self.new ≡ self.old) }
+        ensures same { OnErr result (self.new ≡ unworked self.old) }
         ensures cause { HasCause StoreFault.Disk (D.faults disk.old) (D.faults disk.new) result }
     {
         refreshed_states_are_sound();
+        self.mover.drop_work();
         let asked = match self.asked_without(alloc, Place { table, place }) {
             Ok(asked) => asked,
             Err(AllocError) => return Err(StoreFault::Memory),

@@ -12,7 +12,7 @@ ghost use Rattle.db_model.specs.Sound.{RowFits};
 ghost use Rattle.db_model.specs.State.{State};
 ghost use Rattle.store_core.specs.Events.{Does};
 ghost use Rattle.store_core.specs.Named.{NamesHeld};
-ghost use Rattle.store_core.specs.Running.{IsState};
+ghost use Rattle.store_core.specs.Running.{unworked, IsState};
 ghost use Rattle.col_disk.specs.Faults.{IsUnblamed as IsUnblamedStore};
 ghost use Rattle.table_store.specs.Faults.{BlamesStored};
 
@@ -38,14 +38,17 @@ impl Store {
         ensures unblamed { IfErr result (λ fault. (state : State) → IsState ⟦<D as Disk>⟧ self.old disk.old state → IsUnblamedStore fault) }
         ensures blamed { IfErr result (BlamesStored self.old.seen.stores (D.holds disk.old)) }
         ensures named { IfErr result (NamesHeld ⟦<D as Disk>⟧ self.new disk.new) }
-        ensures same { OnErr result (self.new ≡ self.old) }
+        ensures same { OnErr result (self.new ≡ unworked self.old) }
         ensures cause { HasCause StoreFault.Disk (D.faults disk.old) (D.faults disk.new) result }
     {
         pending_rows_are_sound();
         commits_of_a_session_are_sound();
         let mut session = match self.txns.session(self.current).with_rows(alloc, name, rows) {
             Ok(session) => session,
-            Err(AllocError) => return Err(StoreFault::Memory),
+            Err(AllocError) => {
+                self.mover.drop_work();
+                return Err(StoreFault::Memory);
+            }
         };
         if !session.has_changes() {
             self.txns.take(alloc, self.current);
@@ -53,7 +56,10 @@ impl Store {
         }
         match self.tables.commit(alloc, &mut session, disk) {
             Ok(()) => {}
-            Err(fault) => return Err(fault),
+            Err(fault) => {
+                self.mover.drop_work();
+                return Err(fault);
+            }
         }
         self.txns.take(alloc, self.current);
         Ok(())

@@ -7,7 +7,7 @@ ghost use Rattle.db_model.specs.Epochs.{last_good, rises};
 ghost use Rattle.db_model.specs.Leaving.{MarkLeaves};
 ghost use Rattle.db_model.specs.State.{State};
 ghost use Rattle.store_core.specs.Events.{Does};
-ghost use Rattle.store_core.specs.Running.{IsState};
+ghost use Rattle.store_core.specs.Running.{unworked, IsState};
 
 use super::Store;
 use col_disk::{Disk, DiskFault};
@@ -25,7 +25,7 @@ impl Store {
     ) -> Result<(), DiskFault>
         ensures does { (state : State) → IsState ⟦<D as Disk>⟧ self.old disk.old state → mark ≤ last_good state.database
             → Does ⟦<D as Disk>⟧ Memory self.old self.new disk.old disk.new result state (MarkLeaves (rises mark state.database) mark state) }
-        ensures same { OnErr result (self.new ≡ self.old) }
+        ensures same { OnErr result (self.new ≡ unworked self.old) }
         ensures cause { HasCause DiskFault.Failed (D.faults disk.old) (D.faults disk.new) result }
     {
         marks_up_to_the_last_good_epoch_are_sound();
@@ -33,6 +33,7 @@ impl Store {
         if mark <= now {
             return Ok(());
         }
+        self.mover.drop_work();
         self.tables.raise_mark(alloc, mark, disk)
     }
 }

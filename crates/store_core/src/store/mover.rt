@@ -1,31 +1,33 @@
 //! What the mover is asked for, and its job in flight.
 
-ghost use Rattle.std.specs.Prelude.{◌≡◌, ◌-◌, not, filter, IfOk};
+ghost use Rattle.std.specs.Prelude.{◌≡◌, not, filter, IfOk, Some};
 ghost use Rattle.std.specs.Option.{option_copied};
 ghost use Rattle.db_model.specs.Events.{is_not_named};
-ghost use Rattle.store_core.specs.Running.{idle_mover, job_dropped, mover_of};
+ghost use Rattle.store_core.specs.Running.{gone_on, idle_mover, job_dropped, mover_of, work_dropped, working_on};
 ghost use Rattle.store_core.specs.Waiting.{has_name};
 
 use catalog_types::Projection;
 use col_value::Name;
 use std::alloc::{AllocError, Global};
 use std::marker::Model;
+use table_jobs::Work;
 
 /// The names of the projections that wait for the mover, how many steps are left of its job in flight, and which projection that job
-/// refreshes; where it refreshes none, it merges.
+/// refreshes; where it refreshes none, it merges, and what is written of the merge is its work.
 #[derive(Drop)]
 pub struct Mover {
     asked: Vec<Name>,
     busy: usize,
     refreshing: Option<Name>,
+    work: Option<Work>,
 }
 
 impl Model for Mover {
-    ghost use Rattle.store_core.specs.Running.{Mover, mover_of};
+    ghost use Rattle.store_core.specs.Running.{Mover, moving};
 
     ghost Value = { Mover };
 
-    ghost view = { λ m. mover_of m.asked.items m.busy m.refreshing };
+    ghost view = { λ m. moving m.asked.items m.busy m.refreshing m.work };
 }
 
 /// Whether a projection of some has the name.
@@ -49,6 +51,7 @@ impl Mover {
             asked: Vec::new(alloc),
             busy: 0,
             refreshing: None,
+            work: None,
         }
     }
 
@@ -105,11 +108,12 @@ impl Mover {
         Ok(out)
     }
 
-    /// These names wait. It takes no memory.
+    /// These names wait, and the work is given up. It takes no memory.
     pub fn ask(&mut self, asked: Vec<Name>)
         ensures { self.new ≡ mover_of asked.items self.old.busy self.old.refreshing }
     {
         self.asked = asked;
+        self.work = None;
     }
 
     /// The job in flight is dropped, if there is one. It takes no memory.
@@ -118,6 +122,7 @@ impl Mover {
     {
         self.busy = 0;
         self.refreshing = None;
+        self.work = None;
     }
 
     /// A job begins: it has so many steps, and refreshes this projection, or merges. It takes no memory.
@@ -126,12 +131,35 @@ impl Mover {
     {
         self.busy = steps;
         self.refreshing = refreshing;
+        self.work = None;
     }
 
     /// One step of the job was made, which isn't its last. It takes no memory.
     pub fn go_on(&mut self)
-        ensures { self.new ≡ mover_of self.old.asked (self.old.busy - 1) self.old.refreshing }
+        ensures { self.new ≡ gone_on self.old }
     {
         self.busy = self.busy.saturating_sub(1);
+    }
+
+    /// The work of the job is given up: its files are written in its last step. It takes no memory.
+    pub fn drop_work(&mut self)
+        ensures { self.new ≡ work_dropped self.old }
+    {
+        self.work = None;
+    }
+
+    /// The work of the job, which the mover has no more. It takes no memory.
+    pub fn take_work(&mut self) -> Option<Work>
+        ensures work { result ≡ self.old.work }
+        ensures rest { self.new ≡ work_dropped self.old }
+    {
+        self.work.take()
+    }
+
+    /// This is the work of the job. It takes no memory.
+    pub fn put_work(&mut self, work: Work)
+        ensures { self.new ≡ working_on (Some work) self.old }
+    {
+        self.work = Some(work);
     }
 }

@@ -15,7 +15,7 @@ ghost use Rattle.db_model.specs.Refusals.{projection_created_refusal, projection
 ghost use Rattle.folder_model.specs.Projections.{HasRows};
 ghost use Rattle.statement_plan.specs.Places.{IsProjectionOf, projection_places};
 ghost use Rattle.table_store.specs.Held.{projections_of};
-ghost use Rattle.store_core.specs.Running.{IsState};
+ghost use Rattle.store_core.specs.Running.{unworked, IsState};
 ghost use Rattle.store_core.specs.Events.{Does};
 ghost use Rattle.store_core.specs.Shaping.{is_fresh, part_of};
 
@@ -73,11 +73,12 @@ impl Store {
         requires sort { All (λ i. i < length shape.columns) shape.sort }
         ensures does { (state : State) (p : Asked) → IsState ⟦<D as Disk>⟧ self.old disk.old state → projection_created_refusal state p ≡ None → p.name ≡ name → IsProjectionOf state p table shape
             → Does ⟦<D as Disk>⟧ Memory self.old self.new disk.old disk.new result state (IsDrawn state (projection_created p state)) }
-        ensures same { OnErr result (self.new ≡ self.old) }
+        ensures same { OnErr result (self.new ≡ unworked self.old) }
         ensures cause { HasCause DiskFault.Failed (D.faults disk.old) (D.faults disk.new) result }
     {
         a_new_projection_is_sound();
         an_event_may_draw();
+        self.mover.drop_work();
         let mark = self.tables.root().ahm;
         let parts = self.tables.tables()[table].as_slice();
         let fresh = match retains_none(alloc, parts, mark) {
@@ -111,11 +112,12 @@ impl Store {
         requires { IsSomeAnd (slice_get self.old.seen.catalogue.tables table) (λ t. place < length t.projections) }
         ensures does { (state : State) → IsState ⟦<D as Disk>⟧ self.old disk.old state → projection_dropped_refusal state name.now ≡ None → projection_places name.now state.database.tables ≡ Some (table, place)
             → Does ⟦<D as Disk>⟧ Memory self.old self.new disk.old disk.new result state (IsDrawn state (projection_dropped name.now state)) }
-        ensures same { OnErr result (self.new ≡ self.old) }
+        ensures same { OnErr result (self.new ≡ unworked self.old) }
         ensures cause { HasCause DiskFault.Failed (D.faults disk.old) (D.faults disk.new) result }
     {
         projections_may_be_dropped();
         an_event_may_draw();
+        self.mover.drop_work();
         let asked = match self.mover.asked_but(alloc, name) {
             Ok(asked) => asked,
             Err(AllocError) => return Err(DiskFault::Memory),

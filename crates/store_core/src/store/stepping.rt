@@ -1,26 +1,35 @@
 //! The steps of the mover.
 
-ghost use Rattle.std.specs.Prelude.{◌≡◌, ◌≤◌, ◌<◌, ◌+◌, ◌++◌, ◌∷◌, ◌⊎◌, ℕ, List, [], false, get_or, length, nat_le, None, Some, Contains, MatchOption, IfErr, IfNone, IfOk, IfSome, OnErr, OnOk, IsSomeAnd};
+ghost use Rattle.std.specs.Prelude.{◌≡◌, ◌≤◌, ◌<◌, ◌+◌, ◌++◌, ◌∷◌, ◌⊎◌, ℕ, List, [], false, get_or, length, nat_le, None, Some, Contains, MatchOption, IfErr, IfNone, IfOk, IfSome, OnErr, OnOk, IsSomeAnd, IsTrue};
 ghost use Rattle.std.specs.Bool.{OnFalse, OnTrue};
 ghost use Rattle.std.specs.List.{All, slice_get};
 ghost use Rattle.common_laws.specs.Causes.{HasCause};
 ghost use Rattle.col_disk.specs.Faults.{IsUnblamed as IsUnblamedStore};
+ghost use Rattle.col_disk.specs.Moved.{Moved, NoName};
 ghost use Rattle.col_disk.specs.declared.disk.StoreFault.TheVariants.{Memory as no_memory};
+ghost use Rattle.db_model.specs.Database.{Database};
 ghost use Rattle.db_model.specs.Numbers.{are_spent};
 ghost use Rattle.db_model.specs.State.{State};
 ghost use Rattle.store_core.specs.Events.{Does};
 ghost use Rattle.store_core.specs.Named.{NamesHeld};
-ghost use Rattle.store_core.specs.Running.{IsState};
+ghost use Rattle.store_core.specs.Running.{unworked, HasWork, IsState};
 ghost use Rattle.mover_policy.specs.First.{projection_at};
-ghost use Rattle.store_core.specs.Stepping.{all_stale, is_behind, is_less, stale_in, with_asked, Begins, BeginsAt, BeginsNext, BeginsRefresh, FinishesJob, FinishesRefresh, InstallsJob, IsLeastOf, IsStaleNamed, MergesNext, MoverStepsOf, NoneIsStale, RefreshesNamed, WaitsNot};
-ghost use Rattle.table_jobs.specs.Jobs.{OfProjection};
+ghost use Rattle.store_core.specs.Stepping.{all_stale, is_behind, is_less, stale_in, with_asked, Begins, BeginsAt, BeginsNext, BeginsRefresh, FinishesJob, FinishesRefresh, InstallsJob, IsLeastOf, IsStaleNamed, MergesNext, MoverStepsOf, NoneIsStale, RefreshesNamed, WaitsNot, WorksOver, WritesOneColumn};
+ghost use Rattle.store_commit.specs.Seen.{Stands};
+ghost use Rattle.store_core.specs.Jobs.{RisesAt};
+ghost use Rattle.table_jobs.specs.Jobs.{DrawsMerged, OfProjection};
+ghost use Rattle.table_jobs.specs.Oldest.{HasFour};
+ghost use Rattle.table_jobs.specs.Working.{IsOfStore, IsWhole, StaysWhile};
+ghost use Rattle.table_store.specs.Moving.{IsFreshAt};
 
 use super::Store;
 use catalog_types::{Projection, Table};
-use col_disk::{Disk, StoreFault};
+use col_disk::{Disk, DiskFault, StoreFault};
 use col_value::Name;
-use mover_policy::{Place, projection_at};
+use mover_policy::{Merge, Place, projection_at};
+use state_laws::risen_states_are_sound;
 use std::alloc::{AllocError, Global};
+use table_jobs::{Work, advance_merge, begin_merge, finish_merge};
 
 /// The names of those that aren't up to date join some.
 fn add_stale(
@@ -198,17 +207,212 @@ impl Store {
         }
     }
 
+    /// Whether the job in flight has all steps left that one of the projection at a place has behind its begin.
+    fn has_all_steps(&self, at: Place) -> bool {
+        match self.steps_at(at) {
+            Some(steps) => steps == self.mover.busy(),
+            None => false,
+        }
+    }
+
+    /// The work of the merge that comes next, where the job in flight is a merge and has a step left for each column of it: the rows of its
+    /// inputs are read and ordered. Where memory is short or a file is bad there is none, and the last step of the job finds what to tell.
+    fn begin_work<D: Disk>(&self, alloc: Global, disk: &mut D) -> Result<Option<Work>, StoreFault>
+        ensures begun { IfOk result (λ work. (state : State) → IsState ⟦<D as Disk>⟧ self.now disk.old state → HasWork ⟦<D as Disk>⟧ work disk.new) }
+        ensures failed { IfErr result (λ fault. fault ≡ StoreFault.Disk) }
+        ensures kept { D.holds disk.new ≡ D.holds disk.old }
+        ensures moved { Moved ⟦<D as Disk>⟧ NoName NoName disk.old disk.new }
+        ensures cause { HasCause StoreFault.Disk (D.faults disk.old) (D.faults disk.new) result }
+    {
+        if self.mover.refreshing().is_some() {
+            return Ok(None);
+        }
+        let next = match self.next_merge() {
+            Some(next) => next,
+            None => return Ok(None),
+        };
+        if !self.has_all_steps(next.at) {
+            return Ok(None);
+        }
+        let at = next.at;
+        match begin_merge(alloc, &self.tables, at.table, at.place, next.level, disk) {
+            Ok(work) => Ok(Some(work)),
+            Err(StoreFault::Disk) => Err(StoreFault::Disk),
+            Err(_) => Ok(None),
+        }
+    }
+
+    /// The work of the job in flight, which the mover has no more; it begins, if it didn't yet.
+    fn next_work<D: Disk>(
+        &mut self,
+        alloc: Global,
+        disk: &mut D,
+    ) -> Result<Option<Work>, StoreFault>
+        ensures begun { IfOk result (λ work. (state : State) → IsState ⟦<D as Disk>⟧ self.old disk.old state → HasWork ⟦<D as Disk>⟧ work disk.new) }
+        ensures rest { self.new ≡ unworked self.old }
+        ensures failed { IfErr result (λ fault. fault ≡ StoreFault.Disk) }
+        ensures kept { D.holds disk.new ≡ D.holds disk.old }
+        ensures moved { Moved ⟦<D as Disk>⟧ NoName NoName disk.old disk.new }
+        ensures cause { HasCause StoreFault.Disk (D.faults disk.old) (D.faults disk.new) result }
+    {
+        match self.mover.take_work() {
+            Some(work) => Ok(Some(work)),
+            None => self.begin_work(alloc, disk),
+        }
+    }
+
+    /// The work with the files of one column more. Where it isn't of the store any more, or memory is short, it is given up.
+    fn advance_work<D: Disk>(
+        &self,
+        alloc: Global,
+        work: Work,
+        disk: &mut D,
+    ) -> Result<Option<Work>, StoreFault>
+        ensures goes_on { IfOk result (λ after. HasWork ⟦<D as Disk>⟧ (Some work) disk.old → HasWork ⟦<D as Disk>⟧ after disk.new) }
+        ensures stays { (d : Database) → Stands ⟦<D as Disk>⟧ self.now.seen disk.old d → StaysWhile ⟦<D as Disk>⟧ self.now.seen disk.old disk.new d }
+        ensures column { WritesOneColumn ⟦<D as Disk>⟧ self.now disk.old disk.new }
+        ensures failed { IfErr result (λ fault. fault ≡ StoreFault.Disk) }
+        ensures cause { HasCause StoreFault.Disk (D.faults disk.old) (D.faults disk.new) result }
+    {
+        if !work.is_of(&self.tables) {
+            return Ok(None);
+        }
+        let mut work = work;
+        match advance_merge(alloc, &self.tables, &mut work, disk) {
+            Ok(()) => Ok(Some(work)),
+            Err(DiskFault::Memory) => Ok(None),
+            Err(DiskFault::Failed) => Err(StoreFault::Disk),
+        }
+    }
+
+    /// The files of one column more of the merge that the job in flight makes.
+    fn work_on<D: Disk>(&mut self, alloc: Global, disk: &mut D) -> Result<(), StoreFault>
+        ensures works { (state : State) → IsState ⟦<D as Disk>⟧ self.old disk.old state → WorksOver ⟦<D as Disk>⟧ self.new disk.old disk.new result state }
+        ensures rest { unworked self.new ≡ unworked self.old }
+        ensures column { WritesOneColumn ⟦<D as Disk>⟧ self.old disk.old disk.new }
+        ensures failed { IfErr result (λ fault. fault ≡ StoreFault.Disk) }
+        ensures cause { HasCause StoreFault.Disk (D.faults disk.old) (D.faults disk.new) result }
+    {
+        let work = match self.next_work(alloc, disk) {
+            Ok(Some(work)) => work,
+            Ok(None) => return Ok(()),
+            Err(fault) => return Err(fault),
+        };
+        match self.advance_work(alloc, work, disk) {
+            Ok(Some(work)) => {
+                self.mover.put_work(work);
+                Ok(())
+            }
+            Ok(None) => Ok(()),
+            Err(fault) => Err(fault),
+        }
+    }
+
+    /// A step of the job in flight that isn't its last.
+    fn work_step<D: Disk>(&mut self, alloc: Global, disk: &mut D) -> Result<(), StoreFault>
+        ensures steps { (state : State) → IsState ⟦<D as Disk>⟧ self.old disk.old state → are_spent state ≡ false → 1 < self.old.mover.busy → MoverStepsOf ⟦<D as Disk>⟧ self.new disk.old disk.new result state }
+        ensures works { WritesOneColumn ⟦<D as Disk>⟧ self.old disk.old disk.new }
+        ensures named { IfErr result (NamesHeld ⟦<D as Disk>⟧ self.new disk.new) }
+        ensures cause { HasCause StoreFault.Disk (D.faults disk.old) (D.faults disk.new) result }
+    {
+        match self.work_on(alloc, disk) {
+            Ok(()) => {}
+            Err(fault) => return Err(fault),
+        }
+        self.mover.go_on();
+        Ok(())
+    }
+
+    /// Whether the work is a whole merge of the projection at a place, and of the store still.
+    fn is_ready(&self, work: &Work, at: Place) -> bool
+        ensures over { IsTrue result → IsOfStore self.now.seen work.now }
+        ensures whole { IsTrue result → IsWhole work.now }
+        ensures place { IsTrue result → (work.now.table ≡ at.table) × (work.now.place ≡ at.place) }
+    {
+        work.is_at(at.table, at.place) && work.is_whole() && work.is_of(&self.tables)
+    }
+
+    /// A merge whose columns are written.
+    fn merge_written<D: Disk>(
+        &mut self,
+        alloc: Global,
+        work: &Work,
+        disk: &mut D,
+    ) -> Result<(), StoreFault>
+        requires over { IsOfStore self.old.seen work.now }
+        requires whole { IsWhole work.now }
+        requires free { self.old.mover.work ≡ None }
+        ensures does { (state : State) → IsState ⟦<D as Disk>⟧ self.old disk.old state → HasWork ⟦<D as Disk>⟧ (Some work.now) disk.old
+            → Does ⟦<D as Disk>⟧ no_memory self.old self.new disk.old disk.new result state (RisesAt work.now.table work.now.place state) }
+        ensures drawn { OnOk result (OfProjection work.now.table work.now.place self.old.seen.catalogue (DrawsMerged work.now.table work.now.place self.old.seen.catalogue self.new.seen.catalogue)) }
+        ensures unblamed { IfErr result (λ fault. (state : State) → IsState ⟦<D as Disk>⟧ self.old disk.old state → HasWork ⟦<D as Disk>⟧ (Some work.now) disk.old → IsUnblamedStore fault) }
+        ensures named { IfErr result (NamesHeld ⟦<D as Disk>⟧ self.new disk.new) }
+        ensures same { OnErr result (self.new ≡ unworked self.old) }
+        ensures cause { HasCause StoreFault.Disk (D.faults disk.old) (D.faults disk.new) result }
+    {
+        risen_states_are_sound();
+        self.mover.drop_work();
+        finish_merge(alloc, &mut self.tables, work, disk)
+    }
+
+    /// The merge that comes next, out of this work, if that is whole.
+    fn merge_out_of<D: Disk>(
+        &mut self,
+        alloc: Global,
+        next: Merge,
+        work: &Work,
+        disk: &mut D,
+    ) -> Result<(), StoreFault>
+        requires fresh { IsFreshAt self.old.seen.stores next.at.table next.at.place }
+        requires four { OfProjection next.at.table next.at.place self.old.seen.catalogue (λ p. HasFour next.level p.containers) }
+        requires free { self.old.mover.work ≡ None }
+        ensures does { (state : State) → IsState ⟦<D as Disk>⟧ self.old disk.old state → HasWork ⟦<D as Disk>⟧ (Some work.now) disk.old
+            → Does ⟦<D as Disk>⟧ no_memory self.old self.new disk.old disk.new result state (RisesAt next.at.table next.at.place state) }
+        ensures drawn { OnOk result (OfProjection next.at.table next.at.place self.old.seen.catalogue (DrawsMerged next.at.table next.at.place self.old.seen.catalogue self.new.seen.catalogue)) }
+        ensures unblamed { IfErr result (λ fault. (state : State) → IsState ⟦<D as Disk>⟧ self.old disk.old state → HasWork ⟦<D as Disk>⟧ (Some work.now) disk.old → IsUnblamedStore fault) }
+        ensures named { IfErr result (NamesHeld ⟦<D as Disk>⟧ self.new disk.new) }
+        ensures same { OnErr result (self.new ≡ unworked self.old) }
+        ensures cause { HasCause StoreFault.Disk (D.faults disk.old) (D.faults disk.new) result }
+    {
+        if self.is_ready(work, next.at) {
+            return self.merge_written(alloc, work, disk);
+        }
+        self.merge_one(alloc, next, disk)
+    }
+
+    /// The merge that comes next, out of its work, if that is whole.
+    fn merge_next<D: Disk>(
+        &mut self,
+        alloc: Global,
+        next: Merge,
+        disk: &mut D,
+    ) -> Result<(), StoreFault>
+        requires fresh { IsFreshAt self.old.seen.stores next.at.table next.at.place }
+        requires four { OfProjection next.at.table next.at.place self.old.seen.catalogue (λ p. HasFour next.level p.containers) }
+        ensures does { (state : State) → IsState ⟦<D as Disk>⟧ self.old disk.old state → Does ⟦<D as Disk>⟧ no_memory self.old self.new disk.old disk.new result state (RisesAt next.at.table next.at.place state) }
+        ensures drawn { OnOk result (OfProjection next.at.table next.at.place self.old.seen.catalogue (DrawsMerged next.at.table next.at.place self.old.seen.catalogue self.new.seen.catalogue)) }
+        ensures unblamed { IfErr result (λ fault. (state : State) → IsState ⟦<D as Disk>⟧ self.old disk.old state → IsUnblamedStore fault) }
+        ensures named { IfErr result (NamesHeld ⟦<D as Disk>⟧ self.new disk.new) }
+        ensures same { OnErr result (self.new ≡ unworked self.old) }
+        ensures cause { HasCause StoreFault.Disk (D.faults disk.old) (D.faults disk.new) result }
+    {
+        match self.mover.take_work() {
+            Some(work) => self.merge_out_of(alloc, next, &work, disk),
+            None => self.merge_one(alloc, next, disk),
+        }
+    }
+
     /// The merge that comes next, if there is one.
     fn merge_due<D: Disk>(&mut self, alloc: Global, disk: &mut D) -> Result<(), StoreFault>
         ensures merges { OnOk result (MergesNext self.old.seen.catalogue self.new.seen.catalogue) }
         ensures does { (state : State) → IsState ⟦<D as Disk>⟧ self.old disk.old state → Does ⟦<D as Disk>⟧ no_memory self.old self.new disk.old disk.new result state (InstallsJob state) }
         ensures unblamed { IfErr result (λ fault. (state : State) → IsState ⟦<D as Disk>⟧ self.old disk.old state → IsUnblamedStore fault) }
         ensures named { IfErr result (NamesHeld ⟦<D as Disk>⟧ self.new disk.new) }
-        ensures same { OnErr result (self.new ≡ self.old) }
+        ensures same { OnErr result (self.new ≡ unworked self.old) }
         ensures cause { HasCause StoreFault.Disk (D.faults disk.old) (D.faults disk.new) result }
     {
         match self.next_merge() {
-            Some(next) => self.merge_one(alloc, next, disk),
+            Some(next) => self.merge_next(alloc, next, disk),
             None => Ok(()),
         }
     }
@@ -236,7 +440,7 @@ impl Store {
         ensures does { (state : State) → IsState ⟦<D as Disk>⟧ self.old disk.old state → Does ⟦<D as Disk>⟧ no_memory self.old self.new disk.old disk.new result state (InstallsJob state) }
         ensures unblamed { IfErr result (λ fault. (state : State) → IsState ⟦<D as Disk>⟧ self.old disk.old state → IsUnblamedStore fault) }
         ensures named { IfErr result (NamesHeld ⟦<D as Disk>⟧ self.new disk.new) }
-        ensures same { OnErr result (self.new ≡ self.old) }
+        ensures same { OnErr result (self.new ≡ unworked self.old) }
         ensures cause { HasCause StoreFault.Disk (D.faults disk.old) (D.faults disk.new) result }
     {
         match self.refreshed_place(name) {
@@ -262,13 +466,16 @@ impl Store {
         ensures does { (state : State) → IsState ⟦<D as Disk>⟧ self.old disk.old state → Does ⟦<D as Disk>⟧ no_memory self.old self.new disk.old disk.new result state (InstallsJob state) }
         ensures unblamed { IfErr result (λ fault. (state : State) → IsState ⟦<D as Disk>⟧ self.old disk.old state → IsUnblamedStore fault) }
         ensures named { IfErr result (NamesHeld ⟦<D as Disk>⟧ self.new disk.new) }
-        ensures same { OnErr result (self.new ≡ self.old) }
+        ensures same { OnErr result (self.new ≡ unworked self.old) }
         ensures cause { HasCause StoreFault.Disk (D.faults disk.old) (D.faults disk.new) result }
     {
         match self.refreshing(alloc) {
             Ok(Some(name)) => self.refresh_due(alloc, &name, disk),
             Ok(None) => self.merge_due(alloc, disk),
-            Err(AllocError) => Err(StoreFault::Memory),
+            Err(AllocError) => {
+                self.mover.drop_work();
+                Err(StoreFault::Memory)
+            }
         }
     }
 
@@ -279,7 +486,7 @@ impl Store {
         ensures does { (state : State) → IsState ⟦<D as Disk>⟧ self.old disk.old state → Does ⟦<D as Disk>⟧ no_memory self.old self.new disk.old disk.new result state (FinishesJob state) }
         ensures unblamed { IfErr result (λ fault. (state : State) → IsState ⟦<D as Disk>⟧ self.old disk.old state → IsUnblamedStore fault) }
         ensures named { IfErr result (NamesHeld ⟦<D as Disk>⟧ self.new disk.new) }
-        ensures same { OnErr result (self.new ≡ self.old) }
+        ensures same { OnErr result (self.new ≡ unworked self.old) }
         ensures cause { HasCause StoreFault.Disk (D.faults disk.old) (D.faults disk.new) result }
     {
         match self.install(alloc, disk) {
@@ -291,11 +498,13 @@ impl Store {
     }
 
     /// One step of the mover: where the numbers of files are spent nothing; else the job in flight goes on, or the projection that comes
-    /// first of those that are behind is moved out, or a job begins.
+    /// first of those that are behind is moved out, or a job begins. A step of a job that isn't its last writes the files of one column at most, under
+    /// numbers that weren't drawn.
     pub fn step_mover<D: Disk>(&mut self, alloc: Global, disk: &mut D) -> Result<(), StoreFault>
         ensures begins { OnOk result (nat_le 1152921504606846976 self.old.seen.catalogue.next ≡ false → self.old.mover.busy ≡ 0 → is_behind self.old ≡ false → BeginsNext self.old self.new) }
         ensures merges { OnOk result (nat_le 1152921504606846976 self.old.seen.catalogue.next ≡ false → self.old.mover.busy ≡ 1 → self.old.mover.refreshing ≡ None → MergesNext self.old.seen.catalogue self.new.seen.catalogue) }
         ensures refreshes { OnOk result (nat_le 1152921504606846976 self.old.seen.catalogue.next ≡ false → self.old.mover.busy ≡ 1 → (name : List ℕ) → self.old.mover.refreshing ≡ Some name → FinishesRefresh name self.old self.new) }
+        ensures works { 1 < self.old.mover.busy → WritesOneColumn ⟦<D as Disk>⟧ self.old disk.old disk.new }
         ensures steps { (state : State) → IsState ⟦<D as Disk>⟧ self.old disk.old state → MoverStepsOf ⟦<D as Disk>⟧ self.new disk.old disk.new result state }
         ensures named { IfErr result (NamesHeld ⟦<D as Disk>⟧ self.new disk.new) }
         ensures cause { HasCause StoreFault.Disk (D.faults disk.old) (D.faults disk.new) result }
@@ -310,8 +519,7 @@ impl Store {
         if busy == 1 {
             return self.finish(alloc, disk);
         }
-        self.mover.go_on();
-        Ok(())
+        self.work_step(alloc, disk)
     }
 
     /// The same where no job is in flight and numbers are left.

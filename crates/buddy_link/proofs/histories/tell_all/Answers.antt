@@ -31,7 +31,7 @@ returns-in_err-tell_one-clause-ends g c =
     (λ a b here there is last le.
     ends_at (mark_between r t) c.args.pair.now.epoch c.loop-place.place c.loop-place.out.items a.database b.database c.in_err-tell_one.field-0.0 (compared g.A.Disk g.B.Disk c.args.at.now c.args.from.now r t a b c.args.pair.now.epoch here there is) is now.count
     (now.told a b here there last le)
-    (c.in_err-tell_one.ensures.ends a b (state_stays g.A.Disk c.args.at.now c.loop-place.at r a now.behind_moved here) (state_stays g.B.Disk c.args.from.now c.loop-place.from t b now.ahead_moved there) last le))
+    (c.in_err-tell_one.ensures.ends a b (state_stays g.A.Disk c.args.at.now c.loop-place.at r a now.behind_moved now.behind_kept here) (state_stays g.B.Disk c.args.from.now c.loop-place.from t b now.ahead_moved now.ahead_kept there) last le))
 
 pub returns-in_err-tell_one-clause-behind_moved : goal.returns-in_err-tell_one-clause-behind_moved
 returns-in_err-tell_one-clause-behind_moved g c = moved_join g.A.Disk c.loop-place.invariant.behind_moved c.tell_one.ensures.behind_moved
@@ -63,7 +63,7 @@ loop-place-preserved g c =
       told = λ a b here there last le.
           subst (λ (hs : List History). AreToldTo (mark_between r t) c.args.pair.now.epoch hs a.database b.database) (sym more)
           (told_more (mark_between r t) c.args.pair.now.epoch c.loop-place.place c.loop-place.out.items one a.database b.database now.count (now.told a b here there last le)
-          (c.in_ok-tell_one.ensures.told a b (state_stays g.A.Disk c.args.at.now c.loop-place.at r a now.behind_moved here) (state_stays g.B.Disk c.args.from.now c.loop-place.from t b now.ahead_moved there) last le));
+          (c.in_ok-tell_one.ensures.told a b (state_stays g.A.Disk c.args.at.now c.loop-place.at r a now.behind_moved now.behind_kept here) (state_stays g.B.Disk c.args.from.now c.loop-place.from t b now.ahead_moved now.ahead_kept there) last le));
       behind_kept = c.tell_one.ensures.behind_kept ∙ now.behind_kept;
       behind_moved = moved_join g.A.Disk now.behind_moved c.tell_one.ensures.behind_moved;
       ahead_kept = c.tell_one.ensures.ahead_kept ∙ now.ahead_kept;

@@ -18,7 +18,7 @@ returns-in-Err-clause-any_moment g c = λ a b here there opened. moment_first g.
 pub returns-in-Err-historical-clause-brings : goal.returns-in-Err-historical-clause-brings
 returns-in-Err-historical-clause-brings g c = λ a b here there opened.
     let (accepted, tells) = c.in-Ok.ensures.begun a b here there in
-    let at = state_stays g.A.Disk c.args.behind.now c.begin.new.at c.args.store.now a c.in-Ok.ensures.behind_moved here in
+    let at = state_stays g.A.Disk c.args.behind.now c.begin.new.at c.args.store.now a c.in-Ok.ensures.behind_moved c.in-Ok.ensures.behind_kept here in
     let may = may_replay c.in-Ok.link a b g.B.Disk c.args.source.now c.args.ahead.now there opened accepted tells in
     let stays = (c.in-Err-historical.ensures.replays a b.database at may).left in
     record {
@@ -31,7 +31,7 @@ returns-in-Err-historical-clause-brings g c = λ a b here there opened.
 pub returns-in-Err-historical-clause-any_moment : goal.returns-in-Err-historical-clause-any_moment
 returns-in-Err-historical-clause-any_moment g c = λ a b here there opened.
     let (accepted, tells) = c.in-Ok.ensures.begun a b here there in
-    let at = state_stays g.A.Disk c.args.behind.now c.begin.new.at c.args.store.now a c.in-Ok.ensures.behind_moved here in
+    let at = state_stays g.A.Disk c.args.behind.now c.begin.new.at c.args.store.now a c.in-Ok.ensures.behind_moved c.in-Ok.ensures.behind_kept here in
     let may = may_replay c.in-Ok.link a b g.B.Disk c.args.source.now c.args.ahead.now there opened accepted tells in
     moment_second g.A.Disk c.in-Ok.link.mark c.args.store.now a b.database tells.mark here opened c.in-Ok.ensures.behind_moved (c.in-Err-historical.ensures.any_moment a b.database at may)
 
@@ -42,11 +42,11 @@ returns-in-Err-historical-clause-ahead_cause g c =
 pub returns-in-Ok-current-clause-brings : goal.returns-in-Ok-current-clause-brings
 returns-in-Ok-current-clause-brings g c = λ a b here there opened.
     let (accepted, tells) = c.in-Ok.ensures.begun a b here there in
-    let at = state_stays g.A.Disk c.args.behind.now c.begin.new.at c.args.store.now a c.in-Ok.ensures.behind_moved here in
+    let at = state_stays g.A.Disk c.args.behind.now c.begin.new.at c.args.store.now a c.in-Ok.ensures.behind_moved c.in-Ok.ensures.behind_kept here in
     let may = may_replay c.in-Ok.link a b g.B.Disk c.args.source.now c.args.ahead.now there opened accepted tells in
     let (same, mid, after, replayed, ahm) = (c.in-Ok-historical.ensures.replays a b.database at may).done in
     let made = first_made c.in-Ok.link.mark a b mid tells.mark replayed ahm in
-    let from = state_stays g.B.Disk c.args.ahead.now c.begin.new.from c.args.source.now b c.in-Ok.ensures.ahead_moved there in
+    let from = state_stays g.B.Disk c.args.ahead.now c.begin.new.from c.args.source.now b c.in-Ok.ensures.ahead_moved c.in-Ok.ensures.ahead_kept there in
     let epoch : c.historical.new.self.f ≡ b.database.last = ap (λ (l : Linked). l.f) c.in-Ok-historical.ensures.same ∙ tells.f in
     let may_go = subst (λ (n : ℕ). MayGoOn n mid) (sym epoch) made.may in
     brings_done g.A.Disk c.current.new.at c.current.new.behind a b mid c.last-first.result c.in-Ok-historical.second c.in-Ok-current.last made (c.last-first.ensures ∙ sym here.database.are.last) (same ∙ tells.f)
@@ -55,11 +55,11 @@ returns-in-Ok-current-clause-brings g c = λ a b here there opened.
 pub returns-in-Ok-current-clause-any_moment : goal.returns-in-Ok-current-clause-any_moment
 returns-in-Ok-current-clause-any_moment g c = λ a b here there opened.
     let (accepted, tells) = c.in-Ok.ensures.begun a b here there in
-    let at = state_stays g.A.Disk c.args.behind.now c.begin.new.at c.args.store.now a c.in-Ok.ensures.behind_moved here in
+    let at = state_stays g.A.Disk c.args.behind.now c.begin.new.at c.args.store.now a c.in-Ok.ensures.behind_moved c.in-Ok.ensures.behind_kept here in
     let may = may_replay c.in-Ok.link a b g.B.Disk c.args.source.now c.args.ahead.now there opened accepted tells in
     let (same, mid, after, replayed, ahm) = (c.in-Ok-historical.ensures.replays a b.database at may).done in
     let made = first_made c.in-Ok.link.mark a b mid tells.mark replayed ahm in
-    let from = state_stays g.B.Disk c.args.ahead.now c.begin.new.from c.args.source.now b c.in-Ok.ensures.ahead_moved there in
+    let from = state_stays g.B.Disk c.args.ahead.now c.begin.new.from c.args.source.now b c.in-Ok.ensures.ahead_moved c.in-Ok.ensures.ahead_kept there in
     let epoch : c.historical.new.self.f ≡ b.database.last = ap (λ (l : Linked). l.f) c.in-Ok-historical.ensures.same ∙ tells.f in
     let may_go = subst (λ (n : ℕ). MayGoOn n mid) (sym epoch) made.may in
     moment_third g.A.Disk a b mid made (moment_second g.A.Disk c.in-Ok.link.mark c.args.store.now a b.database tells.mark here opened c.in-Ok.ensures.behind_moved (c.in-Ok-historical.ensures.any_moment a b.database at may))
@@ -71,11 +71,11 @@ returns-in-Ok-current-clause-ahead_moved g c = moved_join g.B.Disk c.in-Ok.ensur
 pub returns-clause-brings : goal.returns-clause-brings
 returns-clause-brings g c = λ a b here there opened.
     let (accepted, tells) = c.in-Ok.ensures.begun a b here there in
-    let at = state_stays g.A.Disk c.args.behind.now c.begin.new.at c.args.store.now a c.in-Ok.ensures.behind_moved here in
+    let at = state_stays g.A.Disk c.args.behind.now c.begin.new.at c.args.store.now a c.in-Ok.ensures.behind_moved c.in-Ok.ensures.behind_kept here in
     let may = may_replay c.in-Ok.link a b g.B.Disk c.args.source.now c.args.ahead.now there opened accepted tells in
     let (same, mid, after, replayed, ahm) = (c.in-Ok-historical.ensures.replays a b.database at may).done in
     let made = first_made c.in-Ok.link.mark a b mid tells.mark replayed ahm in
-    let from = state_stays g.B.Disk c.args.ahead.now c.begin.new.from c.args.source.now b c.in-Ok.ensures.ahead_moved there in
+    let from = state_stays g.B.Disk c.args.ahead.now c.begin.new.from c.args.source.now b c.in-Ok.ensures.ahead_moved c.in-Ok.ensures.ahead_kept there in
     let epoch : c.historical.new.self.f ≡ b.database.last = ap (λ (l : Linked). l.f) c.in-Ok-historical.ensures.same ∙ tells.f in
     let may_go = subst (λ (n : ℕ). MayGoOn n mid) (sym epoch) made.may in
     brings_stopped g.A.Disk c.current.new.at c.current.new.behind a b mid c.in-Err-current.fault made g.B.Disk c.args.source.now c.args.ahead.now there
@@ -86,11 +86,11 @@ returns-clause-brings g c = λ a b here there opened.
 pub returns-clause-any_moment : goal.returns-clause-any_moment
 returns-clause-any_moment g c = λ a b here there opened.
     let (accepted, tells) = c.in-Ok.ensures.begun a b here there in
-    let at = state_stays g.A.Disk c.args.behind.now c.begin.new.at c.args.store.now a c.in-Ok.ensures.behind_moved here in
+    let at = state_stays g.A.Disk c.args.behind.now c.begin.new.at c.args.store.now a c.in-Ok.ensures.behind_moved c.in-Ok.ensures.behind_kept here in
     let may = may_replay c.in-Ok.link a b g.B.Disk c.args.source.now c.args.ahead.now there opened accepted tells in
     let (same, mid, after, replayed, ahm) = (c.in-Ok-historical.ensures.replays a b.database at may).done in
     let made = first_made c.in-Ok.link.mark a b mid tells.mark replayed ahm in
-    let from = state_stays g.B.Disk c.args.ahead.now c.begin.new.from c.args.source.now b c.in-Ok.ensures.ahead_moved there in
+    let from = state_stays g.B.Disk c.args.ahead.now c.begin.new.from c.args.source.now b c.in-Ok.ensures.ahead_moved c.in-Ok.ensures.ahead_kept there in
     let epoch : c.historical.new.self.f ≡ b.database.last = ap (λ (l : Linked). l.f) c.in-Ok-historical.ensures.same ∙ tells.f in
     let may_go = subst (λ (n : ℕ). MayGoOn n mid) (sym epoch) made.may in
     moment_third g.A.Disk a b mid made (moment_second g.A.Disk c.in-Ok.link.mark c.args.store.now a b.database tells.mark here opened c.in-Ok.ensures.behind_moved (c.in-Ok-historical.ensures.any_moment a b.database at may))

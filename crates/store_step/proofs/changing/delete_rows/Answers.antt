@@ -29,7 +29,7 @@ returns-in-Err-clause-answers g c = λ files state here.
     let moved = moved_still g.D.Disk c.matches.ensures.moved in
     let stands = c.other_files_move.ensures c.args.disk.now c.matches.new.disk r.seen.catalogue r.seen.stores state.database here.database moved in
     let leaves = c.moving_files_reopen.ensures c.args.disk.now c.matches.new.disk r.seen.catalogue r.seen.stores state.database here.database moved in
-    unread_answers g.D.Disk files (Statement.Delete c.args.delete.now) r c.in-Err.fault state here.sound.database leaves (stays_state g.D.Disk r c.args.disk.now c.matches.new.disk state here stands) (c.in-Err.ensures.unblamed state here)
+    unread_answers g.D.Disk files (Statement.Delete c.args.delete.now) r c.in-Err.fault state here.sound.database leaves (stays_state g.D.Disk r c.args.disk.now c.matches.new.disk state here stands c.matches.ensures.kept) (c.in-Err.ensures.unblamed state here)
 
 pub returns-clause-answers : goal.returns-clause-answers
 returns-clause-answers g c = λ files state here.
@@ -40,7 +40,7 @@ returns-clause-answers g c = λ files state here.
     let moved = moved_still g.D.Disk c.matches.ensures.moved in
     let stands = c.other_files_move.ensures c.args.disk.now c.matches.new.disk r.seen.catalogue r.seen.stores state.database here.database moved in
     let leaves = c.moving_files_reopen.ensures c.args.disk.now c.matches.new.disk r.seen.catalogue r.seen.stores state.database here.database moved in
-    let there = stays_state g.D.Disk r c.args.disk.now c.matches.new.disk state here stands in
+    let there = stays_state g.D.Disk r c.args.disk.now c.matches.new.disk state here stands c.matches.ensures.kept in
     let committed = c.in-Ok.matched.committed.items in
     let pending = c.in-Ok.matched.pending.items in
     let keep = c.as_slice-keep.result.now in

@@ -14,7 +14,7 @@ returns-clause-answers g c = λ files state here bound accepted.
     let moved = moved_still g.D.Disk c.select.ensures.moved in
     let stands = c.other_files_move.ensures c.args.disk.now c.select.new.disk r.seen.catalogue r.seen.stores state.database here.database moved in
     let leaves = c.moving_files_reopen.ensures c.args.disk.now c.select.new.disk r.seen.catalogue r.seen.stores state.database here.database moved in
-    select_answers g.D.Disk r (λ v. v.items) c.select.result c.selected.result state files c.args.at q accepted here.sound.database (stays_state g.D.Disk r c.args.disk.now c.select.new.disk state here stands) leaves
+    select_answers g.D.Disk r (λ v. v.items) c.select.result c.selected.result state files c.args.at q accepted here.sound.database (stays_state g.D.Disk r c.args.disk.now c.select.new.disk state here stands c.select.ensures.kept) leaves
     (IfOk-weaker c.select.result _ _ (λ v listed. listed state q here asked) c.select.ensures.listed) (on_ok_weaker c.select.result (λ small. small state q here asked) c.select.ensures.in_range) (λ is. c.select.ensures.great is state q here asked)
     (IfErr-weaker c.select.result _ _ (λ fault none. none state q here asked) c.select.ensures.unblamed) c.selected.ensures.rows c.selected.ensures.fault
 

@@ -21,7 +21,7 @@ returns-in_err-tables-clause-goes_on g c =
     c.self.view_is
     (λ a b here there may.
     goes_refused g.A.Disk c.self.inside.f c.args.behind.now c.check.new.at c.in_err-tables.field-0.0 a b.database (c.in_err-tables.ensures.ends a b here there may.last)
-    (state_stays g.A.Disk c.args.at.now c.check.new.at c.args.behind.now a c.check.ensures.behind_moved here)))
+    (state_stays g.A.Disk c.args.at.now c.check.new.at c.args.behind.now a c.check.ensures.behind_moved c.check.ensures.behind_kept here)))
 
 pub returns-in_err-tables-clause-any_moment : goal.returns-in_err-tables-clause-any_moment
 returns-in_err-tables-clause-any_moment g c =
@@ -38,7 +38,7 @@ returns-clause-goes_on g c =
     (λ a b here there may.
     let is = c.in_ok-tables.ensures.checked a b here there may.last in
     goes_on g.A.Disk c.self.inside.f c.last.result c.replay.new.behind c.replay.new.at c.replay.result a b.database (c.last.ensures ∙ sym there.database.are.last) is.accepted
-    (c.replay.ensures.replays (later_mark a.database b.database) a b.database (state_stays g.A.Disk c.args.at.now c.check.new.at c.args.behind.now a c.check.ensures.behind_moved here)
+    (c.replay.ensures.replays (later_mark a.database b.database) a b.database (state_stays g.A.Disk c.args.at.now c.check.new.at c.args.behind.now a c.check.ensures.behind_moved c.check.ensures.behind_kept here)
     (subst (λ (hs : List History). MayReplay (later_mark a.database b.database) c.self.inside.f c.last.result hs a b.database) (sym c.as_slice.ensures.value)
     (may_replay g.B.Disk c.args.from.now c.args.ahead.now a b c.self.inside.f c.last.result c.in_ok-tables.tables.items there may c.last.ensures is))))
 
@@ -50,6 +50,6 @@ returns-clause-any_moment g c =
     (λ a b here there may.
     let is = c.in_ok-tables.ensures.checked a b here there may.last in
     leaves_join g.A.Disk (read_leaves g.A.Disk c.args.at.now c.check.new.at c.args.behind.now a (later_mark a.database b.database) c.self.inside.f b.database here may c.check.ensures.behind_moved)
-    (c.replay.ensures.any_moment (later_mark a.database b.database) a b.database (state_stays g.A.Disk c.args.at.now c.check.new.at c.args.behind.now a c.check.ensures.behind_moved here)
+    (c.replay.ensures.any_moment (later_mark a.database b.database) a b.database (state_stays g.A.Disk c.args.at.now c.check.new.at c.args.behind.now a c.check.ensures.behind_moved c.check.ensures.behind_kept here)
     (subst (λ (hs : List History). MayReplay (later_mark a.database b.database) c.self.inside.f c.last.result hs a b.database) (sym c.as_slice.ensures.value)
     (may_replay g.B.Disk c.args.from.now c.args.ahead.now a b c.self.inside.f c.last.result c.in_ok-tables.tables.items there may c.last.ensures is))))

@@ -16,7 +16,7 @@ use Rattle.exec_scan.specs.Reading.{OfBlock, ShowsRows}
 use Rattle.exec_scan.specs.Scanning.{AreLeft, Gives, HasOpenedAt, IsAtHand, IsScanOf, Place, steps_left}
 use Rattle.exec_scan.proofs.Blames.{at_hand_on, blames_at, block_blames}
 use Rattle.exec_scan.proofs.Costs.{block_spends, done_costs}
-use Rattle.exec_scan.proofs.Stepping.{at_place, block_gives, block_unblamed, done_fewer, done_gives, handed, next_fewer, next_scan, opening_here, unblamed_at}
+use Rattle.exec_scan.proofs.Stepping.{at_place, block_gives, block_unblamed, done_fewer, done_gives, done_scan, handed, next_fewer, next_scan, opening_here, unblamed_at}
 use Rattle.exec_scan.proofs.scan.Scan.next_block.Goals as goal
 
 pub returns-in-Err-clause-unblamed : goal.returns-in-Err-clause-unblamed
@@ -29,6 +29,13 @@ returns-in-Err-clause-unblamed g c = λ m told left are.
 
 pub returns-in-Err-clause-blamed : goal.returns-in-Err-clause-blamed
 returns-in-Err-clause-blamed g c = λ at. blames_at c.args.store.now.stored.entry c.self.inside.container (g.D.Disk.holds c.args.disk.now) c.in-Err.fault c.in-Err.ensures.blamed
+
+pub returns-then-block-count-clause-scan : goal.returns-then-block-count-clause-scan
+returns-then-block-count-clause-scan g c =
+    let s = c.self.inside in
+    let p = c.args.store.now.stored.entry in
+    let scan = subst (λ (x : Place). IsScanOf p x) (sym c.self.view_is) c.requires.scan in
+    done_scan p s.epoch s.places.items s.bounds.items s.stamps s.container s.block s.opened c.take-opened.new.self s.taken c.take-opened.ensures.after scan
 
 pub returns-then-block-count-clause-gives : goal.returns-then-block-count-clause-gives
 returns-then-block-count-clause-gives g c = λ m told left are.

@@ -37,7 +37,7 @@ returns-in-Err-commit-clause-does g c = λ state t here there fit free.
     let has : has_changes c.in-Ok.session ≡ true = search rules in
     does_failed g.D.Disk Memory c.args.self.now (running c.commit.new.self (put_at [] sessions current) current mover) _ c.in-Err-commit.fault state (λ new. new ≡ rows_loaded name rows state)
     (load_at g.D.Disk was c.commit.new.self sessions (put_at [] sessions current) current mover c.args.self.now (Err c.in-Err-commit.fault) state name rows c.in-Ok.session (was.catalogue.last + 1) c.self.view_is
-    (c.in-Ok.ensures ∙ ap (with_rows name rows) c.session.ensures) has here pending (c.commits_of_a_session_are_sound.ensures (rows_pending name rows state) pending) refl c.in-Err-commit.ensures.made c.in-Err-commit.ensures.catalogue)
+    (c.in-Ok.ensures ∙ ap (with_rows name rows) c.session.ensures) has here pending (c.commits_of_a_session_are_sound.ensures (rows_pending name rows state) pending) refl c.in-Err-commit.ensures.unwritten c.in-Err-commit.ensures.made c.in-Err-commit.ensures.catalogue)
 
 pub returns-in-Err-commit-clause-unblamed : goal.returns-in-Err-commit-clause-unblamed
 returns-in-Err-commit-clause-unblamed g c = λ state here. c.in-Err-commit.ensures.unblamed state.database (subst (λ (r : Running). Stands g.D.Disk r.seen c.args.disk.now state.database) (sym c.self.view_is) here.database)
@@ -50,7 +50,7 @@ returns-clause-does g c = λ state t here there fit free.
     let pending : IsSound (rows_pending name rows state) = c.pending_rows_are_sound.ensures state name rows t there fit free here.sound in
     let has : has_changes c.in-Ok.session ≡ true = search rules in
     load_at g.D.Disk was c.commit.new.self c.self.inside.txns c.take-2.new.self c.self.inside.current c.self.inside.mover c.args.self.now (Ok tt) state name rows c.in-Ok.session (was.catalogue.last + 1) c.self.view_is
-    (c.in-Ok.ensures ∙ ap (with_rows name rows) c.session.ensures) has here pending (c.commits_of_a_session_are_sound.ensures (rows_pending name rows state) pending) c.take-2.ensures.left c.in-Ok-commit.ensures.made c.in-Ok-commit.ensures.catalogue
+    (c.in-Ok.ensures ∙ ap (with_rows name rows) c.session.ensures) has here pending (c.commits_of_a_session_are_sound.ensures (rows_pending name rows state) pending) c.take-2.ensures.left c.in-Ok-commit.ensures.unwritten c.in-Ok-commit.ensures.made c.in-Ok-commit.ensures.catalogue
 
 pub returns-in-Err-commit-clause-blamed : goal.returns-in-Err-commit-clause-blamed
 returns-in-Err-commit-clause-blamed g c = subst (λ (r : Running). BlamesStored r.seen.stores (g.D.Disk.holds c.args.disk.now) c.in-Err-commit.fault) c.self.view_is c.in-Err-commit.ensures.blamed

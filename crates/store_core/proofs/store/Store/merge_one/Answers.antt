@@ -14,7 +14,7 @@ pub returns-clause-does : goal.returns-clause-does
 returns-clause-does g c = λ state here.
     let i = c.args.next.at.table in
     let j = c.args.next.at.place in
-    rise_does g.D.Disk Memory c.self.inside.tables c.merge.new.store c.self.inside.txns c.self.inside.current c.self.inside.mover c.args.self.now i j 0 c.merge.result state c.self.view_is here (omega arith) c.merge.ensures.made
+    rise_does g.D.Disk Memory c.self.inside.tables c.merge.new.store c.self.inside.txns c.self.inside.current c.self.inside.mover c.drop_work.new.self c.args.self.now i j 0 c.merge.result state c.self.view_is here c.drop_work.ensures (omega arith) c.merge.ensures.made
     (on_merged c.merge.result i j c.self.inside.tables.catalogue c.merge.new.store.catalogue c.merge.ensures.drawn)
 
 pub returns-clause-drawn : goal.returns-clause-drawn
@@ -35,4 +35,4 @@ returns-clause-blamed g c =
 
 pub returns-clause-named : goal.returns-clause-named
 returns-clause-named g c =
-    still_named g.D.Disk c.self.inside.tables (running c.merge.new.store c.self.inside.txns c.self.inside.current c.self.inside.mover) c.merge.new.disk c.merge.result c.merge.ensures.named c.merge.ensures.same
+    still_named g.D.Disk c.self.inside.tables (running c.merge.new.store c.self.inside.txns c.self.inside.current c.drop_work.new.self) c.merge.new.disk c.merge.result c.merge.ensures.named c.merge.ensures.same

@@ -16,7 +16,7 @@ use Rattle.store_core.proofs.store.Store.move_out.Goals as goal
 
 pub returns-clause-does : goal.returns-clause-does
 returns-clause-does g c = λ state here.
-    move_does g.D.Disk Memory c.self.inside.tables c.move_out.new.self c.self.inside.txns c.self.inside.current c.self.inside.mover c.args.self.now c.args.table c.args.place c.move_out.result state c.self.view_is here
+    move_does g.D.Disk Memory c.self.inside.tables c.move_out.new.self c.self.inside.txns c.self.inside.current c.self.inside.mover c.drop_work.new.self c.args.self.now c.args.table c.args.place c.move_out.result state c.self.view_is here c.drop_work.ensures
     (risen_state state (moved_at c.args.table c.args.place state.database) (moved_rises g.D.Disk c.args.self.now c.args.disk.now state c.args.table c.args.place here c.requires) here.sound) c.move_out.ensures.made c.move_out.ensures.drawn
 
 pub returns-clause-job : goal.returns-clause-job
@@ -32,4 +32,4 @@ returns-clause-blamed g c =
 
 pub returns-clause-named : goal.returns-clause-named
 returns-clause-named g c =
-    still_named g.D.Disk c.self.inside.tables (running c.move_out.new.self c.self.inside.txns c.self.inside.current c.self.inside.mover) c.move_out.new.disk c.move_out.result c.move_out.ensures.named c.move_out.ensures.same
+    still_named g.D.Disk c.self.inside.tables (running c.move_out.new.self c.self.inside.txns c.self.inside.current c.drop_work.new.self) c.move_out.new.disk c.move_out.result c.move_out.ensures.named c.move_out.ensures.same

@@ -15,7 +15,7 @@ pub returns-clause-does : goal.returns-clause-does
 returns-clause-does g c = λ state here.
     let i = c.args.table in
     let j = c.args.place in
-    rise_does g.D.Disk Memory c.self.inside.tables c.purge.new.store c.self.inside.txns c.self.inside.current c.self.inside.mover c.args.self.now i j 1 c.purge.result state c.self.view_is here (omega arith) c.purge.ensures.made
+    rise_does g.D.Disk Memory c.self.inside.tables c.purge.new.store c.self.inside.txns c.self.inside.current c.self.inside.mover c.drop_work.new.self c.args.self.now i j 1 c.purge.result state c.self.view_is here c.drop_work.ensures (omega arith) c.purge.ensures.made
     c.purge.ensures.drawn
 
 pub returns-clause-drawn : goal.returns-clause-drawn
@@ -36,7 +36,7 @@ returns-clause-blamed g c =
 
 pub returns-clause-named : goal.returns-clause-named
 returns-clause-named g c =
-    still_named g.D.Disk c.self.inside.tables (running c.purge.new.store c.self.inside.txns c.self.inside.current c.self.inside.mover) c.purge.new.disk c.purge.result c.purge.ensures.named c.purge.ensures.same
+    still_named g.D.Disk c.self.inside.tables (running c.purge.new.store c.self.inside.txns c.self.inside.current c.drop_work.new.self) c.purge.new.disk c.purge.result c.purge.ensures.named c.purge.ensures.same
 
 pub returns-clause-whole : goal.returns-clause-whole
 returns-clause-whole g c =

@@ -22,12 +22,12 @@ returns-in-Err-refresh-clause-does g c = λ state here.
     let j = c.args.place in
     let mover = c.self.inside.mover in
     let after = mover_of c.in-Ok.asked.items mover.busy mover.refreshing in
-    let own : c.args.self.now.mover ≡ mover = ap (λ (r : Running). r.mover) (sym c.self.view_is) in
     let left =
-    of_weaker i j c.args.self.now.seen.catalogue (λ p. c.in-Ok.asked.items ≡ filter (is_not_named p.name) c.args.self.now.mover.asked) (λ p. after ≡ asked_but p.name mover)
-    (λ p is. ap (λ (xs : List (List ℕ)). mover_of xs mover.busy mover.refreshing) (is ∙ ap (λ (m : Mover). filter (is_not_named p.name) m.asked) own)) c.in-Ok.ensures in
+    of_weaker i j c.self.inside.tables.catalogue (λ p. c.in-Ok.asked.items ≡ filter (is_not_named p.name) c.drop_work.new.self.asked) (λ p. after ≡ asked_but p.name mover)
+    (λ p is. ap (λ (xs : List (List ℕ)). mover_of xs mover.busy mover.refreshing) (is ∙ ap (λ (m : Mover). filter (is_not_named p.name) m.asked) c.drop_work.ensures)) c.in-Ok.ensures in
+    let there = subst (λ (r : Running). OfProjection i j r.seen.catalogue (λ p. after ≡ asked_but p.name mover)) c.self.view_is left in
     does_failed g.D.Disk Memory c.args.self.now (running c.refresh.new.store c.self.inside.txns c.self.inside.current after) _ c.in-Err-refresh.fault state (RefreshesAt i j state)
-    (refresh_does g.D.Disk Memory c.self.inside.tables c.refresh.new.store c.self.inside.txns c.self.inside.current mover after c.args.self.now i j (Err c.in-Err-refresh.fault) state c.self.view_is here c.requires left
+    (refresh_does g.D.Disk Memory c.self.inside.tables c.refresh.new.store c.self.inside.txns c.self.inside.current mover after c.args.self.now i j (Err c.in-Err-refresh.fault) state c.self.view_is here c.requires there
     c.in-Err-refresh.ensures.made c.in-Err-refresh.ensures.drawn)
 
 pub returns-clause-does : goal.returns-clause-does
@@ -35,11 +35,12 @@ returns-clause-does g c = λ state here.
     let i = c.args.table in
     let j = c.args.place in
     let mover = c.self.inside.mover in
-    let own : c.args.self.now.mover ≡ mover = ap (λ (r : Running). r.mover) (sym c.self.view_is) in
     let left =
-    of_weaker i j c.args.self.now.seen.catalogue (λ p. c.in-Ok.asked.items ≡ filter (is_not_named p.name) c.args.self.now.mover.asked) (λ p. c.ask.new.self ≡ asked_but p.name mover)
-    (λ p is. c.ask.ensures ∙ ap (λ (xs : List (List ℕ)). mover_of xs mover.busy mover.refreshing) (is ∙ ap (λ (m : Mover). filter (is_not_named p.name) m.asked) own)) c.in-Ok.ensures in
-    refresh_does g.D.Disk Memory c.self.inside.tables c.refresh.new.store c.self.inside.txns c.self.inside.current mover c.ask.new.self c.args.self.now i j (Ok tt) state c.self.view_is here c.requires left
+    of_weaker i j c.self.inside.tables.catalogue (λ p. c.in-Ok.asked.items ≡ filter (is_not_named p.name) c.drop_work.new.self.asked) (λ p. c.ask.new.self ≡ asked_but p.name mover)
+    (λ p is. c.ask.ensures ∙ ap (λ (m : Mover). mover_of c.in-Ok.asked.items m.busy m.refreshing) c.drop_work.ensures
+    ∙ ap (λ (xs : List (List ℕ)). mover_of xs mover.busy mover.refreshing) (is ∙ ap (λ (m : Mover). filter (is_not_named p.name) m.asked) c.drop_work.ensures)) c.in-Ok.ensures in
+    let there = subst (λ (r : Running). OfProjection i j r.seen.catalogue (λ p. c.ask.new.self ≡ asked_but p.name mover)) c.self.view_is left in
+    refresh_does g.D.Disk Memory c.self.inside.tables c.refresh.new.store c.self.inside.txns c.self.inside.current mover c.ask.new.self c.args.self.now i j (Ok tt) state c.self.view_is here c.requires there
     c.in-Ok-refresh.ensures.made c.in-Ok-refresh.ensures.drawn
 
 pub returns-clause-drawn : goal.returns-clause-drawn
@@ -50,8 +51,9 @@ returns-clause-drawn g c =
 
 pub returns-clause-asked : goal.returns-clause-asked
 returns-clause-asked g c =
-    of_weaker c.args.table c.args.place c.args.self.now.seen.catalogue (λ p. c.in-Ok.asked.items ≡ filter (is_not_named p.name) c.args.self.now.mover.asked) (λ p. c.ask.new.self.asked ≡ filter (is_not_named p.name) c.args.self.now.mover.asked)
-    (λ p is. ap (λ (m : Mover). m.asked) c.ask.ensures ∙ is) c.in-Ok.ensures
+    subst (λ (r : Running). OfProjection c.args.table c.args.place r.seen.catalogue (λ p. c.ask.new.self.asked ≡ filter (is_not_named p.name) r.mover.asked)) c.self.view_is
+    (of_weaker c.args.table c.args.place c.self.inside.tables.catalogue (λ p. c.in-Ok.asked.items ≡ filter (is_not_named p.name) c.drop_work.new.self.asked) (λ p. c.ask.new.self.asked ≡ filter (is_not_named p.name) c.self.inside.mover.asked)
+    (λ p is. ap (λ (m : Mover). m.asked) c.ask.ensures ∙ is ∙ ap (λ (m : Mover). filter (is_not_named p.name) m.asked) c.drop_work.ensures) c.in-Ok.ensures)
 
 pub returns-in-Err-refresh-clause-unblamed : goal.returns-in-Err-refresh-clause-unblamed
 returns-in-Err-refresh-clause-unblamed g c = λ state here.

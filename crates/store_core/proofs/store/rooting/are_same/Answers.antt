@@ -1,4 +1,4 @@
-use Rattle.store_core.proofs.SameTables.{tables_same}
+use Rattle.table_jobs.proofs.SameTables.{tables_same}
 use Rattle.store_core.proofs.store.rooting.are_same.Goals as goal
 
 pub returns : goal.returns
