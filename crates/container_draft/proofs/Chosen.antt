@@ -9,45 +9,46 @@ use Rattle.col_value.specs.declared.row.Asked.{Asked}
 use Rattle.col_value.specs.declared.row.Stamped.{Stamped}
 use Rattle.catalog_types.specs.declared.catalogue.Container.{Container}
 use Rattle.ros_container.specs.Encodings.{Written}
-use Rattle.ros_container.specs.Held.{HoldsContainer}
 use Rattle.ros_container.specs.Rows.{AreWide}
 use Rattle.ros_container.proofs.Long.{container_long}
 use Rattle.stored_rows.specs.Held.{HoldsVector, HoldsMarked, stamped_from}
 use Rattle.stored_rows.specs.Stored.{Beside, mark_in, StoresRows}
 use Rattle.merge_rows.specs.Places.{asked_of}
 use Rattle.merge_rows.specs.Inputs.{chosen}
-use Rattle.container_draft.specs.Reading.{del_of, deletes, deletes_in, HoldEach, JoinsIf}
+use Rattle.container_draft.specs.Reading.{del_of, deletes, deletes_in, HoldEach, HoldEachOn, JoinsIf}
+use Rattle.container_draft.specs.Lanes.{HoldsOn}
 use Rattle.container_draft.proofs.Flags.{one_if, chosen_more, chosen_all}
 use Rattle.container_draft.proofs.Joined.{asked_back, dels_back}
 
 -- ---- one container more
 
-hold_append : (m : Contents) (es : List Written) (ks : List Container) (k : Container) (rows here : List Asked) → HoldEach m es ks rows → HoldsContainer m es k here → HoldEach m es (ks ++ k ∷ []) (rows ++ here)
-hold_append m es [] k rows here held one = (here, [], one, refl, ap (λ (xs : List Asked). xs ++ here) held ∙ sym (append-nil here))
-hold_append m es (j ∷ ks) k rows here (first, more, own, rest, is) one =
-    (first, more ++ here, own, hold_append m es ks k more here rest one, ap (λ (xs : List Asked). xs ++ here) is ∙ append_assoc first more here)
+hold_append : (m : Contents) (es : List Written) (via : List ℕ) (ks : List Container) (k : Container) (rows here : List Asked) → HoldEachOn m es via ks rows → HoldsOn m es k via here → HoldEachOn m es via (ks ++ k ∷ []) (rows ++ here)
+hold_append m es via [] k rows here held one = (here, [], one, refl, ap (λ (xs : List Asked). xs ++ here) held ∙ sym (append-nil here))
+hold_append m es via (j ∷ ks) k rows here (first, more, own, rest, is) one =
+    (first, more ++ here, own, hold_append m es via ks k more here rest one, ap (λ (xs : List Asked). xs ++ here) is ∙ append_assoc first more here)
 
 -- read where it is chosen
-pub hold_more : (m : Contents) (es : List Written) (i : ℕ) (flags : List Bool) (shown ks : List Container) (k : Container) (rows more : List Asked) → shown ≡ ks → i < length shown → k ≡ get_or shown i k
-    → HoldEach m es (chosen (take i flags) (take i ks)) rows → JoinsIf (slice_index_or flags i false) m es k rows more → HoldEach m es (chosen (take (i + 1) flags) (take (i + 1) ks)) more
-hold_more m es i flags shown ks k rows more same lt k_is held joins =
+pub hold_more : (m : Contents) (es : List Written) (via : List ℕ) (i : ℕ) (flags : List Bool) (shown ks : List Container) (k : Container) (rows more : List Asked) → shown ≡ ks → i < length shown → k ≡ get_or shown i k
+    → HoldEachOn m es via (chosen (take i flags) (take i ks)) rows → JoinsIf (slice_index_or flags i false) m es via k rows more → HoldEachOn m es via (chosen (take (i + 1) flags) (take (i + 1) ks)) more
+hold_more m es via i flags shown ks k rows more same lt k_is held joins =
     let inside : i < length ks = omega (arith, lt, ap length same) in
     let here : k ≡ get_or ks i k = subst (λ (xs : List Container). k ≡ get_or xs i k) same k_is in
     by (slice_index_or flags i false) (chosen_more i flags ks k inside here) joins
   where
-    by : (f : Bool) → chosen (take (i + 1) flags) (take (i + 1) ks) ≡ chosen (take i flags) (take i ks) ++ one_if f k → JoinsIf f m es k rows more → HoldEach m es (chosen (take (i + 1) flags) (take (i + 1) ks)) more
+    by : (f : Bool) → chosen (take (i + 1) flags) (take (i + 1) ks) ≡ chosen (take i flags) (take i ks) ++ one_if f k → JoinsIf f m es via k rows more → HoldEachOn m es via (chosen (take (i + 1) flags) (take (i + 1) ks)) more
     by true are (one, own, is) =
-        subst (λ (xs : List Container). HoldEach m es xs more) (sym are)
-        (subst (HoldEach m es (chosen (take i flags) (take i ks) ++ k ∷ [])) (sym is) (hold_append m es (chosen (take i flags) (take i ks)) k rows one held own))
+        subst (λ (xs : List Container). HoldEachOn m es via xs more) (sym are)
+        (subst (HoldEachOn m es via (chosen (take i flags) (take i ks) ++ k ∷ [])) (sym is) (hold_append m es via (chosen (take i flags) (take i ks)) k rows one held own))
     by false are is =
-        subst (λ (xs : List Container). HoldEach m es xs more) (sym (are ∙ append-nil (chosen (take i flags) (take i ks))))
-        (subst (HoldEach m es (chosen (take i flags) (take i ks))) (sym is) held)
+        subst (λ (xs : List Container). HoldEachOn m es via xs more) (sym (are ∙ append-nil (chosen (take i flags) (take i ks))))
+        (subst (HoldEachOn m es via (chosen (take i flags) (take i ks))) (sym is) held)
 
-pub hold_all : (m : Contents) (es : List Written) (i : ℕ) (flags : List Bool) (shown ks : List Container) (rows : List Asked) → shown ≡ ks → length shown ≤ i → HoldEach m es (chosen (take i flags) (take i ks)) rows → HoldEach m es (chosen flags ks) rows
-hold_all m es i flags shown ks rows same done held = subst (λ (xs : List Container). HoldEach m es xs rows) (chosen_all i flags ks (omega (arith, done, ap length same))) held
+pub hold_all : (m : Contents) (es : List Written) (via : List ℕ) (i : ℕ) (flags : List Bool) (shown ks : List Container) (rows : List Asked) → shown ≡ ks → length shown ≤ i → HoldEachOn m es via (chosen (take i flags) (take i ks)) rows
+    → HoldEachOn m es via (chosen flags ks) rows
+hold_all m es via i flags shown ks rows same done held = subst (λ (xs : List Container). HoldEachOn m es via xs rows) (chosen_all i flags ks (omega (arith, done, ap length same))) held
 
-pub hold_none : (m : Contents) (es : List Written) (flags : List Bool) (ks : List Container) (rows : List Asked) → rows ≡ [] → HoldEach m es (chosen (take 0 flags) (take 0 ks)) rows
-hold_none m es flags ks rows none = none
+pub hold_none : (m : Contents) (es : List Written) (via : List ℕ) (flags : List Bool) (ks : List Container) (rows : List Asked) → rows ≡ [] → HoldEachOn m es via (chosen (take 0 flags) (take 0 ks)) rows
+hold_none m es via flags ks rows none = none
 
 -- ---- what is read is stored, with the deletes of now
 
@@ -69,6 +70,19 @@ each_stored m es (k ∷ ks) (b ∷ bs) asked vectors (here, more, own, rest, is)
       are = (front, behind.stored, vectors.0, (here, own, refl), behind.are, refl);
       rows = is ∙ ap₂ (λ (xs ys : List Asked). xs ++ ys) (sym (asked_back 0 (mark_in b) here)) behind.rows ∙ sym (map-append asked_of front behind.stored);
     }
+
+-- and what is stored could be read
+pub stored_each : (m : Contents) (es : List Written) (ks : List Container) (bs : List Beside) (stored : List Stamped) → StoresRows m es ks bs stored → HoldEach m es ks (map asked_of stored)
+stored_each m es [] [] stored are = ap (map asked_of) are
+stored_each m es [] (b ∷ bs) stored are = absurd are
+stored_each m es (k ∷ ks) [] stored are = absurd are
+stored_each m es (k ∷ ks) (b ∷ bs) stored (here, more, vector, (asked, own, marked), rest, is) = (
+  asked,
+  map asked_of more,
+  own,
+  stored_each m es ks bs more rest,
+  ap (map asked_of) is ∙ map-append asked_of here more ∙ ap (λ (xs : List Asked). xs ++ map asked_of more) (ap (map asked_of) marked ∙ asked_back 0 (mark_in b) asked),
+)
 
 pub stored_deletes : (m : Contents) (es : List Written) (ks : List Container) (bs : List Beside) (stored : List Stamped) → StoresRows m es ks bs stored → deletes_in ks bs ≡ map del_of stored
 stored_deletes m es [] [] stored are = sym (ap (map del_of) are)

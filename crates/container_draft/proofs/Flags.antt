@@ -1,6 +1,6 @@
 -- What flags choose of a list, one element after the other.
 use Rattle.std.proofs.Common.{◌≡◌, ℕ, zero, suc, ◌+◌, ◌<◌, ◌≤◌, ◌++◌, Bool, true, false, cond, List, [], ◌∷◌, length, take, get_or, refl, sym, ap, ◌∙◌, arith}
-use Rattle.std.specs.Prelude.{slice_index_or}
+use Rattle.std.specs.Prelude.{replicate, slice_index_or}
 use Rattle.std.specs.List.{All, AllZip}
 use Rattle.std.proofs.lemmas.List.{take_all}
 use Rattle.std.proofs.lemmas.List.Elements.{All-nil, All-cons, All-head, All-tail}
@@ -67,3 +67,13 @@ all_chosen P [] xs all = All-nil P
 all_chosen P (f ∷ flags) [] all = All-nil P
 all_chosen P (true ∷ flags) (x ∷ xs) all = All-cons P x (chosen flags xs) (All-head P x xs all) (all_chosen P flags xs (All-tail P x xs all))
 all_chosen P (false ∷ flags) (x ∷ xs) all = all_chosen P flags xs (All-tail P x xs all)
+
+-- flags that choose all
+pub chosen_each : {X : Type 0} (n : ℕ) (xs : List X) → length xs ≤ n → chosen (replicate n true) xs ≡ xs
+chosen_each zero [] le = refl
+chosen_each zero (x ∷ xs) le = absurd (omega (arith, le))
+chosen_each (suc n) [] le = refl
+chosen_each {X} (suc n) (x ∷ xs) le = ap (λ (ys : List X). x ∷ ys) (chosen_each n xs (omega (arith, le)))
+
+pub chosen_shown : {X : Type 0} (count : ℕ) (flags shown : List Bool) (xs : List X) → flags ≡ replicate count true → shown ≡ flags → count ≡ length xs → chosen shown xs ≡ xs
+chosen_shown count flags shown xs are same many = ap (λ (fs : List Bool). chosen fs xs) (same ∙ are) ∙ chosen_each count xs (omega (arith, many))

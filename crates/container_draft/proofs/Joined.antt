@@ -56,6 +56,12 @@ range_more : (a n : ℕ) → range_with_len a (suc n) ≡ range_with_len a n ++ 
 range_more a zero = ap (λ (x : ℕ). x ∷ []) (omega arith)
 range_more a (suc n) = ap (λ (xs : List ℕ). a ∷ xs) (range_more (a + 1) n ∙ ap (λ (x : ℕ). range_with_len (a + 1) n ++ x ∷ []) (omega arith))
 
+pub places_more : (i : ℕ) (out more : List ℕ) → out ≡ range_with_len 0 i → more ≡ out ++ i ∷ [] → more ≡ range_with_len 0 (i + 1)
+places_more i out more was is =
+    let next : suc i ≡ i + 1 = omega arith in
+    let same : 0 + i ≡ i = omega arith in
+    is ∙ ap (λ (xs : List ℕ). xs ++ i ∷ []) was ∙ ap (λ (x : ℕ). range_with_len 0 i ++ x ∷ []) (sym same) ∙ sym (range_more 0 i) ∙ ap (range_with_len 0) next
+
 filter_one : (p : ℕ → Bool) (i : ℕ) → filter p (i ∷ []) ≡ listed_if (p i) i
 filter_one p i = refl
 

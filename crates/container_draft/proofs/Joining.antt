@@ -1,6 +1,6 @@
 -- The deletes of chosen containers, one container after the other.
 use Rattle.std.proofs.Common.{◌≡◌, ℕ, zero, suc, ◌+◌, ◌<◌, ◌≤◌, ◌++◌, Bool, true, false, List, [], ◌∷◌, length, map, take, get_or, Option, Some, None, refl, sym, ap, ap₂, ◌∙◌, arith, subst, append_assoc}
-use Rattle.std.specs.Prelude.{slice_index_or, IsSomeAnd}
+use Rattle.std.specs.Prelude.{replicate, slice_index_or, IsSomeAnd}
 use Rattle.std.specs.Option.{option_or}
 use Rattle.std.specs.List.{All, AllZip, slice_get, range_with_len}
 use Rattle.std.proofs.lemmas.List.{append-nil, get_or_default, length-take-le}
@@ -15,7 +15,7 @@ use Rattle.proj_store.specs.Sound.{AreInside, MarksItsRows, IsSound}
 use Rattle.merge_rows.specs.Inputs.{chosen}
 use Rattle.container_draft.specs.Keeping.{beside_of}
 use Rattle.container_draft.specs.Reading.{deletes, deletes_in, deletes_if}
-use Rattle.container_draft.proofs.Flags.{one_if, chosen_more, chosen_all, both_chosen}
+use Rattle.container_draft.proofs.Flags.{one_if, chosen_more, chosen_all, chosen_shown, both_chosen}
 
 -- ---- of one container
 
@@ -138,3 +138,9 @@ deletes_all i flags shown p dels same sound done is =
     let past : length p.entry.containers ≤ i = omega (arith, done, ap length same) in
     let also : length p.beside ≤ i = omega (arith, past, both_long p sound) in
     is ∙ ap₂ deletes_in (chosen_all i flags p.entry.containers past) (chosen_all i flags p.beside also)
+
+-- flags that choose all
+pub all_chosen_deletes : (p : Projected) (count : ℕ) (flags shown : List Bool) (v : List (Option ℕ)) → IsSound p.entry p.beside → count ≡ length p.entry.containers → flags ≡ replicate count true → shown ≡ flags
+    → v ≡ deletes_in (chosen shown p.entry.containers) (chosen shown p.beside) → v ≡ deletes_in p.entry.containers p.beside
+all_chosen_deletes p count flags shown v sound many are same is =
+    is ∙ ap₂ deletes_in (chosen_shown count flags shown p.entry.containers are same many) (chosen_shown count flags shown p.beside are same (many ∙ both_long p sound))

@@ -6,10 +6,10 @@ pub mod Flags
 pub mod Joined
 pub mod Marks
 pub mod Rising
-pub mod OneOrder
 pub mod Full
 pub mod ByLanes
 pub mod Loaded
+pub mod OnColumns
 pub mod Widths
 pub mod Gathering
 pub mod Heads

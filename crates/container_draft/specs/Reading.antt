@@ -8,6 +8,7 @@ use Rattle.col_value.specs.declared.row.Asked.{Asked}
 use Rattle.col_value.specs.declared.row.Stamped.{Stamped}
 use Rattle.catalog_types.specs.declared.catalogue.Container.{Container}
 use Rattle.stored_rows.specs.Stored.{Beside, mark_in}
+use Rattle.container_draft.specs.Lanes.{HoldsOn}
 
 abbrev pub del_of : Stamped → Option ℕ
 del_of s = s.del
@@ -27,10 +28,15 @@ abbrev pub HoldEach : Contents → List Written → List Container → List Aske
 HoldEach m written [] rows = rows ≡ []
 HoldEach m written (k ∷ ks) rows = (here : List Asked) × (more : List Asked) × HoldsContainer m written k here × HoldEach m written ks more × (rows ≡ here ++ more)
 
--- the rows of a container joined others where they were wanted
-abbrev pub JoinsIf : Bool → Contents → List Written → Container → List Asked → List Asked → Type 0
-JoinsIf true m written k rows more = (here : List Asked) × HoldsContainer m written k here × (more ≡ rows ++ here)
-JoinsIf false m written k rows more = more ≡ rows
+-- the same of rows that have the containers' columns at some places alone
+abbrev pub HoldEachOn : Contents → List Written → List ℕ → List Container → List Asked → Type 0
+HoldEachOn m written via [] rows = rows ≡ []
+HoldEachOn m written via (k ∷ ks) rows = (here : List Asked) × (more : List Asked) × HoldsOn m written k via here × HoldEachOn m written via ks more × (rows ≡ here ++ more)
+
+-- such rows of a container joined others where they were wanted
+abbrev pub JoinsIf : Bool → Contents → List Written → List ℕ → Container → List Asked → List Asked → Type 0
+JoinsIf true m written via k rows more = (here : List Asked) × HoldsOn m written k via here × (more ≡ rows ++ here)
+JoinsIf false m written via k rows more = more ≡ rows
 
 -- the deletes of a container, where they are wanted
 abbrev pub deletes_if : Bool → Beside → ℕ → List (Option ℕ)

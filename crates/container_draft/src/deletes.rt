@@ -8,6 +8,7 @@ ghost use Rattle.merge_rows.specs.Inputs.{chosen};
 ghost use Rattle.container_draft.specs.Keeping.{beside_of};
 ghost use Rattle.container_draft.specs.Reading.{deletes, deletes_if, deletes_in};
 
+use crate::all::all_flags;
 use crate::keeping::del_at;
 use crate::reading::is_chosen;
 use catalog_types::Container;
@@ -84,4 +85,12 @@ pub fn chosen_deletes(
         add_if(alloc, &mut out, p, i, container, wanted)?;
     }
     Ok(out)
+}
+
+/// The deletes of all containers' rows, one container after the other.
+pub fn all_deletes(alloc: Global, p: &ProjStore) -> Result<Vec<Option<u64>>, AllocError>
+    ensures { IfOk result (λ v. v.items ≡ deletes_in p.now.stored.entry.containers p.now.stored.beside) }
+{
+    let all = all_flags(alloc, p.entry().containers.as_slice().len())?;
+    chosen_deletes(alloc, p, all.as_slice())
 }

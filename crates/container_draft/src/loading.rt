@@ -12,11 +12,11 @@ ghost use Rattle.col_value.specs.declared.value.Value.TheVariants.{Int, Null};
 ghost use Rattle.pos_index.specs.Index.{IsIndex};
 ghost use Rattle.ros_container.specs.Encodings.{written_of, default_at};
 ghost use Rattle.ros_container.specs.Files.{body_of, index_of};
-ghost use Rattle.ros_container.specs.Held.{HoldsContainer, BlamesContainer};
+ghost use Rattle.ros_container.specs.Held.{BlamesContainer};
 ghost use Rattle.ros_container.specs.Parts.{HasValues};
 ghost use Rattle.ros_container.specs.Readable.{IsReadable, IsOfColumns};
-ghost use Rattle.ros_container.specs.Rows.{IsWithin, IsEpochOf};
-ghost use Rattle.container_draft.specs.Lanes.{HasEach};
+ghost use Rattle.ros_container.specs.Rows.{AreWide, IsWithin, IsEpochOf};
+ghost use Rattle.container_draft.specs.Lanes.{HasEach, HoldsOn};
 
 use crate::column::Column;
 use crate::lanes::Lanes;
@@ -255,25 +255,27 @@ fn read_stamps<D: Disk>(
     }
 }
 
-/// All columns of a container.
+/// The columns of a container at some places.
 fn read_all<D: Disk>(
     alloc: Global,
     disk: &mut D,
     entry: &Container,
     shape: &Projection,
+    via: &[usize],
 ) -> Result<Vec<Column>, StoreFault>
     requires entry { IsReadable shape.now.columns entry.now }
-    ensures found { IfOk result (λ v. (m : Contents) → D.holds disk.old ≡ Some m → HasEach m (written_of shape.now) entry.now v.items) }
+    requires columns { All (λ i. i < length shape.now.columns) via.now }
+    ensures found { IfOk result (λ v. (m : Contents) → D.holds disk.old ≡ Some m → HasEach m (written_of shape.now) entry.now via.now v.items) }
     ensures long { IfOk result (λ v. All (λ vs. length vs ≡ entry.now.rows) v.items) }
-    ensures wide { IfOk result (λ v. length v.items ≡ length shape.now.columns) }
+    ensures wide { IfOk result (λ v. length v.items ≡ length via.now) }
     ensures blamed { IfErr result (BlamesContainer (written_of shape.now) entry.now (D.holds disk.old)) }
     ensures kept { D.holds disk.new ≡ D.holds disk.old }
     ensures moved { Moved ⟦<D as Disk>⟧ NoName NoName disk.old disk.new }
     ensures cause { HasCause StoreFault.Disk (D.faults disk.old) (D.faults disk.new) result }
 {
     let mut out = Vec::new(alloc);
-    for i in 0..shape.columns.as_slice().len() {
-        let column = match read_one(alloc, disk, entry, shape, i) {
+    for i in 0..via.len() {
+        let column = match read_one(alloc, disk, entry, shape, via[i]) {
             Ok(column) => column,
             Err(fault) => return Err(fault),
         };
@@ -285,15 +287,18 @@ fn read_all<D: Disk>(
     Ok(out)
 }
 
-/// All rows of a container, as `ros_container::rows` reads them.
+/// All rows of a container, with its columns at some places alone.
 pub fn read_lanes<D: Disk>(
     alloc: Global,
     disk: &mut D,
     entry: &Container,
     shape: &Projection,
+    via: &[usize],
 ) -> Result<Lanes, StoreFault>
     requires entry { IsReadable shape.now.columns entry.now }
-    ensures found { IfOk result (λ v. (m : Contents) → D.holds disk.old ≡ Some m → HoldsContainer m (written_of shape.now) entry.now v) }
+    requires columns { All (λ i. i < length shape.now.columns) via.now }
+    ensures found { IfOk result (λ v. (m : Contents) → D.holds disk.old ≡ Some m → HoldsOn m (written_of shape.now) entry.now via.now v) }
+    ensures wide { IfOk result (AreWide (length via.now)) }
     ensures blamed { IfErr result (BlamesContainer (written_of shape.now) entry.now (D.holds disk.old)) }
     ensures kept { D.holds disk.new ≡ D.holds disk.old }
     ensures moved { Moved ⟦<D as Disk>⟧ NoName NoName disk.old disk.new }
@@ -303,7 +308,7 @@ pub fn read_lanes<D: Disk>(
         Ok(epochs) => epochs,
         Err(fault) => return Err(fault),
     };
-    match read_all(alloc, disk, entry, shape) {
+    match read_all(alloc, disk, entry, shape, via) {
         Ok(columns) => Ok(Lanes::new(columns, epochs)),
         Err(fault) => Err(fault),
     }

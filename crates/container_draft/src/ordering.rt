@@ -18,7 +18,7 @@ use catalog_types::Projection;
 use std::alloc::{AllocError, Global};
 
 /// Whether all places are below a number.
-fn are_below(places: &[usize], count: usize) -> bool
+pub fn are_below(places: &[usize], count: usize) -> bool
     ensures { IsTrue result → All (λ i. i < count) places.now }
 {
     for place in places {

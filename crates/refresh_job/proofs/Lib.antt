@@ -1,3 +1,3 @@
-pub mod Firsts
+pub mod Narrowed
 pub mod Ended
 pub mod Vectors

@@ -1,44 +1,26 @@
-//! The rows of the source, with the columns of the new projection.
+//! The rows of the source's memory, with the columns of the new projection.
 
-ghost use Rattle.std.specs.Prelude.{◌≡◌, ◌&&◌, map, slice_index_or, IfOk};
-ghost use Rattle.std.specs.List.{range_with_len};
+ghost use Rattle.std.specs.Prelude.{◌≡◌, map, slice_index_or, IfOk};
 ghost use Rattle.col_value.specs.Order.{projected};
 ghost use Rattle.col_value.specs.declared.value.Value.TheVariants.{Null};
 ghost use Rattle.row_history.specs.History.{is_retained, on_columns};
+ghost use Rattle.write_store.specs.Memory.{stamp};
 ghost use Rattle.container_writer.specs.Ordered.{stamped_of};
-ghost use Rattle.container_draft.specs.Reading.{del_of};
-ghost use Rattle.merge_rows.specs.Places.{asked_of};
-ghost use Rattle.refresh_job.specs.Rows.{is_on, wanted};
+ghost use Rattle.refresh_job.specs.Rows.{wanted};
 
-use col_value::{Asked, List, Row, Stamped, Value};
+use col_value::{List, Row, Stamped, Value};
 use container_writer::StampedRef;
 use std::alloc::{AllocError, Global};
+use write_store::Held;
 
 /// Whether a row is retained from a mark on.
-fn is_kept(row: &Stamped, mark: u64) -> bool
-    ensures { result ≡ is_retained mark row.now }
+fn is_kept(held: &Held, mark: u64) -> bool
+    ensures { result ≡ is_retained mark (stamp held.now) }
 {
-    match row.del {
+    match held.del {
         Some(epoch) => mark < epoch,
         None => true,
     }
-}
-
-/// Whether a row was inserted up to an epoch, or after it.
-fn is_on(row: &Stamped, epoch: u64, later: bool) -> bool
-    ensures { result ≡ is_on epoch later row.now }
-{
-    if later {
-        row.ins > epoch
-    } else {
-        row.ins <= epoch
-    }
-}
-
-fn is_wanted(row: &Stamped, mark: u64, epoch: u64, later: bool) -> bool
-    ensures { result ≡ (is_retained mark row.now && is_on epoch later row.now) }
-{
-    is_kept(row, mark) && is_on(row, epoch, later)
 }
 
 /// The value of a row in a column; one that is not there is NULL.
@@ -62,67 +44,31 @@ fn project(alloc: Global, row: &Row, columns: &[usize]) -> Result<Row, AllocErro
 }
 
 /// A row with some columns alone.
-fn narrowed(alloc: Global, row: &Stamped, via: &[usize]) -> Result<Stamped, AllocError>
-    ensures { IfOk result (λ r. r ≡ on_columns via.now row.now) }
+fn narrowed(alloc: Global, held: &Held, via: &[usize]) -> Result<Stamped, AllocError>
+    ensures { IfOk result (λ r. r ≡ on_columns via.now (stamp held.now)) }
 {
-    let narrow = project(alloc, &row.row, via)?;
+    let narrow = project(alloc, &held.inserted.row, via)?;
     Ok(Stamped {
         row: narrow,
-        ins: row.ins,
-        del: row.del,
+        ins: held.inserted.ins,
+        del: held.del,
     })
 }
 
-/// The rows that are retained from a mark on and were inserted up to an epoch, or after it, with some columns alone.
+/// The rows in memory that are retained from a mark on, with some columns alone.
 pub fn wanted_rows(
     alloc: Global,
-    rows: &[Stamped],
+    rows: &[Held],
     via: &[usize],
     mark: u64,
-    epoch: u64,
-    later: bool,
 ) -> Result<Vec<Stamped>, AllocError>
-    ensures { IfOk result (λ v. v.items ≡ wanted mark epoch later via.now rows.now) }
+    ensures { IfOk result (λ v. v.items ≡ wanted mark via.now (map stamp rows.now)) }
 {
     let mut out = Vec::new(alloc);
-    for row in rows {
-        if is_wanted(row, mark, epoch, later) {
-            out.push(narrowed(alloc, row, via)?)?;
+    for held in rows {
+        if is_kept(held, mark) {
+            out.push(narrowed(alloc, held, via)?)?;
         }
-    }
-    Ok(out)
-}
-
-/// The deletes of rows.
-pub fn deletes(alloc: Global, rows: &[Stamped]) -> Result<Vec<Option<u64>>, AllocError>
-    ensures { IfOk result (λ v. v.items ≡ map del_of rows.now) }
-{
-    rows.iter().map(|row| row.del).collect(alloc)
-}
-
-fn without_delete(row: Stamped) -> Asked
-    ensures { result ≡ asked_of row }
-{
-    let Stamped { row, ins, del: _ } = row;
-    Asked { row, ins }
-}
-
-/// Rows without their deletes.
-pub fn asked(alloc: Global, rows: Vec<Stamped>) -> Result<Vec<Asked>, AllocError>
-    ensures { IfOk result (λ v. v.items ≡ map asked_of rows.items) }
-{
-    rows.into_iter()
-        .map(|row| without_delete(row))
-        .collect(alloc)
-}
-
-/// So many places, one after the other.
-pub fn all_places(alloc: Global, count: usize) -> Result<Vec<usize>, AllocError>
-    ensures { IfOk result (λ v. v.items ≡ range_with_len 0 count) }
-{
-    let mut out = Vec::with_capacity(alloc, count)?;
-    for place in 0..count {
-        out.push(place)?;
     }
     Ok(out)
 }

@@ -12,7 +12,7 @@ use Rattle.store_commit.specs.Seen.{Seen, Stands}
 use Rattle.store_commit.specs.Making.{ReopensToEither, Makes}
 use Rattle.table_store.specs.Drawing.{FewContainers, DrawsOne}
 use Rattle.alike_laws.specs.Reordered.{AreAlikeSessions}
-use Rattle.table_jobs.specs.Working.{Working}
+use Rattle.table_jobs.specs.declared.work.Work.{Work}
 use Rattle.store_core.specs.Running.{running, unworked, HasWork, IsState, Mover, Running}
 use Rattle.store_core.specs.Events.{BeforeOrAfter, Does}
 
@@ -36,11 +36,11 @@ pub record Beside (made : State) (others : List (List Changes)) (own : ℕ) (mov
   pub free : mover.work ≡ None
   pub sound : (next parts : ℕ) → IsSound (numbered made next parts)
 
-pub no_work : {D : Type 0} (disk : Ghosts D) (work : Option Working) (now : D) → work ≡ None → HasWork disk work now
-no_work disk work now none = subst (λ (o : Option Working). HasWork disk o now) (sym none) tt
+pub no_work : {D : Type 0} (disk : Ghosts D) (work : Option Work) (now : D) → work ≡ None → HasWork disk work now
+no_work disk work now none = subst (λ (o : Option Work). HasWork disk o now) (sym none) tt
 
 -- what is written stays while the files do
-pub work_kept : {D : Type 0} (disk : Ghosts D) (work : Option Working) (old new : D) → disk.holds new ≡ disk.holds old → HasWork disk work old → HasWork disk work new
+pub work_kept : {D : Type 0} (disk : Ghosts D) (work : Option Work) (old new : D) → disk.holds new ≡ disk.holds old → HasWork disk work old → HasWork disk work new
 work_kept disk None old new same has = tt
 work_kept disk (Some w) old new same has = λ m told. has m (sym same ∙ told)
 
@@ -83,6 +83,18 @@ still disk r old new state here stands = record {
 
 pub without_work : {D : Type 0} (disk : Ghosts D) (r : Running) (now : D) (state : State) → IsState disk r now state → IsState disk (unworked r) now state
 without_work disk r now state here = still disk r now now state here here.database
+
+-- an event over the state without its work is one over the state
+pub behind_work : {D R F : Type 0} (disk : Ghosts D) {short : F} (was half is : Running) {old new : D} (result : Result R F) (state : State) (After : State → Type 0) → half ≡ unworked was → IsState disk was old state
+    → (IsState disk half old state → Does disk short half is old new result state After) → Does disk short was is old new result state After
+behind_work disk was half is {old} {new} result state After same here does =
+    let there : IsState disk half old state = subst (λ (r : Running). IsState disk r old state) (sym same) (without_work disk was old state here) in
+    let made = does there in
+    record {
+      done = made.done;
+      undone = λ wants. subst (λ (r : Running). IsState disk (unworked r) new state) same (made.undone wants);
+      any_moment = made.any_moment;
+    }
 
 pub drawn_does : {D F : Type 0} (disk : Ghosts D) (short : F) {old new : D} (was is : Seen) (sessions others : List (List Changes)) (current : ℕ) (mover after : Mover) (result : Result (Unit {0}) F) (state made : State) (parts : ℕ)
     → IsState disk (running was sessions current mover) old state → Makes disk short was is old new result state.database made.database → OnOk result (Grown state is parts) → Beside made others current after

@@ -168,6 +168,10 @@ pub refresh_is_due : {D : Type 0} (disk : Ghosts D) {old new : D} (was is : Runn
 refresh_is_due disk {old} was is i j name result state here waits stale does =
     does_wider disk fault.Memory was is result state (RefreshesAt i j state) (InstallsJob state) (λ after refreshes. refresh_installs disk was old i j name state after here waits stale refreshes) does
 
+-- a place is the same one
+pub at_place : (P : ℕ → ℕ → Type 0) (i j k l : ℕ) → (i ≡ k) × (j ≡ l) → P i j → P k l
+at_place P i j k l (one, two) is = subst (λ (n : ℕ). P n l) one (subst (λ (n : ℕ). P i n) two is)
+
 -- the projection of a name, and what waits then
 asked_named : (i j : ℕ) (c : Catalogue) (name : List ℕ) (old new : List (List ℕ)) → OfProjection i j c (IsStaleNamed name) → OfProjection i j c (λ p. new ≡ filter (is_not_named p.name) old) → new ≡ filter (is_not_named name) old
 asked_named i j c name old new stale asked =

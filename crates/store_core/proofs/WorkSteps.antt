@@ -1,4 +1,4 @@
--- The steps of a merge that is made column by column, over a running store.
+-- The steps of a merge or refresh that is made column by column, over a running store.
 use Rattle.std.proofs.Common.{◌≡◌, ◌<◌, ◌-◌, ℕ, inl, inr, false, Option, Some, None, refl, sym, ◌∙◌, ap, subst}
 use Rattle.std.specs.Prelude.{Result, Err}
 use Rattle.common_laws.specs.Maps.{Contents}
@@ -16,7 +16,9 @@ use Rattle.db_model.specs.State.{State}
 use Rattle.state_laws.proofs.Reached.{busy_state}
 use Rattle.store_commit.specs.Making.{Makes, ReopensToEither}
 use Rattle.store_commit.specs.Seen.{Seen, Stands}
-use Rattle.table_jobs.specs.Working.{IsOfStore, IsUnderWay, StaysWhile, Working}
+use Rattle.table_jobs.specs.Going.{IsGoing}
+use Rattle.table_jobs.specs.Working.{StaysWhile}
+use Rattle.table_jobs.specs.declared.work.Work.{Work}
 use Rattle.table_store.proofs.Standing.{reads_only}
 use Rattle.store_core.specs.Events.{ReopensTo}
 use Rattle.store_core.specs.Running.{gone_on, unworked, working_on, HasWork, IsState, Running}
@@ -24,7 +26,7 @@ use Rattle.store_core.specs.Stepping.{with_mover, MoverStepsOf, WorksOver, Write
 use Rattle.store_core.proofs.Stepping.{on_step, stood}
 
 -- a state with work beside it
-pub with_work : {D : Type 0} (disk : Ghosts D) (r : Running) (work : Option Working) (old new : D) (state : State) → IsState disk r old state → Stands disk r.seen new state.database → HasWork disk work new
+pub with_work : {D : Type 0} (disk : Ghosts D) (r : Running) (work : Option Work) (old new : D) (state : State) → IsState disk r old state → Stands disk r.seen new state.database → HasWork disk work new
     → IsState disk (with_mover (working_on work r.mover) r) new state
 with_work disk r work old new state here stands has = record {
   database = stands;
@@ -85,7 +87,7 @@ pub works_failed : {D : Type 0} (disk : Ghosts D) {old new : D} (was is : Runnin
 works_failed disk was is f state here moved = let read = read_leaves disk was state here moved in record { done = tt; any_moment = leaves_wider disk (reopens state) read.any_moment }
 
 -- a column was written, and there is work or none
-pub works_on : {D : Type 0} (disk : Ghosts D) {old mid new : D} (was half is : Running) (work : Option Working) (state : State) → half ≡ unworked was → is ≡ with_mover (working_on work was.mover) was → IsState disk was old state → Moved disk NoName NoName old mid
+pub works_on : {D : Type 0} (disk : Ghosts D) {old mid new : D} (was half is : Running) (work : Option Work) (state : State) → half ≡ unworked was → is ≡ with_mover (working_on work was.mover) was → IsState disk was old state → Moved disk NoName NoName old mid
     → ((d : Database) → Stands disk half.seen mid d → StaysWhile disk half.seen mid new d) → HasWork disk work new → WorksOver disk is old new stood state
 works_on disk {old} {mid} {new} was half is work state same ends here moved stays has =
     let read = read_leaves disk was state here moved in
@@ -143,11 +145,8 @@ stays_still disk s now d stands =
     let made : Makes disk fault.Memory s s now now (Err fault.Memory) d d = reads_only disk s s fault.Memory d d stands (moved_none disk now) in
     record { stands = made.undone refl; any_moment = made.any_moment }
 
-pub column_written : {D : Type 0} (disk : Ghosts D) (r : Running) (s : Seen) (w : Working) (old new : D) → s ≡ r.seen → IsOfStore s w → Moved disk (Either (Named (body_of w.job.draft.base w.job.draft.done)) (Named (index_of w.job.draft.base w.job.draft.done))) NoName old new
-    → WritesOneColumn disk r old new
-column_written disk r s w old new same over moved =
-    let next : w.job.draft.base ≡ r.seen.catalogue.next = sym over.next ∙ ap (λ (x : Seen). x.catalogue.next) same in
-    (w.job.draft.done, subst (λ (n : ℕ). Moved disk (Either (Named (body_of n w.job.draft.done)) (Named (index_of n w.job.draft.done))) NoName old new) next moved)
+pub column_written : {D : Type 0} (disk : Ghosts D) (r : Running) (s : Seen) (old new : D) → s ≡ r.seen → (column : ℕ) × Moved disk (Either (Named (body_of s.catalogue.next column)) (Named (index_of s.catalogue.next column))) NoName old new → WritesOneColumn disk r old new
+column_written disk r s old new same (column, moved) = (column, subst (λ (x : Seen). Moved disk (Either (Named (body_of x.catalogue.next column)) (Named (index_of x.catalogue.next column))) NoName old new) same moved)
 
 -- what a disk tells it told before
 told_before : {D : Type 0} (disk : Ghosts D) {W R : ℕ → Type 0} {old new : D} → Moved disk W R old new → (n : Contents) → disk.holds new ≡ Some n → (m : Contents) × (disk.holds old ≡ Some m)
@@ -158,9 +157,9 @@ told_before disk {W} {R} {old} {new} moved n told = by (disk.holds old) refl (su
     by None is step = absurd (subst (λ (o : Option Contents). Stepped (Changed W R) o (Some n)) is step)
 
 -- what was on its way over contents that the disk told is so over those that it tells then
-pub work_advanced : {D : Type 0} (disk : Ghosts D) (w next : Working) (old new : D) {P R : ℕ → Type 0} → Moved disk P R old new → ((m n : Contents) → disk.holds old ≡ Some m → disk.holds new ≡ Some n → IsUnderWay m w → IsUnderWay n next) → HasWork disk (Some w) old
+pub work_advanced : {D : Type 0} (disk : Ghosts D) (w next : Work) (old new : D) {P R : ℕ → Type 0} → Moved disk P R old new → ((m n : Contents) → disk.holds old ≡ Some m → disk.holds new ≡ Some n → IsGoing m w → IsGoing n next) → HasWork disk (Some w) old
     → HasWork disk (Some next) new
 work_advanced disk w next old new {P} {R} moved on was = λ n told. by n told (told_before disk moved n told)
   where
-    by : (n : Contents) → disk.holds new ≡ Some n → (m : Contents) × (disk.holds old ≡ Some m) → IsUnderWay n next
+    by : (n : Contents) → disk.holds new ≡ Some n → (m : Contents) × (disk.holds old ≡ Some m) → IsGoing n next
     by n told (m, before) = on m n before told (was m before)

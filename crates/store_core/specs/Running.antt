@@ -8,17 +8,18 @@ use Rattle.alike_laws.specs.Reordered.{AreAlikeSessions}
 use Rattle.statement_plan.specs.Bare.{bare_state}
 use Rattle.store_commit.specs.Seen.{Seen, Stands}
 use Rattle.table_store.specs.Drawing.{FewContainers}
-use Rattle.table_jobs.specs.Working.{IsUnderWay, Working}
+use Rattle.table_jobs.specs.Going.{IsGoing}
+use Rattle.table_jobs.specs.declared.work.Work.{Work}
 
 -- The names of the projections that wait for the mover, how many steps are left of its job in flight, and which projection that job
--- refreshes; where it refreshes none, it merges, and what is written of the merge is its work.
+-- refreshes; where it refreshes none, it merges. What is written of the merge or refresh is its work.
 pub record Mover : Type 0 where
   pub asked : List (List ℕ)
   pub busy : ℕ
   pub refreshing : Option (List ℕ)
-  pub work : Option Working
+  pub work : Option Work
 
-abbrev pub moving : List (List ℕ) → ℕ → Option (List ℕ) → Option Working → Mover
+abbrev pub moving : List (List ℕ) → ℕ → Option (List ℕ) → Option Work → Mover
 moving asked busy refreshing work = record { asked = asked; busy = busy; refreshing = refreshing; work = work }
 
 -- nothing is written of its job
@@ -34,7 +35,7 @@ abbrev pub idle_mover : Mover
 idle_mover = mover_of [] 0 None
 
 -- this is written of its job
-abbrev pub working_on : Option Working → Mover → Mover
+abbrev pub working_on : Option Work → Mover → Mover
 working_on work mover = moving mover.asked mover.busy mover.refreshing work
 
 -- one step of its job was made
@@ -57,9 +58,9 @@ running seen sessions current mover = record { seen = seen; sessions = sessions;
 abbrev pub unworked : Running → Running
 unworked r = running r.seen r.sessions r.current (work_dropped r.mover)
 
--- what is written of a merge is on its way over a disk, if there is any
-abbrev pub HasWork : {D : Type 0} → Ghosts D → Option Working → D → Type 0
-HasWork disk work now = IfSome work (λ w. (m : Contents) → disk.holds now ≡ Some m → IsUnderWay m w)
+-- what is written of a merge or refresh is on its way over a disk, if there is any
+abbrev pub HasWork : {D : Type 0} → Ghosts D → Option Work → D → Type 0
+HasWork disk work now = IfSome work (λ w. (m : Contents) → disk.holds now ≡ Some m → IsGoing m w)
 
 -- A running store over a disk is this state, where what the sessions have changed is known up to the order of rows.
 pub record IsState {D : Type 0} (disk : Ghosts D) (r : Running) (now : D) (state : State) : Type 0 where

@@ -134,7 +134,7 @@ FinishesJob old new = (made : State) × Installs (given_up old) made × IsDrawn 
 abbrev pub WritesOneColumn : {D : Type 0} → Ghosts D → Running → D → D → Type 0
 WritesOneColumn disk was old new = (column : ℕ) × Moved disk (Either (Named (body_of was.seen.catalogue.next column)) (Named (index_of was.seen.catalogue.next column))) NoName old new
 
--- Files of a merge are written that nothing lists: the store is the state as before, and so is whatever a crash leaves.
+-- Files of a merge or refresh are written that nothing lists: the store is the state as before, and so is whatever a crash leaves.
 pub record WorksOver {D : Type 0} (disk : Ghosts D) (is : Running) (old new : D) (result : Result (Unit {0}) StoreFault) (state : State) : Type 0 where
   pub done : OnOk result (IsState disk is new state)
   pub any_moment : Leaves disk (ReopensTo state) old new

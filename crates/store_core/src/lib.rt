@@ -7,9 +7,9 @@
 //! Whether a statement is refused is looked at above, before its event. A file that a fault names is one of the store's projections, and bad in
 //! what the disk holds when the event returns, whatever it holds (`NamesHeld` of `specs/Named.antt`).
 //!
-//! The mover's job in flight (`Mover` of `specs/Running.antt`) counts its steps. Of a merge each step writes the files of one column, under numbers
-//! that aren't drawn before its last one (`HasWork`, and `works` of `Store::step_mover`); until then nothing lists them, and an event that writes gives
-//! them up: the last step then makes all of them. A refresh writes all its files in its last step.
+//! The mover's job in flight (`Mover` of `specs/Running.antt`) counts its steps. Of a merge or a refresh each step writes the files of one column, under
+//! numbers that aren't drawn before its last one (`HasWork`, and `works` of `Store::step_mover`); until then nothing lists them, and an event that writes
+//! gives them up: the last step then makes all of them.
 #![tactic(auto)]
 
 mod laws;

@@ -11,4 +11,5 @@ pub mod Named
 pub mod Whole
 pub mod Gone
 pub mod UnderWay
+pub mod BeingMade
 pub mod SameTables

@@ -1,9 +1,9 @@
 -- A projection that is made out of another of its table.
-use Rattle.std.proofs.Common.{◌≡◌, ℕ, Bool, true, false, List, map, sym, ◌∙◌, ap, subst}
+use Rattle.std.proofs.Common.{◌≡◌, ℕ, Bool, true, false, List, [], ◌∷◌, map, sym, ◌∙◌, ap, ap₂, subst}
 use Rattle.std.specs.Prelude.{Option, Some, None, Result, Ok, Err, IfErr, IsSomeAnd}
 use Rattle.std.specs.Bool.{OnTrue}
-use Rattle.std.specs.List.{slice_get}
-use Rattle.std.specs.List.Sorted.{IsSorted}
+use Rattle.std.specs.List.{All, AllZip, slice_get}
+use Rattle.std.proofs.lemmas.List.Elements.{All-head, All-tail}
 use Rattle.common_laws.specs.Bags.{SameBag}
 use Rattle.common_laws.specs.Maps.{Contents}
 use Rattle.common_laws.proofs.BagLaws.{bag_map, bag_trans}
@@ -16,15 +16,19 @@ use Rattle.col_disk.proofs.Moving.{moved_none}
 use Rattle.col_value.specs.declared.row.Stamped.{Stamped}
 use Rattle.row_history.specs.History.{asked_on, on_columns, retained}
 use Rattle.catalog_types.specs.declared.catalogue.Catalogue.{Catalogue}
+use Rattle.catalog_types.specs.declared.catalogue.Container.{Container}
 use Rattle.catalog_types.specs.declared.catalogue.Projection.{Projection}
-use Rattle.ros_container.specs.Encodings.{written_of}
-use Rattle.container_writer.specs.Ordered.{container_cmp}
+use Rattle.ros_container.specs.Encodings.{Written, written_of}
 use Rattle.container_writer.specs.Writing.{DataFrom}
-use Rattle.stored_rows.specs.Held.{Holds}
-use Rattle.stored_rows.specs.Stored.{Projected, Stores}
-use Rattle.merge_rows.specs.Places.{asked_upto}
+use Rattle.stored_rows.specs.Held.{Holds, HoldsVector}
+use Rattle.stored_rows.specs.Listed.{SameFiles}
+use Rattle.stored_rows.specs.Stored.{mark_in, Beside, Projected, Stores, StoresRows}
+use Rattle.stored_rows.proofs.KeptRows.{vector_kept}
+use Rattle.merge_rows.specs.Places.{asked_of, rows_at, TakesPlaces}
+use Rattle.merge_rows.proofs.Growing.{marked_stays}
 use Rattle.proj_store.specs.Reading.{HasVectors}
-use Rattle.moveout_job.specs.OnDisk.{IsListedBelow}
+use Rattle.moveout_job.specs.OnDisk.{IsBelow, IsListedBelow}
+use Rattle.moveout_job.proofs.Renewed.{same_below}
 use Rattle.mergeout_job.proofs.Installed.{stores_below}
 use Rattle.refresh_job.specs.Job.{IsRefreshing, Refreshing, RefreshesFrom}
 use Rattle.db_model.specs.Database.{Database, Table}
@@ -46,35 +50,39 @@ use Rattle.table_jobs.proofs.Raising.{IsRooted, job_spares}
 stores_kept : (m l : Contents) (p : Projected) (stored : List Stamped) (next : ℕ) → IsListedBelow next p.entry → Changed (DataFrom next) NoName m l → Stores m p stored → Stores l p stored
 stores_kept m l p stored next below changed (saved, are, is) = (saved, stores_below m l (written_of p.entry) p.entry.containers p.beside saved next below changed are, is)
 
-pub refreshing_kept : (m l : Contents) (p : Projected) (shape : Projection) (r : Refreshing) (next : ℕ) → IsListedBelow next p.entry → Changed (DataFrom next) NoName m l → IsRefreshing m p shape r → IsRefreshing l p shape r
-refreshing_kept m l p shape r next below changed is = record {
-  stored = is.stored;
-  are = stores_kept m l p is.stored next below changed is.are;
-  rows = is.rows;
-  ordered = is.ordered;
+stores_back : (m l : Contents) (es : List Written) (ks : List Container) (bs : List Beside) (rows : List Stamped) (next : ℕ) → All (IsBelow next) ks → Changed (DataFrom next) NoName m l → StoresRows l es ks bs rows → StoresRows m es ks bs rows
+stores_back m l es [] [] rows next below changed stores = stores
+stores_back m l es [] (b ∷ bs) rows next below changed stores = absurd stores
+stores_back m l es (k ∷ ks) [] rows next below changed stores = absurd stores
+stores_back m l es (k ∷ ks) (b ∷ bs) rows next below changed (here, more, vector, marked, rest, is) =
+    let same : SameFiles l m k = λ q f. sym (same_below m l next k (All-head (IsBelow next) k ks below) changed q f) in
+    (here, more, vector_kept l m k b.held same vector, marked_stays l m es k (mark_in b) here same marked, stores_back m l es ks bs more next (All-tail (IsBelow next) k ks below) changed rest, is)
+
+pub refreshing_kept : (m l : Contents) (p : Projected) (r : Refreshing) (next : ℕ) → IsListedBelow next p.entry → Changed (DataFrom next) NoName m l → IsRefreshing m p r → IsRefreshing l p r
+refreshing_kept m l p r next below changed is = record {
+  taken = λ stored stores. is.taken stored (stores_back m l (written_of p.entry) p.entry.containers p.beside stored next below changed stores);
+  rows = λ stored stores. is.rows stored (stores_back m l (written_of p.entry) p.entry.containers p.beside stored next below changed stores);
 }
 
-pub refreshing_on : (m : Contents) (p : Projected) (shape : Projection) (r s : Refreshing) → s.mark ≡ r.mark → s.epoch ≡ r.epoch → s.via ≡ r.via → s.draft.rows ≡ r.draft.rows → IsRefreshing m p shape r → IsRefreshing m p shape s
-refreshing_on m p shape r s mark epoch via rows is =
-    let by_mark = subst (λ (n : ℕ). SameBag r.draft.rows (map (asked_on r.via) (asked_upto n r.epoch is.stored))) (sym mark) is.rows in
-    let by_epoch = subst (λ (n : ℕ). SameBag r.draft.rows (map (asked_on r.via) (asked_upto s.mark n is.stored))) (sym epoch) by_mark in
-    let by_via = subst (λ (v : List ℕ). SameBag r.draft.rows (map (asked_on v) (asked_upto s.mark s.epoch is.stored))) (sym via) by_epoch in
-    record {
-      stored = is.stored;
-      are = is.are;
-      rows = subst (λ xs. SameBag xs (map (asked_on s.via) (asked_upto s.mark s.epoch is.stored))) (sym rows) by_via;
-      ordered = subst (λ xs. IsSorted (container_cmp shape) xs) (sym rows) is.ordered;
-    }
+pub refreshing_on : (m : Contents) (p : Projected) (r s : Refreshing) → s.mark ≡ r.mark → s.via ≡ r.via → s.draft.rows ≡ r.draft.rows → s.draft.places ≡ r.draft.places → IsRefreshing m p r → IsRefreshing m p s
+refreshing_on m p r s mark via rows places is = record {
+  taken = λ stored stores.
+      subst (λ (n : ℕ). TakesPlaces n stored s.draft.places) (sym mark) (subst (λ (ps : List ℕ). TakesPlaces r.mark stored ps) (sym places) (is.taken stored stores));
+  rows = λ stored stores.
+      rows ∙ is.rows stored stores ∙ ap₂ (λ (v ps : List ℕ). map (λ t. asked_on v (asked_of t)) (rows_at stored ps)) (sym via) (sym places);
+}
 
 pub refreshes_before : (mark : ℕ) (via : List ℕ) (m l n : Contents) (p : Projected) (entry : Projection) (next : ℕ) → IsListedBelow next p.entry → Changed (DataFrom next) NoName m l → RefreshesFrom mark via l n p entry → RefreshesFrom mark via m n p entry
 refreshes_before mark via m l n p entry next below changed refreshes = λ stored are. refreshes stored (stores_kept m l p stored next below changed are)
 
-pub readable_kept : (m l : Contents) (p : Projected) (next : ℕ) → IsListedBelow next p.entry → Changed (DataFrom next) NoName m l → IsReadable m p → IsReadable l p
-readable_kept m l p next below changed readable = by p.entry.fresh readable
+pub vectors_kept : (m l : Contents) (p : Projected) (next : ℕ) → IsListedBelow next p.entry → Changed (DataFrom next) NoName m l → HasVectors m p → HasVectors l p
+vectors_kept m l p next below changed vectors = by p.entry.containers p.beside below vectors
   where
-    by : (b : Bool) → OnTrue b ((rows : List Stamped) × Stores m p rows) → OnTrue b ((rows : List Stamped) × Stores l p rows)
-    by true (rows, are) = (rows, stores_kept m l p rows next below changed are)
-    by false none = tt
+    by : (ks : List Container) (bs : List Beside) → All (IsBelow next) ks → AllZip (λ k b. HoldsVector m k b.held) ks bs → AllZip (λ k b. HoldsVector l k b.held) ks bs
+    by [] [] low all = tt
+    by [] (b ∷ bs) low all = absurd all
+    by (k ∷ ks) [] low all = absurd all
+    by (k ∷ ks) (b ∷ bs) low (here, all) = (vector_kept m l k b.held (same_below m l next k (All-head (IsBelow next) k ks low) changed) here, by ks bs (All-tail (IsBelow next) k ks low) all)
 
 -- ---- the table of a projection
 

@@ -55,13 +55,13 @@ abbrev pub as_read : Projected → Projected
 as_read p = record { entry = p.entry; beside = map plain p.beside; unsaved = [] }
 
 -- a row that is deleted at or before an epoch is so in both
-abbrev IsSettled : ℕ → Stamped → Stamped → Type 0
+abbrev pub IsSettled : ℕ → Stamped → Stamped → Type 0
 IsSettled epoch s t = (e : ℕ) → t.del ≡ Some e → e ≤ epoch → s.del ≡ Some e
 
-abbrev AreSettled : ℕ → List Stamped → List Stamped → Type 0
+abbrev pub AreSettled : ℕ → List Stamped → List Stamped → Type 0
 AreSettled epoch xs ys = AllZip (IsSettled epoch) xs ys
 
-held_first : (held fresh : Option ℕ) (e : ℕ) → option_or held None ≡ Some e → option_or held fresh ≡ Some e
+pub held_first : (held fresh : Option ℕ) (e : ℕ) → option_or held None ≡ Some e → option_or held fresh ≡ Some e
 held_first (Some d) fresh e is = is
 held_first None fresh e is = absurd (cc)
 
@@ -70,7 +70,7 @@ settled_first epoch (Some d) fresh e later is le = is
 settled_first epoch None (Some d) e later is le = let past : epoch < d = later d refl in let same : d ≡ e = cc in absurd (omega (arith, past, same, le))
 settled_first epoch None None e later is le = absurd (cc)
 
-stamped_plain : (epoch i : ℕ) (b : Beside) → AreLater epoch b.fresh → (rows : List Asked) → AreGrown (stamped_from i (mark_in (plain b)) rows) (stamped_from i (mark_in b) rows) × AreSettled epoch (stamped_from i (mark_in (plain b)) rows) (stamped_from i (mark_in b) rows)
+pub stamped_plain : (epoch i : ℕ) (b : Beside) → AreLater epoch b.fresh → (rows : List Asked) → AreGrown (stamped_from i (mark_in (plain b)) rows) (stamped_from i (mark_in b) rows) × AreSettled epoch (stamped_from i (mark_in (plain b)) rows) (stamped_from i (mark_in b) rows)
 stamped_plain epoch i b later [] = (tt, tt)
 stamped_plain epoch i b later (a ∷ rows) =
     let (grown, settled) = stamped_plain epoch (i + 1) b later rows in (
@@ -78,7 +78,7 @@ stamped_plain epoch i b later (a ∷ rows) =
       (λ e is le. settled_first epoch (epoch_at b.held i) (epoch_at b.fresh i) e (λ d was. later i d was) is le, settled),
     )
 
-settled_append : (epoch : ℕ) (xs ys us vs : List Stamped) → AreSettled epoch xs us → AreSettled epoch ys vs → AreSettled epoch (xs ++ ys) (us ++ vs)
+pub settled_append : (epoch : ℕ) (xs ys us vs : List Stamped) → AreSettled epoch xs us → AreSettled epoch ys vs → AreSettled epoch (xs ++ ys) (us ++ vs)
 settled_append epoch [] ys [] vs first second = second
 settled_append epoch [] ys (u ∷ us) vs first second = absurd first
 settled_append epoch (x ∷ xs) ys [] vs first second = absurd first
@@ -110,13 +110,13 @@ on_disk m es epoch (true ∷ flags) (k ∷ ks) (b ∷ bs) rows (own, vectors) la
       settled = subst (λ (xs : List Stamped). AreSettled epoch (front ++ behind.saved) xs) (sym both) (settled_append epoch front behind.saved (stamped_from 0 (mark_in b) asked) more settled behind.settled);
     }
 
-grown_long : (old new : List Stamped) → AreGrown old new → length new ≡ length old
+pub grown_long : (old new : List Stamped) → AreGrown old new → length new ≡ length old
 grown_long [] [] grown = refl
 grown_long [] (t ∷ new) grown = absurd grown
 grown_long (s ∷ old) [] grown = absurd grown
 grown_long (s ∷ old) (t ∷ new) (here, more) = let same = grown_long old new more in omega (arith, same)
 
-settled_at : (epoch : ℕ) (old new : List Stamped) (i : ℕ) → AreSettled epoch old new → IsSettled epoch (row_at old i) (row_at new i)
+pub settled_at : (epoch : ℕ) (old new : List Stamped) (i : ℕ) → AreSettled epoch old new → IsSettled epoch (row_at old i) (row_at new i)
 settled_at epoch [] [] i settled = λ e is le. is
 settled_at epoch [] (t ∷ new) i settled = absurd settled
 settled_at epoch (s ∷ old) [] i settled = absurd settled
@@ -124,7 +124,7 @@ settled_at epoch (s ∷ old) (t ∷ new) zero (here, more) = here
 settled_at epoch (s ∷ old) (t ∷ new) (suc i) (here, more) = settled_at epoch old new i more
 
 -- what is dropped was dropped on the disk
-gone_before : (mark epoch : ℕ) (old new : Stamped) → mark ≤ epoch → IsSettled epoch old new → is_retained mark new ≡ false → is_retained mark old ≡ false
+pub gone_before : (mark epoch : ℕ) (old new : Stamped) → mark ≤ epoch → IsSettled epoch old new → is_retained mark new ≡ false → is_retained mark old ≡ false
 gone_before mark epoch old new within settled gone = by new.del refl gone
   where
     by : (o : Option ℕ) → new.del ≡ o → option_map_or (λ e. nat_lt mark e) o true ≡ false → is_retained mark old ≡ false
@@ -162,7 +162,7 @@ read_loaded m p vectors = record { beside = by p.entry.containers p.beside vecto
 
 -- ---- with marks that came since
 
-stamped_more : (i : ℕ) (one other : ℕ → Option ℕ) (rows : List Asked) → ((k e : ℕ) → one k ≡ Some e → other k ≡ Some e) → AreGrown (stamped_from i one rows) (stamped_from i other rows)
+pub stamped_more : (i : ℕ) (one other : ℕ → Option ℕ) (rows : List Asked) → ((k e : ℕ) → one k ≡ Some e → other k ≡ Some e) → AreGrown (stamped_from i one rows) (stamped_from i other rows)
 stamped_more i one other [] more = tt
 stamped_more i one other (a ∷ rows) more = (record { row = refl; ins = refl; deleted = more i }, stamped_more (i + 1) one other rows more)
 
@@ -201,7 +201,7 @@ under_way_merging one m w p entry vectors is =
 
 -- ---- while files of later numbers are written
 
-unmarked_kept : (m n : Contents) (next : ℕ) (ks : List Container) (bs : List Beside) → All (IsBelow next) ks → Changed (DataFrom next) NoName m n → AllZip (IsUnmarked m) ks bs → AllZip (IsUnmarked n) ks bs
+pub unmarked_kept : (m n : Contents) (next : ℕ) (ks : List Container) (bs : List Beside) → All (IsBelow next) ks → Changed (DataFrom next) NoName m n → AllZip (IsUnmarked m) ks bs → AllZip (IsUnmarked n) ks bs
 unmarked_kept m n next [] [] below changed all = tt
 unmarked_kept m n next [] (b ∷ bs) below changed all = absurd all
 unmarked_kept m n next (k ∷ ks) [] below changed all = absurd all
@@ -257,7 +257,7 @@ own_is (ps ∷ pss) (suc i) j p entry own has = own_is pss i j p entry own has
 -- ---- its begin
 
 -- what is in memory alone is later than what is on disk
-own_above : (m : Contents) (mark : ℕ) (p : Projected) (d : Database) (i : ℕ) → IsSomeAnd (slice_get d.tables i) (HasOwn m mark p) → IsMemoryAbove p.entry.lge p
+pub own_above : (m : Contents) (mark : ℕ) (p : Projected) (d : Database) (i : ℕ) → IsSomeAnd (slice_get d.tables i) (HasOwn m mark p) → IsMemoryAbove p.entry.lge p
 own_above m mark p d i own = told_by (slice_get d.tables i) (HasOwn m mark p) (IsMemoryAbove p.entry.lge p) (λ u has. has.history.above) own
 
 pub begins_under_way : {D : Type 0} (disk : Ghosts D) (now : D) (was : Seen) (root : Catalogue) (i j : ℕ) (p : Projected) (w : Working) (d : Database) (m : Contents) → IsRooted was root → IsOwnAt was.stores i j p → p.entry.fresh ≡ true → w.entry ≡ p.entry → w.job.merge.mark ≡ root.ahm

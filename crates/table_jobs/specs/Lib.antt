@@ -6,3 +6,5 @@ pub mod Purged
 pub use Rattle.purge_job.specs.Purging
 pub mod Working
 pub mod Steady
+pub mod Remaking
+pub mod Going

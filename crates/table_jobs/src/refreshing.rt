@@ -56,7 +56,7 @@ fn place_found(columns: &[ProjColumn], ordinal: usize) -> Result<usize, AllocErr
 
 /// The places of some columns among a source's.
 #[tactic(auto, using(crate::proofs::Placed::places_push))]
-fn places_of(
+pub(crate) fn places_of(
     alloc: Global,
     source: &[ProjColumn],
     columns: &[ProjColumn],
@@ -88,7 +88,7 @@ fn is_source(p: &ProjStore, columns: &[ProjColumn]) -> bool
 }
 
 /// The place of a projection that is up to date and has all of these columns. A sound store has one.
-fn source_of(parts: &[ProjStore], columns: &[ProjColumn]) -> Option<usize>
+pub(crate) fn source_of(parts: &[ProjStore], columns: &[ProjColumn]) -> Option<usize>
     ensures place { IfSome result (λ k. k < length parts.now) }
     ensures fresh { IfSome result (λ k. IsSomeAnd (slice_get parts.now k) (λ p. p.stored.entry.fresh ≡ true)) }
 {
@@ -113,9 +113,9 @@ fn write_columns<D: Disk>(
     ensures done { OnOk result (length shape.now.columns < job.new.draft.done) }
     ensures base { job.new.draft.base ≡ job.old.draft.base }
     ensures mark { job.new.mark ≡ job.old.mark }
-    ensures epoch { job.new.epoch ≡ job.old.epoch }
     ensures via { job.new.via ≡ job.old.via }
     ensures rows { job.new.draft.rows ≡ job.old.draft.rows }
+    ensures places { job.new.draft.places ≡ job.old.draft.places }
     ensures moved { Moved ⟦<D as Disk>⟧ (DataFrom job.old.draft.base) NoName disk.old disk.new }
     ensures cause { HasCause DiskFault.Failed (D.faults disk.old) (D.faults disk.new) result }
 {
@@ -162,7 +162,7 @@ fn refresh_from<D: Disk>(
         Ok(via) => via,
         Err(AllocError) => return Err(StoreFault::Memory),
     };
-    let mut job = match begin(alloc, source, shape, via, last, mark, next, disk) {
+    let mut job = match begin(alloc, source, shape, via, mark, next, disk) {
         Ok(job) => job,
         Err(fault) => return Err(fault),
     };
@@ -173,7 +173,7 @@ fn refresh_from<D: Disk>(
     let after = next + 2 * (columns.len() as u64 + 1);
     match job.install(alloc, source, shape, last, after, disk) {
         Ok(refreshed) => Ok(refreshed),
-        Err(fault) => Err(fault),
+        Err(fault) => Err(StoreFault::from(fault)),
     }
 }
 

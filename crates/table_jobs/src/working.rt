@@ -42,7 +42,7 @@ const MOST_NUMBERS: u64 = 1 << 61;
 
 /// A merge on its way: the place of its projection, the entry which that had when it began, and what is written.
 #[derive(Drop)]
-pub struct Work {
+pub struct MergeWork {
     table: usize,
     place: usize,
     entry: Projection,
@@ -52,7 +52,7 @@ pub struct Work {
     job: MergeJob,
 }
 
-impl Model for Work {
+impl Model for MergeWork {
     ghost use Rattle.table_jobs.specs.Steady.{IsSteady};
     ghost use Rattle.table_jobs.specs.Working.{Working, working};
 
@@ -81,7 +81,7 @@ fn has_entry(parts: &[ProjStore], place: usize, entry: &Projection) -> bool
 }
 
 /// Whether the projection at a place of the table at a place has it.
-fn has_entry_at(tables: &[Parts], table: usize, place: usize, entry: &Projection) -> bool
+pub(crate) fn has_entry_at(tables: &[Parts], table: usize, place: usize, entry: &Projection) -> bool
     ensures { IsTrue result → IsSomeAnd (slice_get (map projections_of tables.now) table) (λ ps. IsSomeAnd (slice_get ps place) (λ p. p.entry ≡ entry.now)) }
 {
     match tables.get(table) {
@@ -90,7 +90,7 @@ fn has_entry_at(tables: &[Parts], table: usize, place: usize, entry: &Projection
     }
 }
 
-impl Work {
+impl MergeWork {
     /// Whether it is of a store still. It takes no memory.
     pub fn is_of(&self, store: &TableStore) -> bool
         ensures { IsTrue result → IsOfStore store.now self.now }
@@ -183,7 +183,7 @@ pub fn begin_merge<D: Disk>(
     place: usize,
     level: u32,
     disk: &mut D,
-) -> Result<Work, StoreFault>
+) -> Result<MergeWork, StoreFault>
     requires fresh { IsFreshAt store.now.stores table place }
     requires four { OfProjection table place store.now.catalogue (λ p. HasFour level p.containers) }
     ensures begun { IfOk result (λ w. (d : Database) (m : Contents) → Stands ⟦<D as Disk>⟧ store.now disk.old d → D.holds disk.old ≡ Some m → IsUnderWay m w) }
@@ -201,7 +201,7 @@ pub fn begin_merge<D: Disk>(
         Err(AllocError) => return Err(StoreFault::Memory),
     };
     match begin(alloc, p, level, root.ahm, root.next, disk) {
-        Ok(job) => Ok(Work {
+        Ok(job) => Ok(MergeWork {
             table,
             place,
             entry,
@@ -219,7 +219,7 @@ pub fn begin_merge<D: Disk>(
 pub fn advance_merge<D: Disk>(
     alloc: Global,
     store: &TableStore,
-    work: &mut Work,
+    work: &mut MergeWork,
     disk: &mut D,
 ) -> Result<(), DiskFault>
     requires { IsOfStore store.now work.old }
@@ -241,7 +241,7 @@ pub fn advance_merge<D: Disk>(
 pub fn finish_merge<D: Disk>(
     alloc: Global,
     store: &mut TableStore,
-    work: &Work,
+    work: &MergeWork,
     disk: &mut D,
 ) -> Result<(), StoreFault>
     requires over { IsOfStore store.old work.now }

@@ -192,7 +192,7 @@ impl Store {
     }
 
     /// The names of the projections that wait for the mover, but for that of the one at a place.
-    fn asked_without(&self, alloc: Global, at: Place) -> Result<Vec<Name>, AllocError>
+    pub(crate) fn asked_without(&self, alloc: Global, at: Place) -> Result<Vec<Name>, AllocError>
         ensures { IfOk result (λ v. OfProjection at.table at.place self.now.seen.catalogue (λ p. v.items ≡ filter (is_not_named p.name) self.now.mover.asked)) }
     {
         match projection_at(self.tables.root().tables.as_slice(), at) {

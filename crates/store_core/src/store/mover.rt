@@ -13,7 +13,7 @@ use std::marker::Model;
 use table_jobs::Work;
 
 /// The names of the projections that wait for the mover, how many steps are left of its job in flight, and which projection that job
-/// refreshes; where it refreshes none, it merges, and what is written of the merge is its work.
+/// refreshes; where it refreshes none, it merges. What is written of the merge or refresh is its work.
 #[derive(Drop)]
 pub struct Mover {
     asked: Vec<Name>,

@@ -1,6 +1,6 @@
 //! The steps of the mover.
 
-ghost use Rattle.std.specs.Prelude.{◌≡◌, ◌≤◌, ◌<◌, ◌+◌, ◌++◌, ◌∷◌, ◌⊎◌, ℕ, List, [], false, get_or, length, nat_le, None, Some, Contains, MatchOption, IfErr, IfNone, IfOk, IfSome, OnErr, OnOk, IsSomeAnd, IsTrue};
+ghost use Rattle.std.specs.Prelude.{◌≡◌, ◌≤◌, ◌<◌, ◌+◌, ◌++◌, ◌∷◌, ◌⊎◌, ℕ, List, [], false, filter, get_or, length, nat_le, None, Some, Contains, MatchOption, IfErr, IfNone, IfOk, IfSome, OnErr, OnOk, IsSomeAnd, IsTrue};
 ghost use Rattle.std.specs.Bool.{OnFalse, OnTrue};
 ghost use Rattle.std.specs.List.{All, slice_get};
 ghost use Rattle.common_laws.specs.Causes.{HasCause};
@@ -8,6 +8,7 @@ ghost use Rattle.col_disk.specs.Faults.{IsUnblamed as IsUnblamedStore};
 ghost use Rattle.col_disk.specs.Moved.{Moved, NoName};
 ghost use Rattle.col_disk.specs.declared.disk.StoreFault.TheVariants.{Memory as no_memory};
 ghost use Rattle.db_model.specs.Database.{Database};
+ghost use Rattle.db_model.specs.Events.{is_not_named};
 ghost use Rattle.db_model.specs.Numbers.{are_spent};
 ghost use Rattle.db_model.specs.State.{State};
 ghost use Rattle.store_core.specs.Events.{Does};
@@ -16,10 +17,12 @@ ghost use Rattle.store_core.specs.Running.{unworked, HasWork, IsState};
 ghost use Rattle.mover_policy.specs.First.{projection_at};
 ghost use Rattle.store_core.specs.Stepping.{all_stale, is_behind, is_less, stale_in, with_asked, Begins, BeginsAt, BeginsNext, BeginsRefresh, FinishesJob, FinishesRefresh, InstallsJob, IsLeastOf, IsStaleNamed, MergesNext, MoverStepsOf, NoneIsStale, RefreshesNamed, WaitsNot, WorksOver, WritesOneColumn};
 ghost use Rattle.store_commit.specs.Seen.{Stands};
-ghost use Rattle.store_core.specs.Jobs.{RisesAt};
-ghost use Rattle.table_jobs.specs.Jobs.{DrawsMerged, OfProjection};
+ghost use Rattle.store_core.specs.Jobs.{RefreshesAt, RisesAt};
+ghost use Rattle.table_jobs.specs.Jobs.{DrawsAnew, DrawsMerged, HasReached, OfProjection};
 ghost use Rattle.table_jobs.specs.Oldest.{HasFour};
+ghost use Rattle.table_jobs.specs.Remaking.{IsMadeOver, IsWritten};
 ghost use Rattle.table_jobs.specs.Working.{IsOfStore, IsWhole, StaysWhile};
+ghost use Rattle.table_jobs.specs.declared.work.Work.TheVariants as going;
 ghost use Rattle.table_store.specs.Moving.{IsFreshAt};
 
 use super::Store;
@@ -27,9 +30,12 @@ use catalog_types::{Projection, Table};
 use col_disk::{Disk, DiskFault, StoreFault};
 use col_value::Name;
 use mover_policy::{Merge, Place, projection_at};
-use state_laws::risen_states_are_sound;
+use state_laws::{refreshed_states_are_sound, risen_states_are_sound};
 use std::alloc::{AllocError, Global};
-use table_jobs::{Work, advance_merge, begin_merge, finish_merge};
+use table_jobs::{
+    MergeWork, RefreshWork, Work, advance_work, begin_merge, begin_refresh, finish_merge,
+    finish_refresh,
+};
 
 /// The names of those that aren't up to date join some.
 fn add_stale(
@@ -215,18 +221,19 @@ impl Store {
         }
     }
 
-    /// The work of the merge that comes next, where the job in flight is a merge and has a step left for each column of it: the rows of its
-    /// inputs are read and ordered. Where memory is short or a file is bad there is none, and the last step of the job finds what to tell.
-    fn begin_work<D: Disk>(&self, alloc: Global, disk: &mut D) -> Result<Option<Work>, StoreFault>
+    /// The work of the merge that comes next, where the job in flight has a step left for each column of it: the rows of its inputs are read and
+    /// ordered. Where memory is short or a file is bad there is none, and the last step of the job finds what to tell.
+    fn begin_merging<D: Disk>(
+        &self,
+        alloc: Global,
+        disk: &mut D,
+    ) -> Result<Option<Work>, StoreFault>
         ensures begun { IfOk result (λ work. (state : State) → IsState ⟦<D as Disk>⟧ self.now disk.old state → HasWork ⟦<D as Disk>⟧ work disk.new) }
         ensures failed { IfErr result (λ fault. fault ≡ StoreFault.Disk) }
         ensures kept { D.holds disk.new ≡ D.holds disk.old }
         ensures moved { Moved ⟦<D as Disk>⟧ NoName NoName disk.old disk.new }
         ensures cause { HasCause StoreFault.Disk (D.faults disk.old) (D.faults disk.new) result }
     {
-        if self.mover.refreshing().is_some() {
-            return Ok(None);
-        }
         let next = match self.next_merge() {
             Some(next) => next,
             None => return Ok(None),
@@ -236,9 +243,52 @@ impl Store {
         }
         let at = next.at;
         match begin_merge(alloc, &self.tables, at.table, at.place, next.level, disk) {
-            Ok(work) => Ok(Some(work)),
+            Ok(work) => Ok(Some(Work::Merge(work))),
             Err(StoreFault::Disk) => Err(StoreFault::Disk),
             Err(_) => Ok(None),
+        }
+    }
+
+    /// The work of the refresh of the projection of a name, if it waits, where the job in flight has a step left for each column of it: the rows of
+    /// its source are read and ordered. Where memory is short or a file is bad there is none, and the last step of the job finds what to tell.
+    fn begin_refreshing<D: Disk>(
+        &self,
+        alloc: Global,
+        name: &Name,
+        disk: &mut D,
+    ) -> Result<Option<Work>, StoreFault>
+        ensures begun { IfOk result (λ work. (state : State) → IsState ⟦<D as Disk>⟧ self.now disk.old state → HasWork ⟦<D as Disk>⟧ work disk.new) }
+        ensures failed { IfErr result (λ fault. fault ≡ StoreFault.Disk) }
+        ensures kept { D.holds disk.new ≡ D.holds disk.old }
+        ensures moved { Moved ⟦<D as Disk>⟧ NoName NoName disk.old disk.new }
+        ensures cause { HasCause StoreFault.Disk (D.faults disk.old) (D.faults disk.new) result }
+    {
+        let at = match self.refreshed_place(name) {
+            Some(at) => at,
+            None => return Ok(None),
+        };
+        if !self.has_all_steps(at) {
+            return Ok(None);
+        }
+        match begin_refresh(alloc, &self.tables, at.table, at.place, disk) {
+            Ok(work) => Ok(Some(Work::Refresh(work))),
+            Err(StoreFault::Disk) => Err(StoreFault::Disk),
+            Err(_) => Ok(None),
+        }
+    }
+
+    /// The work of the job in flight, which is the merge that comes next or the refresh of its projection. There is none where nothing is due, or
+    /// not all steps of the job are left.
+    fn begin_work<D: Disk>(&self, alloc: Global, disk: &mut D) -> Result<Option<Work>, StoreFault>
+        ensures begun { IfOk result (λ work. (state : State) → IsState ⟦<D as Disk>⟧ self.now disk.old state → HasWork ⟦<D as Disk>⟧ work disk.new) }
+        ensures failed { IfErr result (λ fault. fault ≡ StoreFault.Disk) }
+        ensures kept { D.holds disk.new ≡ D.holds disk.old }
+        ensures moved { Moved ⟦<D as Disk>⟧ NoName NoName disk.old disk.new }
+        ensures cause { HasCause StoreFault.Disk (D.faults disk.old) (D.faults disk.new) result }
+    {
+        match self.mover.refreshing() {
+            Some(name) => self.begin_refreshing(alloc, name, disk),
+            None => self.begin_merging(alloc, disk),
         }
     }
 
@@ -278,14 +328,14 @@ impl Store {
             return Ok(None);
         }
         let mut work = work;
-        match advance_merge(alloc, &self.tables, &mut work, disk) {
+        match advance_work(alloc, &self.tables, &mut work, disk) {
             Ok(()) => Ok(Some(work)),
             Err(DiskFault::Memory) => Ok(None),
             Err(DiskFault::Failed) => Err(StoreFault::Disk),
         }
     }
 
-    /// The files of one column more of the merge that the job in flight makes.
+    /// The files of one column more of what the job in flight makes.
     fn work_on<D: Disk>(&mut self, alloc: Global, disk: &mut D) -> Result<(), StoreFault>
         ensures works { (state : State) → IsState ⟦<D as Disk>⟧ self.old disk.old state → WorksOver ⟦<D as Disk>⟧ self.new disk.old disk.new result state }
         ensures rest { unworked self.new ≡ unworked self.old }
@@ -324,7 +374,7 @@ impl Store {
     }
 
     /// Whether the work is a whole merge of the projection at a place, and of the store still.
-    fn is_ready(&self, work: &Work, at: Place) -> bool
+    fn is_ready(&self, work: &MergeWork, at: Place) -> bool
         ensures over { IsTrue result → IsOfStore self.now.seen work.now }
         ensures whole { IsTrue result → IsWhole work.now }
         ensures place { IsTrue result → (work.now.table ≡ at.table) × (work.now.place ≡ at.place) }
@@ -336,16 +386,16 @@ impl Store {
     fn merge_written<D: Disk>(
         &mut self,
         alloc: Global,
-        work: &Work,
+        work: &MergeWork,
         disk: &mut D,
     ) -> Result<(), StoreFault>
         requires over { IsOfStore self.old.seen work.now }
         requires whole { IsWhole work.now }
         requires free { self.old.mover.work ≡ None }
-        ensures does { (state : State) → IsState ⟦<D as Disk>⟧ self.old disk.old state → HasWork ⟦<D as Disk>⟧ (Some work.now) disk.old
+        ensures does { (state : State) → IsState ⟦<D as Disk>⟧ self.old disk.old state → HasWork ⟦<D as Disk>⟧ (Some (going.Merge work.now)) disk.old
             → Does ⟦<D as Disk>⟧ no_memory self.old self.new disk.old disk.new result state (RisesAt work.now.table work.now.place state) }
         ensures drawn { OnOk result (OfProjection work.now.table work.now.place self.old.seen.catalogue (DrawsMerged work.now.table work.now.place self.old.seen.catalogue self.new.seen.catalogue)) }
-        ensures unblamed { IfErr result (λ fault. (state : State) → IsState ⟦<D as Disk>⟧ self.old disk.old state → HasWork ⟦<D as Disk>⟧ (Some work.now) disk.old → IsUnblamedStore fault) }
+        ensures unblamed { IfErr result (λ fault. (state : State) → IsState ⟦<D as Disk>⟧ self.old disk.old state → HasWork ⟦<D as Disk>⟧ (Some (going.Merge work.now)) disk.old → IsUnblamedStore fault) }
         ensures named { IfErr result (NamesHeld ⟦<D as Disk>⟧ self.new disk.new) }
         ensures same { OnErr result (self.new ≡ unworked self.old) }
         ensures cause { HasCause StoreFault.Disk (D.faults disk.old) (D.faults disk.new) result }
@@ -360,16 +410,16 @@ impl Store {
         &mut self,
         alloc: Global,
         next: Merge,
-        work: &Work,
+        work: &MergeWork,
         disk: &mut D,
     ) -> Result<(), StoreFault>
         requires fresh { IsFreshAt self.old.seen.stores next.at.table next.at.place }
         requires four { OfProjection next.at.table next.at.place self.old.seen.catalogue (λ p. HasFour next.level p.containers) }
         requires free { self.old.mover.work ≡ None }
-        ensures does { (state : State) → IsState ⟦<D as Disk>⟧ self.old disk.old state → HasWork ⟦<D as Disk>⟧ (Some work.now) disk.old
+        ensures does { (state : State) → IsState ⟦<D as Disk>⟧ self.old disk.old state → HasWork ⟦<D as Disk>⟧ (Some (going.Merge work.now)) disk.old
             → Does ⟦<D as Disk>⟧ no_memory self.old self.new disk.old disk.new result state (RisesAt next.at.table next.at.place state) }
         ensures drawn { OnOk result (OfProjection next.at.table next.at.place self.old.seen.catalogue (DrawsMerged next.at.table next.at.place self.old.seen.catalogue self.new.seen.catalogue)) }
-        ensures unblamed { IfErr result (λ fault. (state : State) → IsState ⟦<D as Disk>⟧ self.old disk.old state → HasWork ⟦<D as Disk>⟧ (Some work.now) disk.old → IsUnblamedStore fault) }
+        ensures unblamed { IfErr result (λ fault. (state : State) → IsState ⟦<D as Disk>⟧ self.old disk.old state → HasWork ⟦<D as Disk>⟧ (Some (going.Merge work.now)) disk.old → IsUnblamedStore fault) }
         ensures named { IfErr result (NamesHeld ⟦<D as Disk>⟧ self.new disk.new) }
         ensures same { OnErr result (self.new ≡ unworked self.old) }
         ensures cause { HasCause StoreFault.Disk (D.faults disk.old) (D.faults disk.new) result }
@@ -380,7 +430,7 @@ impl Store {
         self.merge_one(alloc, next, disk)
     }
 
-    /// The merge that comes next, out of its work, if that is whole.
+    /// The merge that comes next, out of the work of the job, if that is a whole one of it.
     fn merge_next<D: Disk>(
         &mut self,
         alloc: Global,
@@ -397,8 +447,8 @@ impl Store {
         ensures cause { HasCause StoreFault.Disk (D.faults disk.old) (D.faults disk.new) result }
     {
         match self.mover.take_work() {
-            Some(work) => self.merge_out_of(alloc, next, &work, disk),
-            None => self.merge_one(alloc, next, disk),
+            Some(Work::Merge(work)) => self.merge_out_of(alloc, next, &work, disk),
+            Some(Work::Refresh(_)) | None => self.merge_one(alloc, next, disk),
         }
     }
 
@@ -429,6 +479,101 @@ impl Store {
         stale_place(self.tables.root().tables.as_slice(), name)
     }
 
+    /// Whether the work is a written refresh of the projection at a place, and of the store still.
+    fn is_remade(&self, work: &RefreshWork, at: Place) -> bool
+        ensures over { IsTrue result → IsMadeOver self.now.seen work.now }
+        ensures written { IsTrue result → IsWritten work.now }
+        ensures place { IsTrue result → (work.now.table ≡ at.table) × (work.now.place ≡ at.place) }
+    {
+        work.is_at(at.table, at.place) && work.is_written() && work.is_of(&self.tables)
+    }
+
+    /// A refresh whose columns are written.
+    fn refresh_written<D: Disk>(
+        &mut self,
+        alloc: Global,
+        at: Place,
+        work: &RefreshWork,
+        disk: &mut D,
+    ) -> Result<(), StoreFault>
+        requires over { IsMadeOver self.old.seen work.now }
+        requires written { IsWritten work.now }
+        requires place { (work.now.table ≡ at.table) × (work.now.place ≡ at.place) }
+        requires stale { OfProjection at.table at.place self.old.seen.catalogue (λ p. p.fresh ≡ false) }
+        requires free { self.old.mover.work ≡ None }
+        ensures does { (state : State) → IsState ⟦<D as Disk>⟧ self.old disk.old state → HasWork ⟦<D as Disk>⟧ (Some (going.Refresh work.now)) disk.old
+            → Does ⟦<D as Disk>⟧ no_memory self.old self.new disk.old disk.new result state (RefreshesAt at.table at.place state) }
+        ensures drawn { OnOk result (OfProjection at.table at.place self.old.seen.catalogue (DrawsAnew at.table at.place 2 self.old.seen.catalogue self.new.seen.catalogue)) }
+        ensures reached { OnOk result (OfProjection at.table at.place self.new.seen.catalogue (HasReached self.new.seen.catalogue.last)) }
+        ensures asked { OnOk result (OfProjection at.table at.place self.old.seen.catalogue (λ p. self.new.mover.asked ≡ filter (is_not_named p.name) self.old.mover.asked)) }
+        ensures unblamed { IfErr result (λ fault. (state : State) → IsState ⟦<D as Disk>⟧ self.old disk.old state → HasWork ⟦<D as Disk>⟧ (Some (going.Refresh work.now)) disk.old → IsUnblamedStore fault) }
+        ensures named { IfErr result (NamesHeld ⟦<D as Disk>⟧ self.new disk.new) }
+        ensures same { OnErr result (self.new ≡ unworked self.old) }
+        ensures cause { HasCause StoreFault.Disk (D.faults disk.old) (D.faults disk.new) result }
+    {
+        refreshed_states_are_sound();
+        self.mover.drop_work();
+        let asked = match self.asked_without(alloc, at) {
+            Ok(asked) => asked,
+            Err(AllocError) => return Err(StoreFault::Memory),
+        };
+        match finish_refresh(alloc, &mut self.tables, work, disk) {
+            Ok(()) => {}
+            Err(fault) => return Err(fault),
+        }
+        self.mover.ask(asked);
+        Ok(())
+    }
+
+    /// The refresh of the projection at a place, out of this work, if that is written.
+    fn refresh_out_of<D: Disk>(
+        &mut self,
+        alloc: Global,
+        at: Place,
+        work: &RefreshWork,
+        disk: &mut D,
+    ) -> Result<(), StoreFault>
+        requires stale { OfProjection at.table at.place self.old.seen.catalogue (λ p. p.fresh ≡ false) }
+        requires free { self.old.mover.work ≡ None }
+        ensures does { (state : State) → IsState ⟦<D as Disk>⟧ self.old disk.old state → HasWork ⟦<D as Disk>⟧ (Some (going.Refresh work.now)) disk.old
+            → Does ⟦<D as Disk>⟧ no_memory self.old self.new disk.old disk.new result state (RefreshesAt at.table at.place state) }
+        ensures drawn { OnOk result (OfProjection at.table at.place self.old.seen.catalogue (DrawsAnew at.table at.place 2 self.old.seen.catalogue self.new.seen.catalogue)) }
+        ensures reached { OnOk result (OfProjection at.table at.place self.new.seen.catalogue (HasReached self.new.seen.catalogue.last)) }
+        ensures asked { OnOk result (OfProjection at.table at.place self.old.seen.catalogue (λ p. self.new.mover.asked ≡ filter (is_not_named p.name) self.old.mover.asked)) }
+        ensures unblamed { IfErr result (λ fault. (state : State) → IsState ⟦<D as Disk>⟧ self.old disk.old state → HasWork ⟦<D as Disk>⟧ (Some (going.Refresh work.now)) disk.old → IsUnblamedStore fault) }
+        ensures named { IfErr result (NamesHeld ⟦<D as Disk>⟧ self.new disk.new) }
+        ensures same { OnErr result (self.new ≡ unworked self.old) }
+        ensures cause { HasCause StoreFault.Disk (D.faults disk.old) (D.faults disk.new) result }
+    {
+        if self.is_remade(work, at) {
+            return self.refresh_written(alloc, at, work, disk);
+        }
+        self.refresh_one(alloc, at.table, at.place, disk)
+    }
+
+    /// The refresh of the projection at a place, out of the work of the job, if that is a written one of it.
+    fn refresh_at<D: Disk>(
+        &mut self,
+        alloc: Global,
+        at: Place,
+        disk: &mut D,
+    ) -> Result<(), StoreFault>
+        requires stale { OfProjection at.table at.place self.old.seen.catalogue (λ p. p.fresh ≡ false) }
+        ensures does { (state : State) → IsState ⟦<D as Disk>⟧ self.old disk.old state → Does ⟦<D as Disk>⟧ no_memory self.old self.new disk.old disk.new result state (RefreshesAt at.table at.place state) }
+        ensures drawn { OnOk result (OfProjection at.table at.place self.old.seen.catalogue (DrawsAnew at.table at.place 2 self.old.seen.catalogue self.new.seen.catalogue)) }
+        ensures reached { OnOk result (OfProjection at.table at.place self.new.seen.catalogue (HasReached self.new.seen.catalogue.last)) }
+        ensures asked { OnOk result (OfProjection at.table at.place self.old.seen.catalogue (λ p. self.new.mover.asked ≡ filter (is_not_named p.name) self.old.mover.asked)) }
+        ensures unblamed { IfErr result (λ fault. (state : State) → IsState ⟦<D as Disk>⟧ self.old disk.old state → IsUnblamedStore fault) }
+        ensures named { IfErr result (NamesHeld ⟦<D as Disk>⟧ self.new disk.new) }
+        ensures same { OnErr result (self.new ≡ unworked self.old) }
+        ensures cause { HasCause StoreFault.Disk (D.faults disk.old) (D.faults disk.new) result }
+    {
+        match self.mover.take_work() {
+            Some(Work::Refresh(work)) => self.refresh_out_of(alloc, at, &work, disk),
+            Some(Work::Merge(_)) | None => self.refresh_one(alloc, at.table, at.place, disk),
+        }
+    }
+
     /// The refresh of the projection of a name, if it waits.
     fn refresh_due<D: Disk>(
         &mut self,
@@ -444,7 +589,7 @@ impl Store {
         ensures cause { HasCause StoreFault.Disk (D.faults disk.old) (D.faults disk.new) result }
     {
         match self.refreshed_place(name) {
-            Some(at) => self.refresh_one(alloc, at.table, at.place, disk),
+            Some(at) => self.refresh_at(alloc, at, disk),
             None => Ok(()),
         }
     }

@@ -30,7 +30,7 @@ loop-i-preserved g c =
     let is = c.in-Ok-push.ensures.items in
     let many = now.many in
     record {
-      found = λ m told. each_more m (written_of c.args.shape.now) c.args.entry.now c.loop-i.out.items c.push.new.self.items c.loop-i.i c.in-Ok.column is many (c.in-Ok.ensures.found m (now.kept ∙ told)) (now.found m told);
+      found = λ m told. each_more m (written_of c.args.shape.now) c.args.entry.now c.args.via.now c.loop-i.out.items c.push.new.self.items c.loop-i.i c.in-Ok.column is many (c.in-Ok.ensures.found m (now.kept ∙ told)) (now.found m told);
       many = ap length is ∙ length-append c.loop-i.out.items _ ∙ (omega (arith, many));
       long = subst (All (λ (vs : List Value). length vs ≡ c.args.entry.now.rows)) (sym is) (All-push (λ (vs : List Value). length vs ≡ c.args.entry.now.rows) c.loop-i.out.items c.in-Ok.column now.long c.in-Ok.ensures.long);
       kept = c.read_one.ensures.kept ∙ now.kept;

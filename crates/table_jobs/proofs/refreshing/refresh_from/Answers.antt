@@ -9,9 +9,8 @@ use Rattle.folder_model.specs.Projections.{ordinals}
 use Rattle.table_store.specs.Faults.{BlamesEntry}
 use Rattle.table_store.proofs.Unblamed.{part_unblamed}
 use Rattle.table_jobs.specs.Sources.{ordinals_of, ArePlaces}
-use Rattle.table_jobs.proofs.Made.{IsOn, begun_moved, is_made, made_moved, reread_unblamed}
+use Rattle.table_jobs.proofs.Made.{IsOn, begun_moved, is_made, made_moved}
 use Rattle.table_jobs.proofs.Named.{disk_named, rows_named}
-use Rattle.table_jobs.proofs.Writing.{listed_below}
 use Rattle.table_jobs.proofs.refreshing.refresh_from.Goals as goal
 
 pub returns-then-next-ge-MOST_NUMBERS-clause-moved : goal.returns-then-next-ge-MOST_NUMBERS-clause-moved
@@ -38,23 +37,18 @@ returns-in-Ok-install-clause-made g c =
     let moved : Moved g.D.Disk (DataFrom c.args.next) NoName c.begin.new.disk c.write_columns.new.disk =
     subst (λ (n : ℕ). Moved g.D.Disk (DataFrom n) NoName c.begin.new.disk c.write_columns.new.disk) c.in-Ok-begin.ensures.base c.write_columns.ensures.moved in
     let on : IsOn c.in-Ok-begin.job c.write_columns.new.job =
-    record { mark = c.write_columns.ensures.mark; epoch = c.write_columns.ensures.epoch; via = c.write_columns.ensures.via; rows = c.write_columns.ensures.rows } in
+    record { mark = c.write_columns.ensures.mark; via = c.write_columns.ensures.via; rows = c.write_columns.ensures.rows; places = c.write_columns.ensures.places } in
     let from : ordinals_of c.as_slice.result.now ≡ ordinals c.args.source.now.stored.entry = ap ordinals_of (c.as_slice.ensures ∙ ap (λ (e : Projection). e.columns) c.entry.ensures.entry) in
     let new : ordinals_of c.as_slice-columns.result.now ≡ ordinals entry = ap ordinals_of c.as_slice-columns.ensures ∙ sym (ap ordinals c.in-Ok-install.ensures.entry.is) in
     let are : ArePlaces (ordinals c.args.source.now.stored.entry) via (ordinals entry) =
     subst (λ (xs : List ℕ). ArePlaces xs via (ordinals entry)) from (subst (λ (xs : List ℕ). ArePlaces (ordinals_of c.as_slice.result.now) via xs) new c.in-Ok.ensures) in
     is_made g.D.Disk c.args.mark c.args.next via c.args.source.now.stored c.args.shape.now entry c.in-Ok-begin.job c.write_columns.new.job c.begin.ensures.kept c.in-Ok-begin.ensures.begun c.in-Ok-begin.ensures.draft moved
-    c.in-Ok-write_columns.ensures.draft on (λ m n told left still draft. c.in-Ok-install.ensures.refreshes m n told left still draft c.in-Ok-write_columns.ensures.done) c.in-Ok-begin.ensures.mark c.in-Ok-begin.ensures.via are
+    c.in-Ok-write_columns.ensures.draft on (λ m n told left vectors still draft. c.in-Ok-install.ensures.refreshes m n told left vectors still draft c.in-Ok-write_columns.ensures.done) c.in-Ok-begin.ensures.mark c.in-Ok-begin.ensures.via are
 
 pub returns-in-Ok-install-clause-moved : goal.returns-in-Ok-install-clause-moved
 returns-in-Ok-install-clause-moved g c =
     made_moved g.D.Disk c.args.next (c.args.next + 2 * (length c.as_slice-columns.result.now + 1)) (omega arith)
     (begun_moved g.D.Disk c.in-Ok-begin.job.draft.base c.args.next c.in-Ok-begin.ensures.base c.begin.ensures.moved c.write_columns.ensures.moved) c.install.ensures.moved
-
-pub returns-clause-unblamed : goal.returns-clause-unblamed
-returns-clause-unblamed g c = λ m told below readable.
-    reread_unblamed g.D.Disk c.args.next c.args.source.now.stored c.in-Err-install.fault c.requires.fresh
-    (begun_moved g.D.Disk c.in-Ok-begin.job.draft.base c.args.next c.in-Ok-begin.ensures.base c.begin.ensures.moved c.write_columns.ensures.moved) c.in-Err-install.ensures.blamed m told below readable
 
 pub returns-clause-moved : goal.returns-clause-moved
 returns-clause-moved g c =
@@ -72,5 +66,5 @@ returns-in-Err-write_columns-clause-named g c = λ m told below.
 
 pub returns-clause-named : goal.returns-clause-named
 returns-clause-named g c = λ m told below.
-    let after = c.args.next + 2 * (length c.as_slice-columns.result.now + 1) in
-    rows_named g.D.Disk c.args.source.now.stored.entry after c.in-Err-install.fault (listed_below c.args.next c.args.source.now.stored.entry (omega arith) below) c.install.ensures.moved c.in-Err-install.ensures.blamed m told
+    let p = c.args.source.now.stored.entry in
+    subst (λ (f : StoreFault). BlamesEntry p (Some m) f) (sym c.from-in-Err-install.ensures) (disk_named p (Some m) c.in-Err-install.fault)

@@ -10,8 +10,8 @@ invariant-loop g l = record {
   done : l.job.draft.done ≡ l.counter;
   base : l.job.draft.base ≡ l.fn.job.draft.base;
   rows : l.job.draft.rows ≡ l.fn.job.draft.rows;
+  places : l.job.draft.places ≡ l.fn.job.draft.places;
   mark : l.job.mark ≡ l.fn.job.mark;
-  epoch : l.job.epoch ≡ l.fn.job.epoch;
   via : l.job.via ≡ l.fn.job.via;
   draft : DraftsOn g.D.Disk (written_of l.shape) l.fn.job.draft l.fn.disk l.job.draft l.disk;
   moved : Moved g.D.Disk (DataFrom l.fn.job.draft.base) NoName l.fn.disk l.disk;

@@ -1,6 +1,6 @@
 use Rattle.std.proofs.Common.{◌∙◌, Option, Some, None, ap, subst}
 use Rattle.store_core.specs.Running.{running, working_on, HasWork, Mover, Running}
-use Rattle.table_jobs.specs.Working.{Working}
+use Rattle.table_jobs.specs.declared.work.Work.{Work}
 use Rattle.store_core.specs.Stepping.{with_mover}
 use Rattle.store_core.proofs.WorkSteps.{column_behind, no_column, works_failed, works_not, works_on, works_still}
 use Rattle.store_core.proofs.store.Store.work_on.Goals as goal
@@ -21,8 +21,8 @@ pub returns-in-Ok-Some-advance_work-clause-works : goal.returns-in-Ok-Some-advan
 returns-in-Ok-Some-advance_work-clause-works g c = λ state here.
     let work = c.in-Ok-Some-advance_work.work in
     let same = ap (λ (m : Mover). running c.self.inside.tables c.self.inside.txns c.self.inside.current m) c.put_work.ensures ∙ ap (λ (r : Running). with_mover (working_on (Some work) r.mover) r) (c.self.view_is ∙ c.next_work.ensures.rest) in
-    let begun = subst (λ (o : Option Working). HasWork g.D.Disk o c.next_work.new.disk) c.in-Ok-Some.field-0-is (c.in-Ok-Some.ensures.begun state here) in
-    let has = subst (λ (o : Option Working). HasWork g.D.Disk o c.advance_work.new.disk) c.in-Ok-Some-advance_work.field-0-is (c.in-Ok-Some-advance_work.ensures.goes_on begun) in
+    let begun = subst (λ (o : Option Work). HasWork g.D.Disk o c.next_work.new.disk) c.in-Ok-Some.field-0-is (c.in-Ok-Some.ensures.begun state here) in
+    let has = subst (λ (o : Option Work). HasWork g.D.Disk o c.advance_work.new.disk) c.in-Ok-Some-advance_work.field-0-is (c.in-Ok-Some-advance_work.ensures.goes_on begun) in
     works_on g.D.Disk c.args.self.now c.next_work.new.self _ (Some work) state c.next_work.ensures.rest same here c.next_work.ensures.moved c.advance_work.ensures.stays has
 
 pub returns-in-Ok-Some-advance_work-clause-column : goal.returns-in-Ok-Some-advance_work-clause-column
